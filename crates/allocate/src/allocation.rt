@@ -30,7 +30,7 @@ use wanted::Wanted;
 /// `Memory` where a growth was refused.
 pub fn allocate(alloc: Global, chart: &Chart, profile: &Profile) -> Result<Plan, CapacityFault>
     ensures plan { IfOk result (IsPlanOf (wanted_of chart.now.lines) profile.now) }
-    ensures serves { IfOk result (IsFor chart.now.lines) }
+    ensures is_for { IfOk result (IsFor chart.now.lines) }
     ensures fits { OnOk result (FitsMachine (wanted_of chart.now.lines) profile.now) }
     ensures refused { IfErr result (λ fault. fault ≢ CapacityFault.Memory → HasCapacityFault (wanted_of chart.now.lines) profile.now fault) }
 {

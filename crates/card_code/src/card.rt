@@ -37,13 +37,6 @@ impl Card {
         }
     }
 
-    /// The card of these columns, the first one being column 1.
-    pub fn of_columns(columns: [Column; CARD_COLUMNS]) -> Self
-        ensures { result ≡ columns }
-    {
-        Card { columns }
-    }
-
     // The card with these rows in its columns, the first ones being those of column 1.
     pub(crate) fn of_rows(rows: &[u16; CARD_COLUMNS]) -> Self
         requires { (k : ℕ) → k < 80 → is_row_set (slice_index rows.now k) ≡ true }

@@ -1,5 +1,5 @@
 -- The next card, or the fault in its place.
-use Rattle.std.proofs.Common.{◌≡◌, ◌∙◌, ℕ, ◌+◌, ◌<◌, List, [], ◌∷◌, ◌++◌, length, take, drop, Option, Some, None, Result, Ok, Err, IfOk, IfSome, is_some, refl, sym, ap, subst, arith, append-nil}
+use Rattle.std.proofs.Common.{◌≡◌, ◌∙◌, ℕ, ◌+◌, ◌<◌, List, [], ◌∷◌, ◌++◌, length, take, drop, Option, Some, None, Result, Ok, Err, IfOk, IfSome, is_some, refl, sym, ap, subst, arith, append-nil, append_assoc, take-append-drop}
 use Rattle.std.proofs.Math.Seq.{take-length, drop-length}
 use Rattle.std.proofs.lemmas.Bool.Decides.{nat_tests}
 use Rattle.std.proofs.lemmas.Bool.{false≢true}
@@ -35,7 +35,9 @@ gives given end used held text card left few first punched known =
     record {
       few = few;
       line = without_cr (take end held);
+      front = take used held;
       rest = drop used held ++ rest.0;
+      parts = rest.2 ∙ ap (λ (t : List ℕ). t ++ rest.0) (sym (take-append-drop used held)) ∙ append_assoc (take used held) (drop used held) rest.0;
       left = ap (prepend_known (drop used held)) (rest.1);
       cut = ap lines_of (rest.2) ∙ first (rest.0) (rest.1);
       punched = punched;

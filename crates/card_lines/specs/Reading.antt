@@ -29,11 +29,13 @@ pub record IsOver {S : Type 0} (reading : Reading S) : Type 0 where
   pub nothing_held : without_cr reading.held ≡ []
   pub well : reading.has_failed ≡ false
 
--- The card after so many others is that of the first line of a text, and the text still to come then has the others.
+-- The card after so many others is that of the first line of a text, and the rest of the text, which has the others, is then still to come.
 pub record GivesCard (given : ℕ) (text card : List ℕ) (to_come : Option (List ℕ)) : Type 0 where
   pub few : given < most_cards
   pub line : List ℕ
+  pub front : List ℕ
   pub rest : List ℕ
+  pub parts : text ≡ front ++ rest
   pub left : to_come ≡ Some rest
   pub cut : lines_of text ≡ line ∷ lines_of rest
   pub punched : IsCardOf line card

@@ -8,7 +8,7 @@
 //! while let Some(card) = lines.next_card()? { .. }
 //! ```
 //!
-//! The crate stands on `card_code`, which says what a line and a card are, and on `devices`.
+//! The crate stands on `card_code`, which says what a line and a card are, and on `devices`, whose sources it offers too.
 #![tactic(auto)]
 
 mod buffer;
@@ -16,5 +16,6 @@ mod fault;
 mod front;
 mod reading;
 
+pub use devices::{DeviceFailed, FromRead, Source};
 pub use fault::ReadFault;
 pub use reading::CardLines;

@@ -1,11 +1,12 @@
 //! Cards off the front of what a source gives.
 
-ghost use Rattle.std.specs.Prelude.{◌≡◌, ◌≢◌, ◌+◌, ◌≤◌, ℕ, List, Option, [], ◌∷◌, length, Some, true, false, IfOk, IfErr, IfSome, IfNone, IsErr, IsOk, IsSome, None, Ok, OnErr, OnOk};
+ghost use Rattle.std.specs.Prelude.{◌≡◌, ◌≢◌, ◌+◌, ◌≤◌, ℕ, List, Option, [], ◌∷◌, length, Some, true, false, IfOk, IfErr, IfSome, IfNone, IsErr, IsOk, IsSome, MatchResult, None, Ok, OnErr, OnOk};
 ghost use Rattle.std.specs.Io.KnownBytes.{IsAtEnd, Keeps};
+ghost use Rattle.card_code.specs.Deck.{HasLineFault, IsCardOf};
 ghost use Rattle.card_code.specs.Lines.{lines_of, without_cr};
 ghost use Rattle.card_code.specs.MostCards.{most_cards};
 ghost use Rattle.card_lines.specs.Reading.{Reading, still_to_come, IsSettled, IsOver, GivesCard, HasFirstLine};
-ghost use Rattle.card_lines.specs.Front.{IsFront, IsTooLong};
+ghost use Rattle.card_lines.specs.Front.{IsFront, IsPart, IsTooLong};
 ghost use Rattle.card_lines.specs.Faults.{HasFaultNext};
 ghost use Rattle.card_lines.specs.declared.fault.ReadFault.TheVariants as read;
 ghost use Rattle.card_lines.specs.declared.front.Front.TheVariants as stands;
@@ -13,7 +14,8 @@ ghost use Rattle.card_lines.specs.declared.front.Front.TheVariants as stands;
 use crate::buffer::Buffer;
 use crate::fault::ReadFault;
 use crate::front::{Front, look_at};
-use card_code::{Card, DeckFault, MOST_CARDS, read_card, without_cr};
+use arrayvec::ArrayVec;
+use card_code::{CARD_COLUMNS, Card, DeckFault, MOST_CARDS, read_card, without_cr};
 use devices::{DeviceFailed, Source};
 use std::marker::Model;
 
@@ -87,12 +89,16 @@ impl<S: Source + Drop> CardLines<S> {
         ensures none { IfOk result (λ found. IfNone found ((text : List ℕ) → still_to_come S.left self.old ≡ Some text →
             lines_of text ≡ [])) }
         ensures all { IfOk result (λ found. IfNone found (IsAtEnd (S.left self.new.source))) }
+        ensures kept { MatchResult result (λ found. IfNone found (Keeps (still_to_come S.left self.old) (still_to_come S.left self.new)))
+            (λ _. Keeps (still_to_come S.left self.old) (still_to_come S.left self.new)) }
         ensures over { IfOk result (λ found. IfNone found (IsOver self.new)) }
         ensures none_again { IsOver self.old → (result ≡ Ok None) × (self.new ≡ self.old) }
         ensures fault { self.old.has_failed ≡ false → IfErr result (λ fault. (text : List ℕ) →
             still_to_come S.left self.old ≡ Some text → HasFaultNext self.old.given text fault) }
         ensures read { self.old.has_failed ≡ false → IfErr result (λ fault. (line : ℕ) → fault ≡ read.Read line →
             (line ≡ self.old.given + 1) × (S.has_failed self.new.source ≡ true)) }
+        ensures part { self.old.has_failed ≡ false → IfErr result (λ fault. (line : ℕ) → fault ≡ read.Read line →
+            IsPart self.new.held) }
         ensures told { IfErr result (λ _. self.new.has_failed ≡ true) }
         ensures well { OnOk result (self.new.has_failed ≡ false) }
         ensures again { self.old.has_failed ≡ true → IfErr result (λ fault. fault ≡ read.Failed) }
@@ -122,12 +128,15 @@ impl<S: Source + Drop> CardLines<S> {
         ensures none { IfOk result (λ found. IfNone found ((text : List ℕ) → still_to_come S.left self.old ≡ Some text →
             lines_of text ≡ [])) }
         ensures all { IfOk result (λ found. IfNone found (IsAtEnd (S.left self.new.source))) }
+        ensures kept { MatchResult result (λ found. IfNone found (Keeps (still_to_come S.left self.old) (still_to_come S.left self.new)))
+            (λ _. Keeps (still_to_come S.left self.old) (still_to_come S.left self.new)) }
         ensures at_end { IfOk result (λ found. IfNone found ((self.new.at_end ≡ true) × (without_cr self.new.held ≡ []))) }
         ensures none_again { IsOver self.old → (result ≡ Ok None) × (self.new ≡ self.old) }
         ensures fault { IfErr result (λ fault. (text : List ℕ) →
             still_to_come S.left self.old ≡ Some text → HasFaultNext self.old.given text fault) }
         ensures read { IfErr result (λ fault. (line : ℕ) → fault ≡ read.Read line →
             (line ≡ self.old.given + 1) × (S.has_failed self.new.source ≡ true)) }
+        ensures part { IfErr result (λ fault. (line : ℕ) → fault ≡ read.Read line → IsPart self.new.held) }
         ensures unread { IsSettled self.old.held → self.new.source ≡ self.old.source }
         ensures ended { self.old.at_end ≡ true → self.new.source ≡ self.old.source }
         ensures counted { S.reads self.new.source ≤ S.reads self.old.source + 82 }
@@ -157,6 +166,7 @@ impl<S: Source + Drop> CardLines<S> {
         ensures given { self.new.given ≡ self.old.given }
         ensures has_failed { self.new.has_failed ≡ self.old.has_failed }
         ensures failed { OnErr result (S.has_failed self.new.source ≡ true) }
+        ensures part { OnErr result (IsPart self.new.held) }
         ensures unread { IsSettled self.old.held → self.new.source ≡ self.old.source }
         ensures ended { self.old.at_end ≡ true → (self.new ≡ self.old) × IsOk result }
         ensures counted { S.reads self.new.source ≤ S.reads self.old.source + 82 }
@@ -183,12 +193,13 @@ impl<S: Source + Drop> CardLines<S> {
         ensures fault { IfErr result (λ fault. (text : List ℕ) →
             still_to_come S.left self.old ≡ Some text → HasFaultNext self.old.given text fault) }
         ensures not_read { IfErr result (λ fault. (line : ℕ) → fault ≢ read.Read line) }
+        ensures kept { OnErr result (self.new ≡ self.old) }
         ensures unread { self.new.source ≡ self.old.source }
     {
         if self.given == MOST_CARDS as u32 {
             return Err(DeckFault::TooManyCards.into());
         }
-        let card = read_card(self.given + 1, without_cr(&self.held.bytes()[..end]))?;
+        let card = card_of(self.given + 1, without_cr(&self.held.bytes()[..end]))?;
         self.held.use_up(used);
         self.given += 1;
         Ok(Some(card))
@@ -209,4 +220,16 @@ impl<S: Source + Drop> CardLines<S> {
             },
         }
     }
+}
+
+// The card of the line with this number.
+fn card_of(number: u32, bytes: &[u8]) -> Result<Card, DeckFault>
+    ensures card { IfOk result (λ card. IsCardOf bytes.now card) }
+    ensures fault { IfErr result (λ fault. HasLineFault bytes.now number fault) }
+{
+    let mut line = ArrayVec::<u8, CARD_COLUMNS>::new();
+    if line.try_extend_from_slice(bytes).is_err() {
+        return Err(DeckFault::CardTooLong { line: number });
+    }
+    read_card(number, line.as_slice())
 }

@@ -3,3 +3,5 @@ pub mod Asked
 pub mod Carriage
 pub mod Laws
 pub mod Moves
+pub mod Kinds
+pub mod OwnHubs

@@ -88,6 +88,7 @@ impl Carriage {
 }
 
 impl Unit for Carriage {
+    ghost use Rattle.carriage.specs.OwnHubs.{carriage_keeps};
     ghost use Rattle.std.proofs.Common.{refl};
     ghost use Rattle.net.specs.Nothing.{emits_nothing, closes_nothing};
     ghost use Rattle.carriage.specs.Carriage.{carriage_sensed, carriage_ended, carriage_number};
@@ -101,6 +102,8 @@ impl Unit for Carriage {
     ghost ended = { carriage_ended };
 
     ghost number = { carriage_number };
+
+    ghost keeps_to_its_own = { carriage_keeps };
 
     ghost emits_steadily = { λ unit cycle at other picture hub. refl };
 

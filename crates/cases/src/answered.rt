@@ -3,8 +3,8 @@
 use anyhow::Result;
 use browser_pages::show_to_end;
 use check_calls::check_deck_to_end;
-use commands::{Fault, replay_by_orders, serve, write_line};
-use guides::fault_to_end;
+use commands::{replay_by_orders, serve};
+use fault_guide::guides::fault_to_end;
 use match_calls::{match_deck_to_end, match_to_end};
 use panel_guides::{Place, explain_to_end, legend_to_end};
 use std::alloc::Global;
@@ -20,24 +20,27 @@ pub struct Served {
 }
 
 impl Served {
+    fn new(alloc: Global) -> Served {
+        Served {
+            output: Vec::new(alloc),
+            told: Vec::new(alloc),
+            status: 0,
+        }
+    }
+
     /// What a command gives on a text and a deck.
     pub fn of<R: Read + Drop>(alloc: Global, command: &str, text: &[u8], deck: R) -> Served {
-        let mut output = Vec::new(alloc);
-        let mut told = Vec::new(alloc);
-        let status = serve(
+        let mut served = Served::new(alloc);
+        served.status = serve(
             alloc,
             command,
             text,
             "my.deck",
             deck,
-            &mut output,
-            &mut told,
+            &mut served.output,
+            &mut served.told,
         );
-        Served {
-            output,
-            told,
-            status,
-        }
+        served
     }
 
     /// What a replay by orders gives.
@@ -47,114 +50,103 @@ impl Served {
         orders: &[u8],
         deck: R,
     ) -> Served {
-        let mut output = Vec::new(alloc);
-        let mut told = Vec::new(alloc);
-        let status = replay_by_orders(
+        let mut served = Served::new(alloc);
+        served.status = replay_by_orders(
             alloc,
             wiring,
             orders,
             "my.deck",
             deck,
-            &mut output,
-            &mut told,
+            &mut served.output,
+            &mut served.told,
         );
-        Served {
-            output,
-            told,
-            status,
-        }
+        served
     }
 
     /// What is printed of a fault.
     pub fn of_fault(alloc: Global, number: u8) -> Served {
-        let mut output = Vec::new(alloc);
-        let mut told = Vec::new(alloc);
-        let status = fault_to_end(alloc, number, &mut output, &mut told).status;
-        Served {
-            output,
-            told,
-            status,
-        }
+        let mut served = Served::new(alloc);
+        served.status = fault_to_end(alloc, number, &mut served.output, &mut served.told).status;
+        served
     }
 
     /// The legend of a chart.
     pub fn legend(alloc: Global, chart: &[u8]) -> Served {
-        let mut output = Vec::new(alloc);
-        let mut told = Vec::new(alloc);
-        let status = legend_to_end(alloc, chart, &mut output, &mut told).status;
-        Served {
-            output,
-            told,
-            status,
-        }
+        let mut served = Served::new(alloc);
+        served.status = legend_to_end(alloc, chart, &mut served.output, &mut served.told).status;
+        served
     }
 
     /// The explanation of a wheel.
     pub fn explain<R: Read + Drop>(alloc: Global, text: &[u8], deck: R, place: Place) -> Served {
-        let mut output = Vec::new(alloc);
-        let mut told = Vec::new(alloc);
-        let status = explain_to_end(
+        let mut served = Served::new(alloc);
+        served.status = explain_to_end(
             alloc,
             text,
             "my.deck",
             deck,
             place,
-            &mut output,
-            &mut told,
-        ).status;
-        Served {
-            output,
-            told,
-            status,
-        }
+            &mut served.output,
+            &mut served.told,
+        )
+        .status;
+        served
     }
 
     /// The trace of a deck.
     pub fn trace<R: Read + Drop>(alloc: Global, text: &[u8], deck: R) -> Served {
-        let mut output = Vec::new(alloc);
-        let mut told = Vec::new(alloc);
-        let status = trace_to_end(alloc, text, "my.deck", deck, &mut output, &mut told).status;
-        Served {
-            output,
-            told,
-            status,
-        }
+        let mut served = Served::new(alloc);
+        served.status = trace_to_end(
+            alloc,
+            text,
+            "my.deck",
+            deck,
+            &mut served.output,
+            &mut served.told,
+        )
+        .status;
+        served
     }
 
     /// The check of a deck.
     pub fn check_deck<R: Read + Drop>(alloc: Global, chart: &[u8], deck: R) -> Served {
-        let mut output = Vec::new(alloc);
-        let mut told = Vec::new(alloc);
-        let status = check_deck_to_end(alloc, chart, deck, &mut output, &mut told).status;
-        Served {
-            output,
-            told,
-            status,
-        }
+        let mut served = Served::new(alloc);
+        served.status = check_deck_to_end(
+            alloc,
+            chart,
+            deck,
+            &mut served.output,
+            &mut served.told,
+        ).status;
+        served
     }
 
     /// The page for a browser.
     pub fn show<R: Read + Drop>(alloc: Global, text: &[u8], deck: R) -> Served {
-        let mut output = Vec::new(alloc);
-        let mut told = Vec::new(alloc);
-        let status = show_to_end(alloc, text, "my.deck", deck, &mut output, &mut told).status;
-        Served {
-            output,
-            told,
-            status,
-        }
+        let mut served = Served::new(alloc);
+        served.status = show_to_end(
+            alloc,
+            text,
+            "my.deck",
+            deck,
+            &mut served.output,
+            &mut served.told,
+        )
+        .status;
+        served
     }
 
     /// What is found of a panel beside a chart.
     pub fn matching(alloc: Global, chart: &[u8], wiring: &[u8]) -> Served {
-        let mut output = Vec::new(alloc);
-        let mut told = Vec::new(alloc);
-        let status = match_to_end(alloc, chart, wiring, &mut output, &mut told).status;
-        Served {
-            output,
-            told,
-            status,
-        }
+        let mut served = Served::new(alloc);
+        served.status = match_to_end(
+            alloc,
+            chart,
+            wiring,
+            &mut served.output,
+            &mut served.told,
+        ).status;
+        served
     }
 
     /// What is found of a panel beside a chart, and of a deck on it.
@@ -164,23 +156,18 @@ impl Served {
         wiring: &[u8],
         deck: R,
     ) -> Served {
-        let mut output = Vec::new(alloc);
-        let mut told = Vec::new(alloc);
-        let status = match_deck_to_end(
+        let mut served = Served::new(alloc);
+        served.status = match_deck_to_end(
             alloc,
             chart,
             wiring,
             "my.deck",
             deck,
-            &mut output,
-            &mut told,
+            &mut served.output,
+            &mut served.told,
         )
         .status;
-        Served {
-            output,
-            told,
-            status,
-        }
+        served
     }
 
     /// Writes what was printed and told.
@@ -200,18 +187,5 @@ impl Served {
 /// Writes a status.
 pub fn write_status<W: Write>(out: &mut W, status: u8) -> Result<()> {
     writeln!(out, "status {status}")?;
-    Ok(())
-}
-
-/// Writes that a chart is good.
-pub fn write_good<W: Write>(out: &mut W, name: &str) -> Result<()> {
-    writeln!(out, "{name} ok")?;
-    Ok(())
-}
-
-/// Writes the fault of a chart.
-pub fn write_fault<W: Write>(out: &mut W, name: &str, fault: &Fault) -> Result<()> {
-    write!(out, "{name} ")?;
-    write_line(fault, out)?;
     Ok(())
 }

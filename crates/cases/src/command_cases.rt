@@ -3,8 +3,9 @@
 //! The file `rows` has a command, its text and its deck in each line, divided by `|`. A text or deck stands in its row with `;` in
 //! place of each line feed, or in a file whose name is given between parentheses. Between parentheses stand too: `(standard input)`
 //! and `(divide)` in place of a command, a text that has a chart and its deck, which are run, or of which the lengths are told;
-//! `(10000000 letters)` in one line, and `(1000000 empty lines)` and `(1000001 empty lines)`, in place of a text or deck; `(unreadable)`
-//! and `(1000000 blank cards)` in place of a deck; and last of all `(unwritable)`, where the output can't be written.
+//! `(10000000 letters)` in one line, and `(1000000 empty lines)` and `(1000001 empty lines)`, in place of a text or deck; `(every wire)`
+//! in place of a wiring chart; `(unreadable)` and `(1000000 blank cards)` in place of a deck; and last of all `(unwritable)`, where the
+//! output can't be written.
 //! A command `replay --orders` has its orders behind it, given as a text is; `fault` has its number behind it, and `explain` the page, the
 //! line and the wheel. A `check deck` checks the deck too, where `check` leaves it alone. The rows of `show` are refused; its pages stand
 //! in `shown_cases`.
@@ -35,8 +36,31 @@ fn repeated(name: &str) -> Option<(u8, usize)> {
     }
 }
 
-// The bytes of a file, or of a text that is made of one byte.
+// Writes the lines of the wires from each exit to each entry.
+fn write_wires(text: &mut Vec<u8>, exits: &str, entries: &str) -> Result<()> {
+    for exit in exits.lines() {
+        for entry in entries.lines() {
+            writeln!(text, "WIRE {exit} {entry}")?;
+        }
+    }
+    Ok(())
+}
+
+// The wiring chart that has the most wires: each group in a ring, and each other exit wired to each other entry.
+fn every_wire(rt: &HostRuntime) -> Result<Vec<u8>> {
+    let mut text = read_named(rt, "every_ring.wiring")?;
+    let exits = fs::read_to_string(rt, "commands/every_exit")?;
+    let entries = fs::read_to_string(rt, "commands/every_entry")?;
+    write_wires(&mut text, exits.as_str(), entries.as_str())?;
+    text.extend_from_slice(b"END\n")?;
+    Ok(text)
+}
+
+// The bytes of a file, or of a text that is made of one byte or of all wires.
 fn named_bytes(rt: &HostRuntime, name: &str) -> Result<Vec<u8>> {
+    if name == "every wire" {
+        return every_wire(rt);
+    }
     match repeated(name) {
         Some((byte, count)) => Ok(vec![in rt.alloc(); byte; count]?),
         None => read_named(rt, name),

@@ -1,18 +1,17 @@
 //! The kinds of cases, in the order in which they are told.
 
-use crate::chart_cases::{write_by_capacities, write_by_rules};
 use crate::command_cases::{write_row, write_told};
 use crate::explained_cases::{write_chart, write_panel};
 use crate::hostile_cases::{Trial, write_trial};
 use crate::match_cases::write_match;
 use crate::report_cases::{write_pages, write_report};
-use crate::run_cases::{write_replay, write_run, write_served};
+use crate::run_cases::{write_checked, write_replay, write_run, write_served};
 use crate::shown_cases::write_shown;
 use crate::upgrade_cases::write_upgrade;
-use crate::wiring_cases::{write_cuts, write_wiring};
+use crate::wiring_cases::write_wiring;
 use anyhow::Result;
+use std::fs;
 use std::io::Write;
-use std::{fs, io};
 
 // What is told of a case after the line of the index that names it.
 #[derive(Clone, Copy)]
@@ -31,8 +30,7 @@ enum Named {
 // What is told of a case that a line of an index names.
 #[derive(Clone, Copy)]
 enum Kind {
-    Rules,
-    Capacities,
+    Checked,
     Wiring,
     Named(Named),
     ExplainedChart,
@@ -46,8 +44,6 @@ enum Part {
     Heading(&'static str),
     // The cases that the lines of a file name.
     Cases(&'static str, Kind),
-    // The counts of a wiring chart that is cut.
-    Cuts,
     // The lines that no text brings.
     Told,
     // The text of a file, changed in many ways.
@@ -57,11 +53,9 @@ enum Part {
 #[rattlefmt::skip]
 static PARTS: [Part; 42] = [
     Part::Heading("== charts"),
-    Part::Cases("charts/index", Kind::Rules),
-    Part::Cases("charts/capacity_index", Kind::Capacities),
+    Part::Cases("charts/index", Kind::Checked),
     Part::Heading("== wirings"),
     Part::Cases("wirings/index", Kind::Wiring),
-    Part::Cuts,
     Part::Heading("== panels"),
     Part::Cases("panels/index", Kind::Named(Named::Panel)),
     Part::Heading("== served"),
@@ -85,6 +79,8 @@ static PARTS: [Part; 42] = [
     Part::Trial("reports/three-levels-and-a-grand-total.chart", Trial::Cut { command: "check", deck: "" }),
     Part::Heading("one_total.wiring cut after each byte"),
     Part::Trial("panels/one_total.wiring", Trial::Cut { command: "replay", deck: "005\n" }),
+    Part::Heading("hand_wiring_with_a_pilot_loop.wiring cut after each byte"),
+    Part::Trial("panels/hand_wiring_with_a_pilot_loop.wiring", Trial::Cut { command: "replay", deck: "12\n" }),
     Part::Heading("bolts.chart and each byte"),
     Part::Trial("commands/bolts.chart", Trial::Behind { command: "check", after: "" }),
     Part::Heading("CHART407, each byte, 1 and the end"),
@@ -101,9 +97,9 @@ static PARTS: [Part; 42] = [
 ];
 
 // Writes a line.
-fn write_line<W: Write>(out: &mut W, line: &str) -> io::Result<()> {
-    out.write_all(line.as_bytes())?;
-    out.write_all(b"\n")
+fn write_line<W: Write>(out: &mut W, line: &str) -> Result<()> {
+    writeln!(out, "{line}")?;
+    Ok(())
 }
 
 // Writes the line that names a case, and what is told of it.
@@ -125,8 +121,7 @@ fn write_named<W: Write>(rt: &HostRuntime, out: &mut W, named: Named, line: &str
 // Writes what is told of the case that a line names.
 fn write_case<W: Write>(rt: &HostRuntime, out: &mut W, kind: Kind, line: &str) -> Result<()> {
     match kind {
-        Kind::Rules => write_by_rules(rt, out, line),
-        Kind::Capacities => write_by_capacities(rt, out, line),
+        Kind::Checked => write_checked(rt, out, line),
         Kind::Wiring => write_wiring(rt, out, line),
         Kind::Named(named) => write_named(rt, out, named, line),
         Kind::ExplainedChart => write_chart(rt, out, line),
@@ -148,16 +143,10 @@ fn write_cases<W: Write>(rt: &HostRuntime, out: &mut W, kind: Kind, path: &str) 
     write_each(rt, out, kind, index.as_str())
 }
 
-fn write_heading<W: Write>(out: &mut W, heading: &str) -> Result<()> {
-    write_line(out, heading)?;
-    Ok(())
-}
-
 fn write_part<W: Write>(rt: &HostRuntime, out: &mut W, part: Part) -> Result<()> {
     match part {
-        Part::Heading(heading) => write_heading(out, heading),
+        Part::Heading(heading) => write_line(out, heading),
         Part::Cases(path, kind) => write_cases(rt, out, kind, path),
-        Part::Cuts => write_cuts(rt, out),
         Part::Told => write_told(rt.alloc(), out),
         Part::Trial(path, trial) => write_trial(rt, out, path, trial),
     }

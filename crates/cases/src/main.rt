@@ -2,11 +2,13 @@
 //!
 //! Each kind has a folder of `data`, and its file here says what is told of its cases; `kinds` goes over them. What this program must
 //! print was made outside of this repository or worked out by hand, never by the program.
+//!
+//! It costs minutes of the processor in the gate. What all commands say is loaded to prove it, and it runs twice, over more than two
+//! thousand cases: decks of a million cards, a wiring chart of 870,944 wires, and some 2,100 texts that are cut or changed by a byte.
 #![tactic(auto)]
 
 mod answered;
 mod case_files;
-mod chart_cases;
 mod command_cases;
 mod explained_cases;
 mod hostile_cases;
@@ -20,7 +22,6 @@ mod walked_lines;
 mod walked_pages;
 mod walked_texts;
 mod walked_ways;
-mod well_formed;
 mod wiring_cases;
 
 use anyhow::Result;

@@ -1,37 +1,45 @@
-//! Runs wired panels and planning charts over their decks, and prints of each what is printed and told of it.
+//! Checks planning charts, and runs planning charts and wired panels over their decks, and prints of each what is printed and told of it.
 //!
-//! The files `index` of `panels`, `served` and `streams` name the cases, one a line: a wiring chart and a deck each; a wiring chart,
-//! orders and a deck, where the units are served by orders, of which is also told how many rounds were taken and how many hubs were seen;
-//! a planning chart and a deck, many of these with a fault somewhere. Where a card or a total stops the run, what was printed before
-//! stands before the line of the fault.
+//! The files `index` of `charts`, `panels`, `streams` and `served` name the cases, one a line: a planning chart; a wiring chart and a
+//! deck; a planning chart and a deck, many of these with a fault somewhere; a wiring chart, orders and a deck, where the units are served
+//! by orders, of which is also told how many rounds were taken and how many hubs were seen. Where a card or a total stops the run, what
+//! was printed before stands before the line of the fault.
 
 use crate::answered::Served;
 use crate::case_files::{Case, read_case};
 use anyhow::Result;
 use std::io::Write;
 
+/// Writes the name of a chart, and what is told of it by the rules and then by the capacities of the standard machine.
+pub fn write_checked<W: Write>(rt: &HostRuntime, out: &mut W, name: &str) -> Result<()> {
+    let chart = read_case(rt, "charts", name, "chart")?;
+    write!(out, "{name} ")?;
+    Served::of(rt.alloc(), "check", chart.as_slice(), b"".as_slice()).write(out)
+}
+
 /// Writes the pages of a panel.
 pub fn write_replay<W: Write>(rt: &HostRuntime, out: &mut W, name: &str) -> Result<()> {
-    let case = Case::read(rt, "panels", name, "wiring")?;
-    Served::of(
-        rt.alloc(),
+    write_printed(
+        rt,
+        out,
         "replay",
-        case.text.as_slice(),
-        case.deck.as_slice(),
+        &Case::read(rt, "panels", name, "wiring")?,
     )
-    .write(out)
 }
 
 /// Writes the pages of a chart.
 pub fn write_run<W: Write>(rt: &HostRuntime, out: &mut W, name: &str) -> Result<()> {
-    let case = Case::read(rt, "streams", name, "chart")?;
-    Served::of(
-        rt.alloc(),
-        "run",
-        case.text.as_slice(),
-        case.deck.as_slice(),
-    )
-    .write(out)
+    write_printed(rt, out, "run", &Case::read(rt, "streams", name, "chart")?)
+}
+
+fn write_printed<W: Write>(
+    rt: &HostRuntime,
+    out: &mut W,
+    command: &str,
+    case: &Case,
+) -> Result<()> {
+    let text = case.text.as_slice();
+    Served::of(rt.alloc(), command, text, case.deck.as_slice()).write(out)
 }
 
 /// Writes the pages of a panel whose units are served by orders, and what was counted.

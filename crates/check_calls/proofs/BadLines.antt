@@ -12,8 +12,8 @@ use Rattle.chart_rules.specs.declared.card.CardFault.{CardFault}
 use Rattle.chart_rules.specs.declared.card.CardFault.TheVariants as card
 use Rattle.compile407.proofs.Exclusions.{none_told}
 use Rattle.compile407.specs.Below.charts.Chart.{Chart}
-use Rattle.deck_checks.specs.BadLines as lines
-use Rattle.deck_checks.specs.BadLines.{IsBadLine, IsGoodLine}
+use Rattle.check_calls.specs.DeckChecks.BadLines as lines
+use Rattle.check_calls.specs.DeckChecks.BadLines.{IsBadLine, IsGoodLine}
 use Rattle.faults.specs.Told.{deck_told, of_card, run_told}
 use Rattle.faults.specs.declared.fault.Fault.{Fault}
 

@@ -5,9 +5,9 @@ use Rattle.check_calls.specs.Served.{HasRunnableDeck, PrintsOk, StopsCheck, char
 use Rattle.commands.specs.Answers.{CompilesAs}
 use Rattle.compile407.specs.ChartFaults.{HasChartFault}
 use Rattle.compile407.specs.Compilation.{Compilation}
-use Rattle.deck_checks.proofs.Silent.{decks_without_faults}
-use Rattle.deck_checks.specs.Endings.{EndsCheck}
-use Rattle.deck_checks.specs.Listings.{IsListing}
+use Rattle.check_calls.proofs.DeckChecks.Silent.{decks_without_faults}
+use Rattle.check_calls.specs.DeckChecks.Endings.{EndsCheck}
+use Rattle.check_calls.specs.DeckChecks.Listings.{IsListing}
 use Rattle.compile407.specs.Below.charts.Chart.{Chart}
 use Rattle.faults.proofs.Statuses.{memory_or_not}
 use Rattle.faults.specs.Told.{chart_told}

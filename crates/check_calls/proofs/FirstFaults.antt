@@ -24,8 +24,8 @@ use Rattle.compile407.specs.Below.streamed_runs.FirstCauses.{HaveFitSoFar, IsFir
 use Rattle.compile407.specs.Below.streamed_runs.Reading.{HasRead}
 use Rattle.compile407.specs.Below.streamed_runs.declared.fault.StreamCause.{StreamCause}
 use Rattle.compile407.specs.Below.streamed_runs.declared.fault.StreamCause.TheVariants as cause
-use Rattle.deck_checks.specs.BadLines.{IsGoodLine}
-use Rattle.deck_checks.specs.Listings.{IsListing, misfit_told, totals_told}
+use Rattle.check_calls.specs.DeckChecks.BadLines.{IsGoodLine}
+use Rattle.check_calls.specs.DeckChecks.Listings.{IsListing, misfit_told, totals_told}
 use Rattle.decks.specs.FitSoFar.{FitSoFar}
 use Rattle.faults.specs.Told.{deck_told, of_card, run_told}
 use Rattle.faults.specs.declared.fault.Fault.{Fault}

@@ -11,9 +11,9 @@ use Rattle.check_calls.proofs.Pairings.{flipped, has_last}
 use Rattle.compile407.specs.Below.charts.Chart.{Chart}
 use Rattle.compile407.specs.Below.report.Misfits.{first_of}
 use Rattle.compile407.specs.Below.streamed_runs.FirstCauses.{HaveFitSoFar}
-use Rattle.deck_checks.specs.BadLines.{IsBadLine, IsGoodLine}
-use Rattle.deck_checks.specs.Listings as listings
-use Rattle.deck_checks.specs.Listings.{Lists, misfit_told, totals_told, with_card}
+use Rattle.check_calls.specs.DeckChecks.BadLines.{IsBadLine, IsGoodLine}
+use Rattle.check_calls.specs.DeckChecks.Listings as listings
+use Rattle.check_calls.specs.DeckChecks.Listings.{Lists, misfit_told, totals_told, with_card}
 use Rattle.faults.specs.declared.fault.Fault.{Fault}
 
 -- Where no group that ended before the last of some cards has a misfit, so it was before that card came, and nothing was told of it.

@@ -4,3 +4,4 @@ mod EarlierGroups
 mod FirstFaults
 mod Fronts
 mod Pairings
+pub mod DeckChecks

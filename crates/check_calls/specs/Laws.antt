@@ -7,7 +7,7 @@ use Rattle.compile407.specs.Below.streamed_runs.Runs.{HasStopped}
 use Rattle.compile407.specs.Below.streamed_runs.declared.fault.StreamCause.{StreamCause}
 use Rattle.compile407.specs.Below.streamed_runs.declared.fault.StreamCause.TheVariants as cause
 use Rattle.compile407.specs.Below.streamed_runs.declared.fault.StreamFault.{StreamFault}
-use Rattle.deck_checks.specs.Listings.{IsListing}
+use Rattle.check_calls.specs.DeckChecks.Listings.{IsListing}
 use Rattle.faults.specs.declared.fault.Fault.{Fault}
 
 -- whether it is the deck that stopped a run: a line that is no card, a card that is not valid or a total that does not fit, and not a device or

@@ -7,7 +7,7 @@ use Rattle.commands.specs.Answers.{CompilesAs}
 use Rattle.commands.specs.Refusals.{RefusesChart}
 use Rattle.compile407.specs.Compilation.{Compilation}
 use Rattle.compile407.specs.Runnable.{IsRunnable}
-use Rattle.deck_checks.specs.Endings.{EndsCheck}
+use Rattle.check_calls.specs.DeckChecks.Endings.{EndsCheck}
 use Rattle.faults.specs.declared.fault.Fault.{Fault}
 use Rattle.faults.specs.declared.fault.Fault.TheVariants as fault
 

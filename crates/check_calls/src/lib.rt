@@ -1,6 +1,7 @@
 //! The command that checks a chart and then all cards of a deck, from the bytes of the chart and a reader of the deck.
 #![tactic(auto)]
 
+pub mod deck_checks;
 mod laws;
 mod serving;
 

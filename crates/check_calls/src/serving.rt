@@ -5,8 +5,8 @@ ghost use Rattle.check_calls.specs.Served.{PrintsOk, StopsCheck};
 ghost use Rattle.faults.specs.Lines.{IsTold};
 ghost use Rattle.faults.specs.Status.{status_of};
 
+use crate::deck_checks::check_cards;
 use compile407::compile;
-use deck_checks::check_cards;
 use faults::{Ending, Fault, tell};
 use std::alloc::Global;
 use std::io::{Read, Write};

@@ -167,7 +167,7 @@ static COMMANDS: [CommandRow; 11] = [
     },
     CommandRow {
         name: "show",
-        about: "Prints one page for a browser: the pages of a deck, the panel and the way of each impulse",
+        about: "Prints one page for a browser: the pages of a deck, the panel and one way of each impulse",
         words: &[TEXT, DECK],
     },
     CommandRow {

@@ -5,3 +5,6 @@ pub mod Refusing
 pub mod Stopping
 mod Streaming
 mod Upgrading
+pub mod ServedReplays
+pub mod UnitOrders
+pub mod DeckReplays

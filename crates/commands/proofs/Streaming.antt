@@ -1,7 +1,7 @@
 -- What a run that comes card by card prints and tells.
 use Rattle.std.proofs.Common.{◌≡◌, ◌≢◌, ◌∙◌, ◌⊎◌, inl, inr, ap, sym, subst, refl, arith, ℕ, Bool, List, Option, Some, Result, Ok, Err, IfSome}
 use Rattle.std.proofs.KnownBytes.{Appends-kept}
-use Rattle.std.specs.Prelude.{IfErr, IfOk, OnOk}
+use Rattle.std.specs.Prelude.{IfErr, MatchResult, OnOk}
 use Rattle.std.specs.Io.KnownBytes.{Appends, Keeps}
 use Rattle.card_lines.specs.declared.fault.ReadFault.{ReadFault}
 use Rattle.card_lines.specs.declared.fault.ReadFault.TheVariants as read
@@ -23,7 +23,7 @@ use Rattle.faults.specs.declared.deck.RunFault.{RunFault}
 use Rattle.faults.specs.declared.deck.RunFault.TheVariants as deck
 use Rattle.faults.specs.declared.fault.Fault.{Fault}
 use Rattle.faults.specs.declared.fault.Fault.TheVariants as fault
-use Rattle.compile407.specs.Below.streamed_runs.Runs.{HasRun, HasStopped}
+use Rattle.compile407.specs.Below.streamed_runs.Runs.{HasRun, StopsShort}
 use Rattle.compile407.specs.Below.streamed_runs.declared.fault.StreamCause.{StreamCause}
 use Rattle.compile407.specs.Below.streamed_runs.declared.fault.StreamCause.TheVariants as cause
 use Rattle.compile407.specs.Below.streamed_runs.declared.fault.StreamFault.{StreamFault}
@@ -53,19 +53,23 @@ run_whole compiled text compiles reader old new count run = record {
       };
 }
 
--- what was written until a run stopped stays
-pub stopped_in_run : (compiled : Compilation) (text : List ℕ) → CompilesAs text compiled → (reader old middle new : Option (List ℕ))
-    (stopped : StreamFault) (told : Fault) → IsToldOf stopped.cause told
-    → ((bytes : List ℕ) → reader ≡ Some bytes → (written : List ℕ) × HasStopped compiled.chart bytes stopped written × Appends old middle written)
-    → Keeps middle new → StopsInRun text reader old new told
-stopped_in_run compiled text compiles reader old middle new stopped told named stops keeps = record {
+-- What was written until a run stopped stays: what the stopped run left is kept, and stands after what the writer held.
+pub stopped_in_run : (compiled : Compilation) (text : List ℕ) → CompilesAs text compiled → (reader source left lent middle kept old new : Option (List ℕ))
+    (stopped : StreamFault) (told : Fault) → IsToldOf stopped.cause told → source ≡ reader
+    → StopsShort compiled.chart source left lent middle stopped → Keeps middle kept
+    → ((written : List ℕ) → Appends lent kept written → Appends old new written) → StopsInRun text reader old new told
+stopped_in_run compiled text compiles reader source left lent middle kept old new stopped told named same stops keeps back = record {
   compiled = compiled;
   compiles = compiles;
   fault = stopped;
   named = named;
-  stopped = λ known is.
-      let stands = stops known is in
-      (stands.0, stands.1, Appends-kept old middle new stands.0 stands.2 keeps);
+  left = left;
+  stopped = record {
+    written = stops.written;
+    gained = back stops.written (Appends-kept lent middle kept stops.written stops.gained keeps);
+    counted = stops.counted;
+    stopped = λ known is. stops.stopped known (same ∙ is);
+  };
 }
 
 -- the chart was refused, or memory was wanting for it
@@ -223,9 +227,15 @@ module _ (text : List ℕ) (reader old new : Option (List ℕ)) (told unreadable
   told_of_memory_by command.Upgrade has five =
       told_of_memory told fault.Write Unprinted status is_told before after has is_status line refl five
 
--- what holds of an answer where it is one
-pub of_ok : {X E : Type 0} (Holds : X → Type 0) (result : Result X E) (value : X) → result ≡ Ok value → IfOk result Holds → Holds value
-of_ok {X = X} {E = E} Holds result value is holds = subst (λ (answer : Result X E). IfOk answer Holds) is holds
+-- what a call that is told for both outcomes has done
+pub of_either_ok : {X E : Type 0} (Ends : X → Type 0) (Stops : E → Type 0) (result : Result X E) (value : X) → result ≡ Ok value
+    → MatchResult result Ends Stops → Ends value
+of_either_ok {X = X} {E = E} Ends Stops result value is holds = subst (λ (answer : Result X E). MatchResult answer Ends Stops) is holds
+
+-- the same where it stopped
+pub of_either_err : {X E : Type 0} (Ends : X → Type 0) (Stops : E → Type 0) (result : Result X E) (error : E) → result ≡ Err error
+    → MatchResult result Ends Stops → Stops error
+of_either_err {X = X} {E = E} Ends Stops result error is holds = subst (λ (answer : Result X E). MatchResult answer Ends Stops) is holds
 
 -- A writer that was lent shows, once it is back, what its lender left of it: what was appended while it was lent stands after what it held.
 pub handed_back : {W N : Type 0} (contents : W → Option (List ℕ)) (written : List ℕ) {name last : N} {old lent left now : W}

@@ -3,3 +3,6 @@ pub mod Laws
 pub mod Refusals
 pub mod Served
 pub mod Streamed
+pub mod ServedReplays
+pub mod UnitOrders
+pub mod DeckReplays

@@ -1,7 +1,6 @@
 -- What a run of a chart over a deck that comes card by card has printed and what it tells. The deck is known where its reader tells its
 -- bytes beforehand, and what is written where the writer tells what it holds.
 use Rattle.std.specs.Prelude.{◌≡◌, ◌⊎◌, ℕ, List, Option, Some}
-use Rattle.std.specs.Io.KnownBytes.{Appends}
 use Rattle.card_lines.specs.declared.fault.ReadFault.{ReadFault}
 use Rattle.card_lines.specs.declared.fault.ReadFault.TheVariants as read
 use Rattle.commands.specs.Answers.{CompilesAs, HasWiring}
@@ -15,7 +14,7 @@ use Rattle.faults.specs.Told.{deck_told, of_card, run_told}
 use Rattle.faults.specs.declared.deck.RunFault.TheVariants as deck
 use Rattle.faults.specs.declared.fault.Fault.{Fault}
 use Rattle.faults.specs.declared.fault.Fault.TheVariants as fault
-use Rattle.compile407.specs.Below.streamed_runs.Runs.{HasStopped}
+use Rattle.compile407.specs.Below.streamed_runs.Runs.{StopsShort}
 use Rattle.compile407.specs.Below.streamed_runs.declared.fault.StreamCause.{StreamCause}
 use Rattle.compile407.specs.Below.streamed_runs.declared.fault.StreamCause.TheVariants as cause
 use Rattle.compile407.specs.Below.streamed_runs.declared.fault.StreamFault.{StreamFault}
@@ -40,14 +39,16 @@ pub record HasRunWhole (text : List ℕ) (deck old new : Option (List ℕ)) : Ty
   pub compiles : CompilesAs text compiled
   pub whole : (known : List ℕ) → deck ≡ Some known → IsDone command.Run text deck old new
 
--- The text is a chart that compiles; the run stopped, and this is told of its cause. What was written after what was there is the front of the
--- report of the cards read so far: where a card or a total stopped it, exactly the lines before those of a card.
+-- The text is a chart that compiles; the run stopped, and this is told of its cause. As many bytes were written after what was there as the
+-- run counts; they are the front of the report of the cards read so far, and where a card or a total stopped it, exactly the lines before
+-- those of a card.
 pub record StopsInRun (text : List ℕ) (deck old new : Option (List ℕ)) (told : Fault) : Type 0 where
   pub compiled : Compilation
   pub compiles : CompilesAs text compiled
   pub fault : StreamFault
   pub named : IsToldOf fault.cause told
-  pub stopped : (known : List ℕ) → deck ≡ Some known → (written : List ℕ) × HasStopped compiled.chart known fault written × Appends old new written
+  pub left : Option (List ℕ)
+  pub stopped : StopsShort compiled.chart deck left old new fault
 
 -- Why a run was not done: its chart is refused, or memory was wanting for it, and nothing was printed; or the run stopped.
 pub data EndsRun (text : List ℕ) (deck old new : Option (List ℕ)) (told : Fault) (Unprinted : Type 0) : Type 0 where

@@ -11,15 +11,18 @@
 
 mod answers;
 mod laws;
+pub mod orders;
 mod replaying;
+pub mod replays;
 mod running;
+pub mod served_replays;
 mod serving;
 
+pub use crate::served_replays::{replay_by_orders, replay_by_orders_to_end};
 pub use answers::{check, pages, replayed, upgraded, wiring_chart};
 pub use faults::{Ending, Fault, tell, unprinted, write_line};
 pub use laws::answered_texts_are_not_refused;
 pub use program_io::{Command, chart_and_deck, read_whole};
 pub use replaying::print_replay;
 pub use running::print_run;
-pub use served_replays::{replay_by_orders, replay_by_orders_to_end};
 pub use serving::{serve, serve_to_end};

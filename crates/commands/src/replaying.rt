@@ -6,12 +6,12 @@ ghost use Rattle.commands.specs.Refusals.{RefusesReplay};
 ghost use Rattle.commands.specs.Served.{PrintsFront, PrintsReplay};
 ghost use Rattle.program_io.specs.Stops.{Stops};
 ghost use Rattle.faults.specs.Status.{status_of};
-ghost use Rattle.replays.specs.Replays.{GainsFront, GainsPages};
+ghost use Rattle.commands.specs.DeckReplays.Replays.{GainsFront, GainsPages};
 
+use crate::replays::{ReplayCause, Replayed, replay};
 use card_code::check_deck;
 use faults::Fault;
 use program_io::Lent;
-use replays::{ReplayCause, Replayed, replay};
 use setups::Setup;
 use std::alloc::Global;
 use std::io::Write;

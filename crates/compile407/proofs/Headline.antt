@@ -2,7 +2,7 @@
 use Rattle.std.proofs.Common.{◌≡◌, ◌∙◌, ℕ, ◌≤◌, List, ◌∷◌, length, ap, subst, sym}
 use Rattle.std.specs.List.{All}
 use Rattle.card_code.specs.MostCards.{most_cards}
-use Rattle.plans.specs.Plans.{Lists, IsFor}
+use Rattle.plans.specs.Plans.{Lists, ServesChart}
 use Rattle.page_text.specs.Below.placed_lines.declared.placed_line.PlacedLine.{PlacedLine}
 use Rattle.chart_rules.specs.Rules.{IsLawful}
 use Rattle.chart_rules.specs.ValidCard.{IsValidCard}
@@ -25,7 +25,7 @@ use Rattle.wiring_reader.proofs.Answered.{one_setup}
 use Rattle.wiring_reader.specs.Below.wiring_text.WiringText.{IsSameSetup, ReadsAs}
 use Rattle.printed_reports.specs.Below.wiring_table.WiredFor.{WiredFor}
 use Rattle.compile407.specs.Compilation.{Compilation, IsCompiled}
-use Rattle.streamed_runs.specs.Below.promises.Promises.{IsDeck}
+use Rattle.streamed_runs.specs.PrintPromises.Promises.{IsDeck}
 use Rattle.compile407.specs.Headline.{IsSound, ReadSetupsPrintAlike, WiredSetupsBeginReports, WiredSetupsPrintReports}
 use Rattle.compile407.specs.Headline.{WrittenSetupsBeginReports, WrittenSetupsPrintReports}
 
@@ -37,7 +37,7 @@ sound_read bytes raw chart reads same lawful rising =
 
 -- a setup wired for a sound chart places the lines of its reports
 placed_lines : (chart : Chart) (plan : Lists) (wiring : Wiring) (cards : List (List ℕ)) (lines : List PlacedLine) →
-    IsSound chart → IsFor chart.lines plan → WiredFor chart.lines plan wiring → IsDeck chart cards → Fits chart.lines cards →
+    IsSound chart → ServesChart chart.lines plan → WiredFor chart.lines plan wiring → IsDeck chart cards → Fits chart.lines cards →
     MachineLines wiring cards lines → lines ≡ report_lines chart cards
 placed_lines chart plan wiring cards lines sound serves wired deck fits run =
     machine_prints_reports chart plan wiring cards lines

@@ -27,7 +27,7 @@ use Rattle.chart_rules.specs.declared.fault.RuleFault.TheVariants as rule
 use Rattle.compile407.proofs.Exclusions.{none_told, none_invalid}
 use Rattle.faults.specs.ChartCauses.{of_text, of_rule}
 use Rattle.compile407.specs.ChartFaults.{HasChartFault}
-use Rattle.streamed_runs.specs.Below.promises.Promises.{IsDeck}
+use Rattle.streamed_runs.specs.PrintPromises.Promises.{IsDeck}
 use Rattle.compile407.specs.Outcomes.{ChartsHaveOneFault, DecksHaveOneFault}
 use Rattle.compile407.specs.RunFaults.{HasRunFault, IsInvalidDeck, IsMisfit}
 use Rattle.faults.specs.Told.{of_card}

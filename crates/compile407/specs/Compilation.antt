@@ -1,6 +1,6 @@
 -- A chart with its plan and the setup of the panel that is wired for it.
 use Rattle.allocate.specs.Exceeded.{FitsMachine}
-use Rattle.plans.specs.Plans.{Lists, IsFor}
+use Rattle.plans.specs.Plans.{Lists, ServesChart}
 use Rattle.allocate.specs.Allocated.{IsPlanOf}
 use Rattle.plans.specs.Below.wanted.Wanted.{wanted_of}
 use Rattle.capacity.specs.Capacities.{standard}
@@ -21,5 +21,5 @@ pub record IsCompiled (compiled : Compilation) : Type 0 where
   pub sound : IsSound compiled.chart
   pub fits : FitsMachine (wanted_of compiled.chart.lines) standard
   pub planned : IsPlanOf (wanted_of compiled.chart.lines) standard compiled.plan
-  pub serves : IsFor compiled.chart.lines compiled.plan
+  pub serves : ServesChart compiled.chart.lines compiled.plan
   pub wired : WiredFor compiled.chart.lines compiled.plan compiled.setup

@@ -1,11 +1,11 @@
 -- The headline: the pages that the machine prints, wired for a chart, are the chart's report of the deck.
 use Rattle.std.specs.Prelude.{ℕ, List}
-use Rattle.plans.specs.Plans.{Lists, IsFor}
+use Rattle.plans.specs.Plans.{Lists, ServesChart}
 use Rattle.page_text.specs.Below.placed_lines.declared.placed_line.PlacedLine.{PlacedLine}
 use Rattle.chart_rules.specs.Rules.{IsLawful}
 use Rattle.chart_text.specs.Below.charts.Chart.{Chart, NumbersRise}
 use Rattle.chart_text.specs.Below.charts.Literals.{HaveLiteralTexts}
-use Rattle.streamed_runs.specs.Below.promises.Promises.{BeginsReport, PrintsReport}
+use Rattle.streamed_runs.specs.PrintPromises.Promises.{BeginsReport, PrintsReport}
 use Rattle.setups.specs.Tapes.{IsCarriageTape}
 use Rattle.setups.specs.Wiring.{Wiring}
 use Rattle.machine.specs.Runs.{MachineLines}
@@ -21,25 +21,25 @@ pub record IsSound (chart : Chart) : Type 0 where
 -- every setup that is wired for a sound chart by a plan of it prints the chart's reports
 abbrev pub WiredSetupsPrintReports : Type 0
 WiredSetupsPrintReports =
-    (chart : Chart) (plan : Lists) (wiring : Wiring) → IsSound chart → IsFor chart.lines plan →
+    (chart : Chart) (plan : Lists) (wiring : Wiring) → IsSound chart → ServesChart chart.lines plan →
     WiredFor chart.lines plan wiring → PrintsReport chart wiring
 
 -- and begins them where not all totals fit
 abbrev pub WiredSetupsBeginReports : Type 0
 WiredSetupsBeginReports =
-    (chart : Chart) (plan : Lists) (wiring : Wiring) → IsSound chart → IsFor chart.lines plan →
+    (chart : Chart) (plan : Lists) (wiring : Wiring) → IsSound chart → ServesChart chart.lines plan →
     WiredFor chart.lines plan wiring → BeginsReport chart wiring
 
 -- Wired as a wiring chart of such a setup says, the machine prints the chart's reports too: every setup that the text reads as does.
 abbrev pub WrittenSetupsPrintReports : Type 0
 WrittenSetupsPrintReports =
-    (chart : Chart) (plan : Lists) (wiring : Wiring) (text : List ℕ) (read : Wiring) → IsSound chart → IsFor chart.lines plan →
+    (chart : Chart) (plan : Lists) (wiring : Wiring) (text : List ℕ) (read : Wiring) → IsSound chart → ServesChart chart.lines plan →
     WiredFor chart.lines plan wiring → ReadsAs text wiring → ReadsAs text read → PrintsReport chart read
 
 -- and begins them where not all totals fit
 abbrev pub WrittenSetupsBeginReports : Type 0
 WrittenSetupsBeginReports =
-    (chart : Chart) (plan : Lists) (wiring : Wiring) (text : List ℕ) (read : Wiring) → IsSound chart → IsFor chart.lines plan →
+    (chart : Chart) (plan : Lists) (wiring : Wiring) (text : List ℕ) (read : Wiring) → IsSound chart → ServesChart chart.lines plan →
     WiredFor chart.lines plan wiring → ReadsAs text wiring → ReadsAs text read → BeginsReport chart read
 
 -- Any two setups that one wiring chart reads as, wired by hand or for a chart, print the same lines for every deck.

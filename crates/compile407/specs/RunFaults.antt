@@ -9,7 +9,7 @@ use Rattle.misfits.specs.Below.report.Misfits.{Misfit, first_of, misfits}
 use Rattle.faults.specs.Told.{of_card}
 use Rattle.faults.specs.declared.deck.RunFault.{RunFault}
 use Rattle.faults.specs.declared.deck.RunFault.TheVariants as deck
-use Rattle.streamed_runs.specs.Below.promises.Promises.{IsDeck}
+use Rattle.streamed_runs.specs.PrintPromises.Promises.{IsDeck}
 
 -- the fault tells of the first card of the deck that is not valid, by its number from 1
 pub record IsInvalidDeck (chart : Chart) (cards : List (List ℕ)) (fault : RunFault) : Type 0 where

@@ -5,7 +5,7 @@ ghost use Rattle.chart_text.specs.ChartText.{Reads};
 ghost use Rattle.compile407.specs.Compilation.{IsCompiled};
 ghost use Rattle.compile407.specs.ChartFaults.{HasChartFault};
 ghost use Rattle.faults.specs.declared.chart.ChartFault.TheVariants as chart;
-ghost use Rattle.streamed_runs.specs.Below.promises.Promises.{BeginsReport, PrintsReport};
+ghost use Rattle.streamed_runs.specs.PrintPromises.Promises.{BeginsReport, PrintsReport};
 
 use crate::compiled::Compiled;
 use allocate::allocate;

@@ -1,14 +1,8 @@
-//! Public calls of `compile407`, of the explanations and of the legend, each with ample memory, on rows that were worked out by hand.
+//! Public calls of `compile407`, each with ample memory, on rows that were worked out by hand.
 //!
-//! As in `call_tests`, what a command does is tested by data in `cases`, and not here: here are devices that fail, decks that are held
-//! whole, and calls that no command does. There is a file for each subject; `given` has the texts of charts.
+//! As in `call_tests`, what a command does is tested by data in `cases`, and not here: here are devices that fail, and decks that are held
+//! whole. What this crate costs in the gate goes into loading what `compile407` says, to prove the tests.
 #![tactic(auto)]
 
-#[cfg(test)]
-mod explained_wheels;
-#[cfg(test)]
-mod given;
-#[cfg(test)]
-mod legends;
 #[cfg(test)]
 mod streams;

@@ -2,12 +2,11 @@
 
 ghost use Rattle.std.specs.Prelude.{◌≤◌};
 
-use crate::given::text_of;
 use card_code::read_deck;
 use card_lines::ReadFault;
 use compile407::{Compiled, RunFault, StreamCause, StreamFault, compile, run, run_stream};
 use devices::limited::{LimitedReader, LimitedWriter, Stop};
-use devices::{FromRead, ToWrite};
+use devices::{FromKnown, ToKnown};
 use std::alloc::Global;
 use std::test::Fail;
 
@@ -24,9 +23,9 @@ const CARDS: u64 = 40;
 /// Five pages of 101 bytes.
 const ALL_BYTES: u64 = 505;
 
-/// The compiled chart of some lines.
+/// The compiled chart of some lines, between the first line and END.
 fn compiled_of(alloc: Global, lines: &[u8]) -> Result<Compiled, Fail> {
-    let text = text_of(alloc, lines)?;
+    let text = [b"CHART407 1\n", lines, b"END\n"].concat(alloc)?;
     Ok(compile(alloc, text.as_slice())?)
 }
 
@@ -48,8 +47,8 @@ fn stream(
     fails_at: Option<u64>,
     writer: &mut LimitedWriter,
 ) -> Result<u64, StreamFault> {
-    let mut source = FromRead::new(LimitedReader::new(deck, most.max(1), fails_at));
-    let mut sink = ToWrite::new(writer);
+    let mut source = FromKnown::known(LimitedReader::new(deck, most.max(1), fails_at));
+    let mut sink = ToKnown::known(writer);
     run_stream(alloc, compiled, &mut source, &mut sink)
 }
 
@@ -81,6 +80,7 @@ fn reads_bring_parts_of_any_length_or_fail(rt: HostRuntime) -> Result<(), Fail> 
         );
         assert_eq!(rt; answer, Ok(CARDS));
         assert_eq!(rt; writer.bytes().len() as u64, ALL_BYTES);
+        assert!(rt; writer.is_flushed());
     }
     // The read after the last line finds the end.
     for read in 1..42 {

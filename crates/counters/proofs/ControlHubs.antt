@@ -8,6 +8,7 @@ use Rattle.hubs.specs.declared.hub.Hub.{Hub}
 use Rattle.hubs.specs.declared.hub.Hub.TheVariants.{PL, MI, RO, BT}
 use Rattle.net.specs.HubSets.{HubSet, has_hub, is_bit}
 use Rattle.net.proofs.Rows.{row_read}
+use Rattle.net.specs.Panel.{unit_after, unit_of}
 use Rattle.counters.specs.ControlRows.{IsControlRow}
 use Rattle.counters.specs.Counters.{controls_of, group_of_unit, width_of}
 use Rattle.counters.specs.declared.controls.Controls.{Controls}
@@ -19,6 +20,12 @@ controls_made plus minus read_out test = record { plus = plus; minus = minus; re
 -- the place of a group among all groups
 pub group_place-unit : (unit : ℕ) → 3 ≤ unit → unit ≤ 34 → group_place (width_of unit) ((unit - 3) % 8 + 1) ≡ Some (unit - 2)
 group_place-unit unit from to = grind (arith, nat_tests)
+
+-- the unit of the group that is a unit
+pub unit_of-group_of_unit : (unit : ℕ) → 3 ≤ unit → unit ≤ 34 → unit_of (group_of_unit unit) ≡ unit
+unit_of-group_of_unit unit from to =
+    let e : 2 + (unit - 2) ≡ unit = omega arith in
+    ap (unit_after 2) (group_place-unit unit from to) ∙ e
 
 placed : (before first unit k : ℕ) → 3 ≤ unit → unit ≤ 34 → first + k ≡ before + (unit - 2)
     → option_map (λ place. before + place) (group_place (width_of unit) ((unit - 3) % 8 + 1)) ≡ Some (first + k)

@@ -7,7 +7,6 @@ pub mod ListedDigits
 pub mod NumberLemmas
 pub mod Staying
 pub mod TakenRows
-pub mod OwnHubs
 pub mod Packed
 pub mod PackedViews
 pub mod Pairs

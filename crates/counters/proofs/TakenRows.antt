@@ -6,17 +6,8 @@ use Rattle.std.proofs.Math.Seq.{take-append_seam}
 use Rattle.hubs.specs.declared.hub.Hub.{Hub}
 use Rattle.hubs.specs.declared.hub.Hub.TheVariants.{GE}
 use Rattle.net.specs.HubSets.{is_bit}
+use Rattle.counters.specs.OwnHubs.{all_taken-same}
 use Rattle.counters.specs.Counters.{Counter, all_taken, entered_after, taken, takes}
-
--- two tests that agree on the positions of a group enter the same digits
-pub all_taken-same :
-    (row : ℕ) (one other : ℕ → Bool) (entered : List ℕ) (width : ℕ) → length entered ≤ width
-    → ((position : ℕ) → 1 ≤ position → position ≤ width → one position ≡ other position)
-    → all_taken row one entered ≡ all_taken row other entered
-all_taken-same row one other [] width long same = refl
-all_taken-same row one other (x ∷ below) width long same =
-    ap (λ b. taken row b x ∷ all_taken row one below) (same (length below + 1) (omega arith) (omega (arith, long)))
-    ∙ ap (λ xs. taken row (other (length below + 1)) x ∷ xs) (all_taken-same row one other below width (omega (arith, long)) same)
 
 -- what a group has entered after a row where it takes digits
 pub entered_after-taking :

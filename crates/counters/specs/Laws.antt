@@ -6,8 +6,7 @@ use Rattle.hub_table.specs.Ranges.{is_within}
 use Rattle.hubs.specs.declared.hub.Hub.{Hub}
 use Rattle.net.specs.declared.cycle.Cycle.{Cycle}
 use Rattle.net.specs.declared.cycle.Point.{Point}
-use Rattle.net.specs.Panel.{owner_of, reader_of}
-use Rattle.counters.specs.Counters.{Counter, counter_at_start, counter_closes, counter_emits, counter_ended, counter_number, counter_sensed, wheels_in}
+use Rattle.counters.specs.Counters.{Counter, counter_at_start, counter_ended, counter_number, counter_sensed, wheels_in}
 use Rattle.counters.specs.Numbers.{number, start_number, added_number, left_number}
 use Rattle.counters.specs.Wheels.{Wheel, carries_in, carries_out, turned}
 
@@ -32,20 +31,9 @@ pub record CountersStay : Type 0 where
       → IsCounter counter → IsCounter (counter_sensed counter cycle point picture)
   pub ended : (counter : Counter) (cycle : Cycle) → IsCounter counter → IsCounter (counter_ended counter cycle)
 
--- A group emits at its own exits, closes its own contacts and senses its own entries, and its unit is the one that it
--- began with.
-pub record CountersKeepToTheirOwn : Type 0 where
-  pub number : (unit : ℕ) → 3 ≤ unit → unit ≤ 34 → counter_number (counter_at_start unit) ≡ unit
-  pub emits :
-      (counter : Counter) (cycle : Cycle) (point : Point) (hub : Hub)
-      → counter_emits counter cycle point hub ≡ true → owner_of hub ≡ counter_number counter
-  pub closes :
-      (counter : Counter) (cycle : Cycle) (point : Point) (hub : Hub)
-      → counter_closes counter cycle point hub ≡ true → owner_of hub ≡ counter_number counter
-  pub sensed :
-      (counter : Counter) (cycle : Cycle) (point : Point) (one other : Hub → Bool)
-      → ((hub : Hub) → reader_of hub ≡ counter_number counter → one hub ≡ other hub)
-      → counter_sensed counter cycle point one ≡ counter_sensed counter cycle point other
+-- A group begins with the number of its unit.
+abbrev pub GroupsAreNumbered : Type 0
+GroupsAreNumbered = (unit : ℕ) → 3 ≤ unit → unit ≤ 34 → counter_number (counter_at_start unit) ≡ unit
 
 -- a carry as a number
 abbrev pub carry_number : Bool → ℕ

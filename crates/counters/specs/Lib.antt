@@ -10,3 +10,5 @@ pub mod Shown
 pub mod Wheels
 pub mod WholeCycles
 pub mod ControlRows
+pub mod Kinds
+pub mod OwnHubs

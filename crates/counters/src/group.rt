@@ -158,8 +158,8 @@ impl Group {
 
 ghost use Rattle.counters.specs.Counters.{group_of_unit};
 
-// The group that is a unit.
-fn group_of_unit(unit: u8) -> hubs::Group
+/// The group that is a unit, 3 to 34: those of 3 positions come first, then those of 4, 6 and 8, each width by number.
+pub fn group_of_unit(unit: u8) -> hubs::Group
     requires from { 3 ≤ unit }
     ensures { result ≡ group_of_unit unit }
 {
@@ -176,6 +176,7 @@ fn group_of_unit(unit: u8) -> hubs::Group
 }
 
 impl Unit for Group {
+    ghost use Rattle.counters.specs.OwnHubs.{counters_keep};
     ghost use Rattle.counters.specs.Counters.{counter_emits, counter_closes, counter_sensed, counter_ended, counter_number};
 
     ghost emits = { counter_emits };
@@ -230,6 +231,8 @@ impl Unit for Group {
     }
 
     ghost use Rattle.std.specs.Prelude.{refl};
+
+    ghost keeps_to_its_own = { counters_keep };
 
     ghost emits_steadily = { λ counter cycle at other picture hub. refl };
 

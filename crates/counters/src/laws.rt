@@ -1,6 +1,6 @@
 //! Laws of counter groups. Each is a function that does nothing: its contract is the law.
 
-ghost use Rattle.counters.specs.Laws.{CountersKeepToTheirOwn, CountersStay, CyclesAreSums, PairsAreCounters, SumsAreLeft, TurningIsAdding};
+ghost use Rattle.counters.specs.Laws.{GroupsAreNumbered, CountersStay, CyclesAreSums, PairsAreCounters, SumsAreLeft, TurningIsAdding};
 ghost use Rattle.counters.specs.Places.{RingsFollowCarryRule, WheelsFollowCarryRule};
 ghost use Rattle.counters.specs.Rings.{WiredGroupsAreRings, WiredPairsAreCoupled};
 ghost use Rattle.counters.specs.WholeCycles.{EarliestRowsAreEntered};
@@ -50,10 +50,9 @@ pub fn groups_stay_groups()
     ensures { CountersStay }
 {}
 
-/// A group emits at its own exits, closes its own contacts and senses its own entries alone, and its unit stays the
-/// one that it began with.
-pub fn groups_keep_to_their_own_hubs()
-    ensures { CountersKeepToTheirOwn }
+/// A group begins with the number of its unit.
+pub fn groups_are_numbered()
+    ensures { GroupsAreNumbered }
 {}
 
 /// After the points of a cycle a group has the controls of the control point and, under plus or minus, at each position the digit

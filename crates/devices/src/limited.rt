@@ -1,7 +1,11 @@
 //! Readers and writers of std over memory, for tests: they give or take a few bytes a call, and fail at a call of their number.
 
-ghost use Rattle.std.specs.Prelude.{◌≡◌, ◌<◌, ℕ, List, Option, Some, [], length};
+ghost use Rattle.std.specs.Prelude.{◌≡◌, ◌<◌, ℕ, List, Option, Some, [], length, false, true};
+ghost use Rattle.devices.specs.Devices.{is_next};
+ghost use Rattle.devices.specs.Limited.{fails_to_flush};
 
+use crate::sink::KnownWriter;
+use crate::source::KnownReader;
 use std::alloc::Global;
 use std::io;
 use std::io::{ErrorKind, Read, Write};
@@ -46,12 +50,22 @@ impl Read for LimitedReader<'_> {
     ghost remaining = { λ reader. Some reader.bytes.now };
 
     fn read(&mut self, buf: &mut [u8]) -> io::Result<usize> {
+        self.read_known(buf)
+    }
+}
+
+impl KnownReader for LimitedReader<'_> {
+    ghost remaining = { λ reader. Some reader.bytes.now };
+
+    ghost may_fail = { λ reader. is_next reader.fails_at reader.calls };
+
+    fn read_known(&mut self, buf: &mut [u8]) -> io::Result<usize> {
         self.calls = self.calls.saturating_add(1);
         if self.fails_at == Some(self.calls) {
             return Err(io::Error::from(ErrorKind::Other));
         }
         let room = buf.len().min(self.most);
-        self.bytes.read(&mut buf[..room])
+        self.bytes.read_known(&mut buf[..room])
     }
 }
 
@@ -74,6 +88,7 @@ pub struct LimitedWriter {
     stop: Option<Stop>,
     writes: u64,
     flushes: u64,
+    is_flushed: bool,
 }
 
 impl LimitedWriter {
@@ -91,6 +106,7 @@ impl LimitedWriter {
             stop,
             writes: 0,
             flushes: 0,
+            is_flushed: false,
         }
     }
 
@@ -114,12 +130,38 @@ impl LimitedWriter {
     {
         self.flushes
     }
+
+    /// Whether it was flushed after the last byte that it took.
+    pub fn is_flushed(&self) -> bool
+        ensures { result ≡ self.now.is_flushed }
+    {
+        self.is_flushed
+    }
 }
 
 impl Write for LimitedWriter {
     ghost contents = { λ writer. Some writer.bytes.items };
 
     fn write(&mut self, buf: &[u8]) -> io::Result<usize> {
+        self.write_known(buf)
+    }
+
+    fn flush(&mut self) -> io::Result<()> {
+        self.flush_known()
+    }
+}
+
+/// Its writes may fail if no memory is left, its flushes if it is told to stop at them.
+impl KnownWriter for LimitedWriter {
+    ghost contents = { λ writer. Some writer.bytes.items };
+
+    ghost is_flushed = { λ writer. writer.is_flushed };
+
+    ghost may_fail = { λ _. true };
+
+    ghost may_fail_to_flush = { λ writer. fails_to_flush writer.stop };
+
+    fn write_known(&mut self, bytes: &[u8]) -> io::Result<usize> {
         self.writes = self.writes.saturating_add(1);
         match self.stop {
             Some(Stop::Fails { write }) if write == self.writes => {
@@ -128,16 +170,18 @@ impl Write for LimitedWriter {
             Some(Stop::TakesNone { write }) if write == self.writes => return Ok(0),
             _ => {}
         }
-        let count = buf.len().min(self.most);
-        self.bytes.extend_from_slice(&buf[..count])?;
+        let count = bytes.len().min(self.most);
+        self.bytes.extend_from_slice(&bytes[..count])?;
+        self.is_flushed = false;
         Ok(count)
     }
 
-    fn flush(&mut self) -> io::Result<()> {
+    fn flush_known(&mut self) -> io::Result<()> {
         self.flushes = self.flushes.saturating_add(1);
-        if self.stop == Some(Stop::FailsToFlush) {
+        if let Some(Stop::FailsToFlush) = self.stop {
             return Err(io::Error::from(ErrorKind::Other));
         }
+        self.is_flushed = true;
         Ok(())
     }
 }

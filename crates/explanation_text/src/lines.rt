@@ -2,12 +2,13 @@
 
 ghost use Rattle.std.specs.Prelude.{◌≡◌, ◌<◌, ◌++◌, codes, decimal, OnOk};
 ghost use Rattle.std.specs.String.{string_bytes};
-ghost use Rattle.explanation_text.specs.Text.{after_text, character_text, cycle_line, heading_line, level_text, page_line, program_line, row_line, spaced_text};
+ghost use Rattle.explanation_text.specs.Text.{character_text, cycle_line, heading_line, level_text, page_line, program_line, row_line, spaced_text};
 
 use crate::names::{row_at, write_way};
 use explanations::Explanation;
 use hubs::Hub;
 use net::Cycle;
+use numerals::{push_between, push_numbered};
 use std::alloc::AllocError;
 
 #[tactic(auto, using(crate::proofs::Gains::three_pieces))]
@@ -37,10 +38,10 @@ fn write_character(text: &mut String, character: u8) -> Result<(), AllocError>
 pub(crate) fn write_page_line(text: &mut String, told: &Explanation) -> Result<(), AllocError>
     ensures { OnOk result (string_bytes text.new ≡ string_bytes text.old ++ page_line told.now) }
 {
-    let page = told.line.page;
-    let line = told.line.line;
-    let wheel = told.wheel;
-    write!(text, "page {page} line {line} wheel {wheel} prints ")?;
+    push_numbered(text, "page ", told.line.page)?;
+    push_numbered(text, " line ", told.line.line)?;
+    push_numbered(text, " wheel ", told.wheel)?;
+    text.push_str(" prints ")?;
     write_character(text, told.character)?;
     text.push_str("\n")
 }
@@ -55,7 +56,7 @@ pub(crate) fn write_cycle_line(
 {
     match cycle {
         Cycle::RunIn => text.push_str("cycle RunIn\n"),
-        Cycle::Card => write!(text, "cycle Card {cards}\n"),
+        Cycle::Card => push_between(text, "cycle Card ", cards, "\n"),
         Cycle::Prog(level, ordinal) => {
             write_program_line(text, level.number(), ordinal.number(), cards)
         }
@@ -74,35 +75,30 @@ fn write_program_line(
 {
     write_level(text, level)?;
     write_spaced(text, ordinal)?;
-    write_after(text, cards)
+    push_between(text, " after card ", cards, "\n")
 }
 
 // A level.
 fn write_level(text: &mut String, level: u8) -> Result<(), AllocError>
     ensures { OnOk result (string_bytes text.new ≡ string_bytes text.old ++ level_text level) }
 {
-    write!(text, "cycle Prog {level}")
+    push_numbered(text, "cycle Prog ", level)
 }
 
 // A space and a number.
 fn write_spaced(text: &mut String, number: u8) -> Result<(), AllocError>
     ensures { OnOk result (string_bytes text.new ≡ string_bytes text.old ++ spaced_text number) }
 {
-    write!(text, " {number}")
-}
-
-// The card behind which a cycle comes.
-fn write_after(text: &mut String, cards: u32) -> Result<(), AllocError>
-    ensures { OnOk result (string_bytes text.new ≡ string_bytes text.old ++ after_text cards) }
-{
-    write!(text, " after card {cards}\n")
+    push_numbered(text, " ", number)
 }
 
 // The second line of a heading cycle.
 fn write_heading_line(text: &mut String, heading: u8, cards: u32) -> Result<(), AllocError>
     ensures { OnOk result (string_bytes text.new ≡ string_bytes text.old ++ heading_line heading cards) }
 {
-    write!(text, "cycle Head {heading} before card {cards}\n")
+    push_numbered(text, "cycle Head ", heading)?;
+    push_numbered(text, " before card ", cards)?;
+    text.push_str("\n")
 }
 
 // The line of the row at a place in the order of the points.
@@ -110,8 +106,8 @@ pub(crate) fn write_row_line(text: &mut String, place: usize, way: &[Hub]) -> Re
     requires { place < 12 }
     ensures { OnOk result (string_bytes text.new ≡ string_bytes text.old ++ row_line place way.now) }
 {
-    let row = row_at(place);
-    write!(text, "row {row}:")?;
+    push_numbered(text, "row ", row_at(place))?;
+    text.push_str(":")?;
     write_way(text, way)?;
     text.push_str("\n")
 }

@@ -10,6 +10,7 @@ use crate::names::{is_contact_exit, row_at};
 use explanations::FoundLine;
 use hubs::{Group, Hub, write_hub};
 use net::Cycle;
+use numerals::{push_between, push_number, push_numbered};
 use std::alloc::{AllocError, Global};
 
 // Whether words have no end of a line.
@@ -130,15 +131,16 @@ fn write_meaning(
 
 // That a column of a card is punched in a row.
 fn write_punch(words: &mut String, column: u8, card: u64, row: u8) -> Result<(), AllocError> {
-    write_of_number(words, ": column ", column, " of card ")?;
-    write!(words, "{card} has ")?;
+    push_numbered(words, ": column ", column)?;
+    push_numbered(words, " of card ", card)?;
+    words.push_str(" has ")?;
     write_counted(words, row)
 }
 
 // That an emitter sends a row.
 fn write_emitter(words: &mut String, emitter: u8, row: u8, cycle: Cycle) -> Result<(), AllocError> {
-    write_of_number(words, ": emitter ", emitter, " sends row ")?;
-    write_of_number(words, "", row, " in ")?;
+    push_numbered(words, ": emitter ", emitter)?;
+    push_between(words, " sends row ", row, " in ")?;
     write_cycle(words, cycle)
 }
 
@@ -151,9 +153,9 @@ fn write_read_out(words: &mut String, found: &FoundLine, group: Group) -> Result
 
 // That a storage unit is read out, and what it holds in a column.
 fn write_stored(words: &mut String, unit: u8, column: u8, row: u8) -> Result<(), AllocError> {
-    write_of_number(words, ": storage ", unit, " holds ")?;
+    push_between(words, ": storage ", unit, " holds ")?;
     write_counted(words, row)?;
-    write_of_number(words, " in column ", column, ", and is read out")
+    push_between(words, " in column ", column, ", and is read out")
 }
 
 // The width and the number of a counter group between words.
@@ -163,26 +165,14 @@ fn write_of_group(
     group: Group,
     behind: &str,
 ) -> Result<(), AllocError> {
-    write_of_number(words, before, group.width, ".")?;
-    write_of_number(words, "", group.number, behind)
-}
-
-// A number between words.
-pub(crate) fn write_of_number(
-    words: &mut String,
-    before: &str,
-    number: u8,
-    behind: &str,
-) -> Result<(), AllocError> {
-    words.push_str(before)?;
-    write!(words, "{number}")?;
-    words.push_str(behind)
+    push_numbered(words, before, group.width)?;
+    push_between(words, ".", group.number, behind)
 }
 
 // A punch or a digit with its article.
 fn write_counted(words: &mut String, row: u8) -> Result<(), AllocError> {
     let article = if row == 8 || row == 11 { "an " } else { "a " };
-    write_of_number(words, article, row, "")
+    push_numbered(words, article, row)
 }
 
 // A cycle in words.
@@ -192,7 +182,7 @@ fn write_cycle(words: &mut String, cycle: Cycle) -> Result<(), AllocError> {
         Cycle::Card => words.push_str("card cycles"),
         Cycle::Prog(level, ordinal) => {
             words.push_str(ordinal_word(ordinal.number()))?;
-            write_of_number(words, " cycle of level ", level.number(), "")
+            push_numbered(words, " cycle of level ", level.number())
         }
         Cycle::Head(heading) => {
             words.push_str(ordinal_word(heading.number()))?;
@@ -222,7 +212,7 @@ fn write_held(words: &mut String, found: &FoundLine, group: Group) -> Result<(),
 fn write_digit(words: &mut String, found: &FoundLine, exit: Hub) -> Result<(), AllocError> {
     for place in 0..10 {
         if found.kept.points[place + 1].exits.has(exit) {
-            return write_of_number(words, "", row_at(place), "");
+            return push_number(words, row_at(place));
         }
     }
     Ok(())
@@ -254,18 +244,17 @@ fn write_reason(words: &mut String, exit: Hub) -> Result<(), AllocError> {
         Hub::BAN(group, _) => {
             write_of_group(words, ": the balance latch of group ", group, " is not set")
         }
-        Hub::PIT(pilot, _) => write_of_number(words, ": pilot ", pilot, " is transferred"),
-        Hub::PIN(pilot, _) => write_of_number(words, ": pilot ", pilot, " is normal"),
-        Hub::IX(level, _) => write_of_number(
+        Hub::PIT(pilot, _) => push_between(words, ": pilot ", pilot, " is transferred"),
+        Hub::PIN(pilot, _) => push_between(words, ": pilot ", pilot, " is normal"),
+        Hub::IX(level, _) => push_numbered(
             words,
             ": the card is the first of a group of level ",
             level,
-            "",
         ),
         Hub::CSD(split) => {
-            write_of_number(words, ": split ", split, " leads there at the rows 9 to 0")
+            push_between(words, ": split ", split, " leads there at the rows 9 to 0")
         }
-        Hub::CSZ(split) => write_of_number(
+        Hub::CSZ(split) => push_between(
             words,
             ": split ",
             split,

@@ -7,10 +7,11 @@ ghost use Rattle.explanation_text.specs.Writing.{GainsCharacter, GainsClosing, G
 
 use crate::lines::write_line;
 use crate::names::row_at;
-use crate::notes::{is_plain, write_of_number};
+use crate::notes::is_plain;
 use card_code::{Column, ROWS};
 use explanations::{Explanation, LineWays, Significance};
 use hubs::{Hub, Jack};
+use numerals::{push_between, push_number, push_numbered};
 use setups::Setup;
 use std::alloc::{AllocError, Global};
 
@@ -85,8 +86,7 @@ fn write_row(text: &mut String, place: usize) -> Result<(), AllocError>
     requires { place < 12 }
     ensures { OnOk result (string_bytes text.new ≡ string_bytes text.old ++ (codes "row " ++ decimal (row_at place))) }
 {
-    let row = row_at(place);
-    write!(text, "row {row}")
+    push_numbered(text, "row ", row_at(place))
 }
 
 // The place of the first row that was received.
@@ -165,7 +165,7 @@ fn write_listed(
     if written > 0 {
         words.push_str(if written + 1 == count { " and " } else { ", " })?;
     }
-    write_of_number(words, "", row_at(place), "")
+    push_number(words, row_at(place))
 }
 
 #[tactic(auto, using(crate::proofs::Closing::control_none))]
@@ -279,7 +279,7 @@ fn is_zero(told: &Explanation) -> bool
 fn write_giver(words: &mut String, line: &LineWays, from: u8, wheel: u8) -> Result<(), AllocError>
     requires { 12 ≤ length line.now.ways.items }
 {
-    write_of_number(words, "wheel ", from, " received one figure")?;
+    push_between(words, "wheel ", from, " received one figure")?;
     write_figures(words, line, from)?;
     write_links(words, from, wheel)
 }
@@ -290,7 +290,7 @@ fn write_figures(words: &mut String, line: &LineWays, wheel: u8) -> Result<(), A
 {
     for place in 0..9 {
         if line.ways[place].has(Hub::W(wheel)) {
-            write_of_number(words, ", ", row_at(place), "")?;
+            push_numbered(words, ", ", row_at(place))?;
         }
     }
     Ok(())
@@ -300,9 +300,9 @@ fn write_figures(words: &mut String, line: &LineWays, wheel: u8) -> Result<(), A
 fn write_links(words: &mut String, from: u8, wheel: u8) -> Result<(), AllocError> {
     let next = u16::from(from) + 1;
     if next == u16::from(wheel) {
-        write_of_number(words, ", and LINK ", wheel, " passes it on")
+        push_between(words, ", and LINK ", wheel, " passes it on")
     } else {
-        write!(words, ", and LINK {next}")?;
-        write_of_number(words, " to ", wheel, " pass it on")
+        push_numbered(words, ", and LINK ", next)?;
+        push_between(words, " to ", wheel, " pass it on")
     }
 }

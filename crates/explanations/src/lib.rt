@@ -18,6 +18,6 @@ mod significance;
 pub use explanation::{Explanation, LineWays, explain};
 pub use found::{FoundLine, find_line};
 pub use lines::find_lines;
-pub use page::{PageWays, find_page};
+pub use page::PageWays;
 pub use refusal::Refusal;
 pub use significance::Significance;

@@ -14,9 +14,9 @@ use machine::{KeptCycle, Machine};
 use setups::Setup;
 use std::alloc::{AllocError, Global};
 
-/// Runs a deck of at most 999,999 cards through a setup of the panel, once, and answers the lines that are placed on a page, in their
-/// order, each with its cycle: none where the deck has no such page. The only error is that no memory is left.
-pub fn find_page(
+// Runs a deck of at most 999,999 cards through a setup of the panel, once, and answers the lines that are placed on a page, in their
+// order, each with its cycle: none where the deck has no such page. The only error is that no memory is left.
+fn find_page(
     alloc: Global,
     setup: &Setup,
     cards: &[Card],

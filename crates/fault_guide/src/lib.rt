@@ -4,6 +4,7 @@
 #![tactic(auto)]
 
 mod entry;
+pub mod guides;
 mod table;
 
 pub use entry::{fault_entry, told_faults_have_entries};

@@ -14,4 +14,4 @@ mod telling;
 pub use chart::ChartFault;
 pub use deck::RunFault;
 pub use fault::{Fault, unprinted};
-pub use telling::{Ending, tell, write_line};
+pub use telling::{Ending, tell, write_line, write_place};

@@ -8,6 +8,7 @@ ghost use Rattle.faults.specs.Lines.{IsTold, fault_line, fault_text};
 ghost use Rattle.faults.specs.Status.{status_of};
 
 use crate::fault::Fault;
+use numerals::{write_between, write_numbered};
 use std::io;
 use std::io::Write;
 
@@ -29,20 +30,13 @@ fn before_blank(name: &[u8]) -> &[u8]
     &name[..length_before_blank(name)]
 }
 
-// Writes a figure after its words.
-fn write_figure<W: Write>(out: &mut W, words: &str, figure: u64) -> io::Result<()>
-    ensures { OnOk result (Appends (W.contents out.old) (W.contents out.new) (words.now ++ decimal figure)) }
-{
-    write!(out, "{words}{figure}")
-}
-
 // Writes the number of a fault, and a figure after its words.
 fn write_one<W: Write>(out: &mut W, number: u8, words: &str, figure: u64) -> io::Result<()>
     ensures { OnOk result (Appends (W.contents out.old) (W.contents out.new) (codes "fault " ++ decimal number
         ++ words.now ++ decimal figure)) }
 {
-    write_figure(out, "fault ", u64::from(number))?;
-    write_figure(out, words, figure)
+    write_numbered(out, "fault ", number)?;
+    write_numbered(out, words, figure)
 }
 
 // Writes the number of a fault, and two figures, each after its words.
@@ -56,7 +50,7 @@ fn write_two<W: Write>(
         ++ first.entry.0.now ++ decimal first.entry.1 ++ second.entry.0.now ++ decimal second.entry.1)) }
 {
     write_one(out, number, first.0, first.1)?;
-    write_figure(out, second.0, second.1)
+    write_numbered(out, second.0, second.1)
 }
 
 // Writes the number of a fault, and three figures, each after its words.
@@ -71,7 +65,7 @@ fn write_three<W: Write>(
         ++ first.entry.0.now ++ decimal first.entry.1 ++ second.entry.0.now ++ decimal second.entry.1 ++ third.entry.0.now ++ decimal third.entry.1)) }
 {
     write_two(out, number, first, second)?;
-    write_figure(out, third.0, third.1)
+    write_numbered(out, third.0, third.1)
 }
 
 // Writes the words and figures of a fault of a total.
@@ -88,7 +82,7 @@ fn write_total<W: Write>(
     write_one(out, number, " level ", u64::from(level))?;
     out.write_all(b" name ")?;
     out.write_all(before_blank(name))?;
-    write_figure(out, " card ", u64::from(card))
+    write_numbered(out, " card ", card)
 }
 
 // Writes the words and figures of a fault.
@@ -96,7 +90,7 @@ fn write_text<W: Write>(fault: &Fault, out: &mut W) -> io::Result<()>
     ensures { OnOk result (Appends (W.contents out.old) (W.contents out.new) (fault_text fault.now)) }
 {
     match *fault {
-        Fault::Whole { number } => write_figure(out, "fault ", u64::from(number)),
+        Fault::Whole { number } => write_numbered(out, "fault ", number),
         Fault::Line { number, line } => write_one(out, number, " line ", u64::from(line)),
         Fault::Cause {
             number,
@@ -161,9 +155,9 @@ fn write_text<W: Write>(fault: &Fault, out: &mut W) -> io::Result<()>
         } => write_total(out, number, level, name, card),
         Fault::Unknown { word } => write!(out, "fault command {word}"),
         Fault::File { path } => write!(out, "fault file {path}"),
-        Fault::Unread { card } => write!(out, "fault 4 card {card}"),
-        Fault::Write => write!(out, "fault write"),
-        Fault::Memory => write!(out, "fault memory"),
+        Fault::Unread { card } => write_numbered(out, "fault 4 card ", card),
+        Fault::Write => out.write_all(b"fault write"),
+        Fault::Memory => out.write_all(b"fault memory"),
     }
 }
 
@@ -177,6 +171,19 @@ pub fn write_line<W: Write>(fault: &Fault, out: &mut W) -> io::Result<()>
 {
     write_text(fault, out)?;
     out.write_all(b"\n")
+}
+
+/// Writes words, a page, a line of it, and LF: `fault 92 page 1 line 2`.
+///
+/// # Errors
+///
+/// Where the writer fails. It may then have taken a part of this.
+pub fn write_place<W: Write>(out: &mut W, words: &str, page: u64, line: u32) -> io::Result<()>
+    ensures { OnOk result (Appends (W.contents out.old) (W.contents out.new)
+        (words.now ++ decimal page ++ codes " line " ++ decimal line ++ codes "\n")) }
+{
+    write_numbered(out, words, page)?;
+    write_between(out, " line ", line, "\n")
 }
 
 /// How the program ends.

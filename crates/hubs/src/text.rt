@@ -2,10 +2,11 @@
 
 ghost use Rattle.std.specs.Prelude.{◌≡◌, ◌++◌, OnOk};
 ghost use Rattle.std.specs.String.{string_bytes};
-ghost use Rattle.hubs.specs.HubText.{hub_text, numbers_text};
+ghost use Rattle.hubs.specs.HubText.{hub_text, numbers_text, pointed};
 
 use crate::hub::Hub;
 use hub_table::Numbers;
+use numerals::push_numbered;
 use std::alloc::AllocError;
 
 /// Writes a hub: its letters, and its numbers with a point before each, as `GX.8.1.3`. Fails only where no memory is left; a front of the
@@ -23,8 +24,22 @@ fn write_numbers(text: &mut String, numbers: Numbers) -> Result<(), AllocError>
 {
     match numbers {
         Numbers::Bare => Ok(()),
-        Numbers::One(first) => write!(text, ".{first}"),
-        Numbers::Two(first, second) => write!(text, ".{first}.{second}"),
-        Numbers::Three(first, second, third) => write!(text, ".{first}.{second}.{third}"),
+        Numbers::One(first) => write_pointed(text, first),
+        Numbers::Two(first, second) => {
+            write_pointed(text, first)?;
+            write_pointed(text, second)
+        }
+        Numbers::Three(first, second, third) => {
+            write_pointed(text, first)?;
+            write_pointed(text, second)?;
+            write_pointed(text, third)
+        }
     }
+}
+
+// A point and a number.
+fn write_pointed(text: &mut String, number: u16) -> Result<(), AllocError>
+    ensures { OnOk result (string_bytes text.new ≡ string_bytes text.old ++ pointed number) }
+{
+    push_numbered(text, ".", number)
 }

@@ -5,14 +5,15 @@ ghost use Rattle.std.specs.String.{string_bytes};
 ghost use Rattle.card_code.specs.Deck.{line_at};
 ghost use Rattle.legend.specs.Helper.{GainsGroup, IsUnder};
 ghost use Rattle.legend.specs.Legend.{IsLegend, form_part, heading};
-ghost use Rattle.legend.specs.LineSetups.{AreLineSetups, line_words, plain};
-ghost use Rattle.plans.specs.Plans.{IsFor};
+ghost use Rattle.legend.specs.LineSetups.{AreLineSetups, line_words, place_words, plain};
+ghost use Rattle.plans.specs.Plans.{ServesChart};
 ghost use Rattle.wire_chart.specs.WrittenText.{ended};
 
 use crate::row::Row;
 use card_code::next_line;
 use chart_rules::Chart;
 use charts::{Line, Statement};
+use numerals::push_between;
 use plans::Plan;
 use setups::Setup;
 use std::alloc::{AllocError, Global};
@@ -45,7 +46,8 @@ fn write_heading(
 ) -> Result<(), AllocError>
     ensures { OnOk result (legend.new.items ≡ legend.old.items ++ ended (heading source.now number)) }
 {
-    let numbered = format!(in alloc; "line {number}: ")?;
+    let mut numbered = String::new(alloc);
+    push_between(&mut numbered, "line ", number, ": ")?;
     legend.extend_from_slice(numbered.as_bytes())?;
     legend.extend_from_slice(line_numbered(source, number))?;
     legend.extend_from_slice(b"\n")
@@ -94,7 +96,7 @@ pub fn write_group(
     source: &[u8],
     line: &Line,
 ) -> Result<(), AllocError>
-    requires plan { IsFor chart.now.lines plan.now }
+    requires plan { ServesChart chart.now.lines plan.now }
     requires listed { Contains chart.now.lines line.now }
     ensures { OnOk result (GainsGroup version chart.now.lines plan.now source.now line.now legend.old.items legend.new.items) }
 {
@@ -115,7 +117,7 @@ pub fn legend(
     plan: &Plan,
     source: &[u8],
 ) -> Result<Vec<u8>, AllocError>
-    requires { IsFor chart.now.lines plan.now }
+    requires { ServesChart chart.now.lines plan.now }
     ensures { IfOk result (λ text. IsLegend version chart.now.lines plan.now source.now text.items) }
 {
     let mut text = Vec::new(alloc);
@@ -133,7 +135,7 @@ pub fn line_setups(
     plan: &Plan,
     source: &[u8],
 ) -> Result<Vec<(String, Setup)>, AllocError>
-    requires { IsFor chart.now.lines plan.now }
+    requires { ServesChart chart.now.lines plan.now }
     ensures { IfOk result (λ all. AreLineSetups chart.now.lines plan.now source.now (length chart.now.lines) all.items) }
 {
     let mut all = Vec::new(alloc);
@@ -150,8 +152,15 @@ fn line_words(alloc: Global, source: &[u8], number: u16) -> Result<String, Alloc
 {
     let mut words = String::new(alloc);
     write_plain(&mut words, line_numbered(source, number))?;
-    write!(&mut words, " (line {number} of the chart)")?;
+    write_place(&mut words, number)?;
     Ok(words)
+}
+
+// Writes where the line with a number stands.
+fn write_place(words: &mut String, number: u16) -> Result<(), AllocError>
+    ensures { OnOk result (string_bytes words.new ≡ string_bytes words.old ++ place_words number) }
+{
+    push_between(words, " (line ", number, " of the chart)")
 }
 
 // Writes bytes as characters, with a question mark for each that is none.

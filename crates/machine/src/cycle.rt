@@ -13,6 +13,7 @@ use selectors::{steady_contacts, with_carries, with_splits};
 
 impl Units {
     ghost use Rattle.std.specs.Prelude.{◌≡◌, true, false, option_to_list};
+    ghost use Rattle.std.specs.Option.{ForSome};
     ghost use Rattle.setups.specs.Wiring.{Wiring};
     ghost use Rattle.net.specs.Nets.{IsNetOf};
     ghost use Rattle.net.specs.HubSets.{has_hub};
@@ -55,9 +56,9 @@ impl Units {
         ensures reached { (wiring : Wiring) → IsNetOf wiring net.now → Reached wiring cycle 14 self.old self.new }
         ensures keeps { Keeps cycle self.old self.new }
     {
-        self.run_direct_end(net, cycle, Point::C);
+        self.run_end(net, None, cycle, Point::C);
         self.run_direct_rows(net, cycle);
-        self.run_direct_end(net, cycle, Point::K);
+        self.run_end(net, None, cycle, Point::K);
     }
 
     // The points of a cycle, where wires lead to contacts.
@@ -66,46 +67,37 @@ impl Units {
         ensures reached { (wiring : Wiring) → IsNetOf wiring net.now → Reached wiring cycle 14 self.old self.new }
         ensures keeps { Keeps cycle self.old self.new }
     {
-        self.run_led_end(net, closed, cycle, Point::C);
+        self.run_end(net, Some(closed), cycle, Point::C);
         self.run_led_rows(net, closed, cycle);
-        self.run_led_end(net, closed, cycle, Point::K);
+        self.run_end(net, Some(closed), cycle, Point::K);
     }
 
-    // The control point or the closing point, where no wire leads to a contact: then no impulse comes to one.
-    fn run_direct_end(&mut self, net: &Net, cycle: Cycle, point: Point)
+    // The control point or the closing point. Mostly no impulse comes to a contact there, as none does where no wire leads to one: so
+    // the closed contacts may be left out, and are looked for then alone where one comes.
+    fn run_end(&mut self, net: &Net, closed: Option<&Closed>, cycle: Cycle, point: Point)
+        requires { ForSome closed (λ kept. AreSteady cycle kept.now self.old) }
         ensures step { (wiring : Wiring) → IsNetOf wiring net.now → PointStep wiring cycle point self.old self.new }
         ensures senses { SensesSome cycle point self.old self.new }
+        ensures steady { ForSome closed.entry (λ kept. AreSteady cycle kept.now self.new) }
     {
         let mut emitted = Picture::new();
         self.emit(cycle, point, &mut emitted);
         let mut picture = Picture::new();
-        self.impulse_direct_end(net, cycle, point, &emitted, &mut picture);
+        self.impulse_end(net, closed, cycle, point, &emitted, &mut picture);
         self.sense(cycle, point, &picture);
     }
 
-    // The control point or the closing point, where wires lead to contacts. Mostly no impulse comes to one there.
-    fn run_led_end(&mut self, net: &Net, closed: &Closed, cycle: Cycle, point: Point)
-        requires { AreSteady cycle closed.now self.old }
-        ensures step { (wiring : Wiring) → IsNetOf wiring net.now → PointStep wiring cycle point self.old self.new }
-        ensures senses { SensesSome cycle point self.old self.new }
-        ensures steady { AreSteady cycle closed.now self.new }
-    {
-        let mut emitted = Picture::new();
-        self.emit(cycle, point, &mut emitted);
-        let mut picture = Picture::new();
-        self.impulse_led_end(net, closed, cycle, point, &emitted, &mut picture);
-        self.sense(cycle, point, &picture);
-    }
-
-    // Makes the picture of the exits that emit at a point, by the wires alone where that is right, as it is where none leads to a contact.
-    fn impulse_direct_end(
+    // Makes the picture of the exits that emit at the control point or the closing point, by the wires alone where that is right.
+    fn impulse_end(
         &self,
         net: &Net,
+        closed: Option<&Closed>,
         cycle: Cycle,
         point: Point,
         exits: &Picture,
         picture: &mut Picture,
     )
+        requires { ForSome closed (λ kept. AreSteady cycle kept.now self.now) }
         ensures { (wiring : Wiring)
             → IsNetOf wiring net.now
             → IsPicture wiring (has_hub exits.now) (closes self.now cycle point) (has_hub picture.new) }
@@ -113,28 +105,10 @@ impl Units {
         if self.impulse_by_wires(net, point, exits, picture) {
             return;
         }
-        self.impulse(net, &self.closed(cycle), cycle, point, exits, picture);
-    }
-
-    // Makes the picture of the exits that emit at a point, by the wires alone where that is right.
-    fn impulse_led_end(
-        &self,
-        net: &Net,
-        closed: &Closed,
-        cycle: Cycle,
-        point: Point,
-        exits: &Picture,
-        picture: &mut Picture,
-    )
-        requires { AreSteady cycle closed.now self.now }
-        ensures { (wiring : Wiring)
-            → IsNetOf wiring net.now
-            → IsPicture wiring (has_hub exits.now) (closes self.now cycle point) (has_hub picture.new) }
-    {
-        if self.impulse_by_wires(net, point, exits, picture) {
-            return;
+        match closed {
+            Some(closed) => self.impulse(net, closed, cycle, point, exits, picture),
+            None => self.impulse(net, &self.closed(cycle), cycle, point, exits, picture),
         }
-        self.impulse(net, closed, cycle, point, exits, picture);
     }
 
     // Makes what the wires alone make of the exits that emit at a point. Answers whether that is the picture, whatever contacts are closed.

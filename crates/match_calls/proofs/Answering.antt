@@ -10,8 +10,8 @@ use Rattle.match_calls.specs.Found.{IsWiredText}
 use Rattle.match_calls.specs.Helper.{IsDeckText}
 use Rattle.match_calls.specs.declared.outcome.Outcome.{Outcome}
 use Rattle.match_calls.specs.declared.outcome.Outcome.TheVariants as outcome
-use Rattle.match_decks.specs.declared.lines.Place.{Place}
-use Rattle.match_texts.specs.declared.counts.Counts.{Counts}
+use Rattle.match_calls.specs.declared.match_decks.lines.Place.{Place}
+use Rattle.match_calls.specs.declared.match_texts.counts.Counts.{Counts}
 use Rattle.program_io.specs.Refusals.{RefusesDeck}
 use Rattle.setups.specs.Wiring.{Wiring}
 use Rattle.wire_chart.specs.Below.wiring_text.declared.statement.Version.{Version}

@@ -3,14 +3,14 @@ use Rattle.std.proofs.Common.{◌≡◌, List, ℕ, Option, Some, None, subst}
 use Rattle.compile407.specs.Compilation.{Compilation}
 use Rattle.match_calls.specs.Found.{IsUnwiredText, IsWiredText}
 use Rattle.match_calls.specs.Helper.{IsFoundText, TellsCounts}
-use Rattle.match_texts.specs.MatchText.{IsMatchText}
-use Rattle.match_texts.specs.declared.counts.Counts.{Counts}
+use Rattle.match_calls.specs.MatchTexts.MatchText.{IsMatchText}
+use Rattle.match_calls.specs.declared.match_texts.counts.Counts.{Counts}
 use Rattle.matching.specs.Answers.{IsMatched, IsMatchingOf}
 use Rattle.matching.specs.declared.answer.Matching.{Matching}
 use Rattle.matching.specs.declared.answer.Matching.TheVariants.{Differs, Matched}
 use Rattle.panel_plans.specs.Wired.{IsWiredBy}
 use Rattle.plans.specs.Plans.{Lists}
-use Rattle.promises.specs.Promises.{BeginsReport, PrintsReport}
+use Rattle.streamed_runs.specs.PrintPromises.Promises.{BeginsReport, PrintsReport}
 use Rattle.setups.specs.Wiring.{Wiring}
 use Rattle.wire_chart.specs.Below.wiring_text.declared.statement.Version.{Version}
 

@@ -4,3 +4,6 @@ mod Pairs
 mod Refusing
 mod Telling
 mod TellingOver
+pub mod MatchReports
+pub mod MatchDecks
+pub mod MatchTexts

@@ -5,10 +5,10 @@ use Rattle.compile407.specs.Compilation.{Compilation}
 use Rattle.explanation_text.specs.Told.{Explains}
 use Rattle.explanations.specs.PlacedInRun.{PrintsNoneAt}
 use Rattle.match_calls.specs.Found.{IsUnwiredText}
-use Rattle.match_decks.specs.Wheels.{DifferOnDeck}
-use Rattle.match_decks.specs.declared.lines.Place.{Place}
-use Rattle.match_decks.specs.declared.wheels.Difference.{Difference}
-use Rattle.match_texts.specs.declared.counts.Counts.{Counts}
+use Rattle.match_calls.specs.MatchDecks.Wheels.{DifferOnDeck}
+use Rattle.match_calls.specs.declared.match_decks.lines.Place.{Place}
+use Rattle.match_calls.specs.declared.match_decks.wheels.Difference.{Difference}
+use Rattle.match_calls.specs.declared.match_texts.counts.Counts.{Counts}
 use Rattle.setups.specs.Wiring.{Wiring}
 use Rattle.wire_chart.specs.Below.wiring_text.declared.statement.Version.{Version}
 

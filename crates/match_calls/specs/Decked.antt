@@ -9,8 +9,8 @@ use Rattle.match_calls.specs.Panels.{HasPanels, RefusesAll}
 use Rattle.match_calls.specs.Unmatched.{unmatched_status}
 use Rattle.match_calls.specs.declared.unmatched.Unmatched.{Unmatched}
 use Rattle.match_calls.specs.declared.unmatched.Unmatched.TheVariants as why
-use Rattle.match_decks.specs.declared.lines.Place.{Place}
-use Rattle.match_texts.specs.declared.counts.Counts.{Counts}
+use Rattle.match_calls.specs.declared.match_decks.lines.Place.{Place}
+use Rattle.match_calls.specs.declared.match_texts.counts.Counts.{Counts}
 
 -- What is told of texts that don't match: the panel is not wired for the chart, and what is missing and too much was printed, and how the
 -- first line of the deck that it prints otherwise differs, if one does; or a text is refused, and nothing was printed.

@@ -3,14 +3,14 @@ use Rattle.std.specs.Prelude.{◌≡◌, ℕ, List, ◌++◌, Option, codes}
 use Rattle.std.specs.Io.KnownBytes.{Appends}
 use Rattle.compile407.specs.Compilation.{Compilation}
 use Rattle.match_calls.specs.Panels.{ArePanels}
-use Rattle.match_texts.specs.Counts.{CountsDifferences}
-use Rattle.match_texts.specs.MatchText.{TellsDifference}
-use Rattle.match_texts.specs.PlanText.{plan_text}
-use Rattle.match_texts.specs.declared.counts.Counts.{Counts}
+use Rattle.match_calls.specs.MatchTexts.Counts.{CountsDifferences}
+use Rattle.match_calls.specs.MatchTexts.MatchText.{TellsDifference}
+use Rattle.match_calls.specs.MatchTexts.PlanText.{plan_text}
+use Rattle.match_calls.specs.declared.match_texts.counts.Counts.{Counts}
 use Rattle.matching.specs.Answers.{DiffersBy}
 use Rattle.panel_plans.specs.Wired.{IsWiredBy}
 use Rattle.plans.specs.Plans.{Lists}
-use Rattle.promises.specs.Promises.{BeginsReport, PrintsReport}
+use Rattle.streamed_runs.specs.PrintPromises.Promises.{BeginsReport, PrintsReport}
 use Rattle.setups.specs.Wiring.{Wiring}
 use Rattle.wire_chart.specs.Below.wiring_text.declared.statement.Version.{Version}
 

@@ -6,9 +6,9 @@ use Rattle.match_calls.specs.Found.{IsUnwiredText, IsWiredText}
 use Rattle.match_calls.specs.declared.apart.Apart.{Apart}
 use Rattle.match_calls.specs.declared.outcome.Outcome.{Outcome}
 use Rattle.match_calls.specs.declared.outcome.Outcome.TheVariants as outcome
-use Rattle.match_decks.specs.Wheels.{DifferOnDeck}
-use Rattle.match_texts.specs.Counts.{CountsDifferences}
-use Rattle.match_texts.specs.declared.counts.Counts.{Counts}
+use Rattle.match_calls.specs.MatchDecks.Wheels.{DifferOnDeck}
+use Rattle.match_calls.specs.MatchTexts.Counts.{CountsDifferences}
+use Rattle.match_calls.specs.declared.match_texts.counts.Counts.{Counts}
 use Rattle.matching.specs.declared.answer.Matching.{Matching}
 use Rattle.matching.specs.declared.answer.Matching.TheVariants.{Differs, Matched}
 use Rattle.setups.specs.Wiring.{Wiring}

@@ -2,8 +2,8 @@
 use Rattle.fault_guide.specs.Lines.{NamesAFault}
 use Rattle.match_calls.specs.Unmatched.{unmatched_line}
 use Rattle.match_calls.specs.declared.unmatched.Unmatched.TheVariants as why
-use Rattle.match_decks.specs.declared.lines.Place.{Place}
-use Rattle.match_texts.specs.declared.counts.Counts.{Counts}
+use Rattle.match_calls.specs.declared.match_decks.lines.Place.{Place}
+use Rattle.match_calls.specs.declared.match_texts.counts.Counts.{Counts}
 
 -- the line names a fault that has an entry, whether it tells how much is missing and too much or where a deck prints otherwise
 pub record UnmatchedPanelsHaveEntries : Type 0 where

@@ -6,3 +6,5 @@ pub mod Laws
 pub mod Matched
 pub mod Panels
 pub mod Unmatched
+pub mod MatchDecks
+pub mod MatchTexts

@@ -7,7 +7,7 @@ use Rattle.match_calls.specs.Panels.{RefusesPanels}
 use Rattle.match_calls.specs.Unmatched.{unmatched_status}
 use Rattle.match_calls.specs.declared.unmatched.Unmatched.{Unmatched}
 use Rattle.match_calls.specs.declared.unmatched.Unmatched.TheVariants as why
-use Rattle.match_texts.specs.declared.counts.Counts.{Counts}
+use Rattle.match_calls.specs.declared.match_texts.counts.Counts.{Counts}
 
 -- What is told of texts that don't match: the panel is not wired for the chart, and what is missing and too much was printed; or a text is
 -- refused, and nothing was printed.

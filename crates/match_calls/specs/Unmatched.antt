@@ -5,7 +5,7 @@ use Rattle.faults.specs.Lines.{fault_line}
 use Rattle.faults.specs.Status.{status_of}
 use Rattle.match_calls.specs.declared.unmatched.Unmatched.{Unmatched}
 use Rattle.match_calls.specs.declared.unmatched.Unmatched.TheVariants as why
-use Rattle.match_texts.specs.declared.counts.Counts.{Counts}
+use Rattle.match_calls.specs.declared.match_texts.counts.Counts.{Counts}
 
 -- a number of a fault, and how much is missing and too much
 abbrev pub figures_text : ℕ → Counts → List ℕ

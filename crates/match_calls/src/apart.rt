@@ -6,12 +6,12 @@ ghost use Rattle.card_code.specs.MostCards.{most_cards};
 ghost use Rattle.match_calls.specs.Apart.{IsPairText, IsWheelText};
 ghost use Rattle.match_calls.specs.Helper.{IsApart};
 
+use crate::match_decks::{Difference, Place, deck_difference};
 use crate::panels::Panels;
 use card_code::Card;
 use explanation_text::explain_text;
 use explanations::Refusal;
 use faults::Fault;
-use match_decks::{Difference, Place, deck_difference};
 use setups::Setup;
 use std::alloc::{AllocError, Global};
 

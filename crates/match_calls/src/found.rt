@@ -4,10 +4,10 @@ ghost use Rattle.std.specs.Prelude.{◌≡◌, IfErr, IfOk};
 ghost use Rattle.std.specs.String.{string_bytes};
 ghost use Rattle.match_calls.specs.Helper.{IsFoundText, TellsCounts};
 
+use crate::match_reports::{Matching, match_compiled};
+use crate::match_texts::{Counts, counts_of, match_text};
 use crate::panels::Panels;
 use faults::Fault;
-use match_reports::{Matching, match_compiled};
-use match_texts::{Counts, counts_of, match_text};
 use std::alloc::{AllocError, Global};
 
 /// What is found of a compiled chart and a panel.

@@ -8,6 +8,9 @@
 mod apart;
 mod found;
 mod laws;
+pub mod match_decks;
+pub mod match_reports;
+pub mod match_texts;
 mod outcome;
 mod over_decks;
 mod panels;

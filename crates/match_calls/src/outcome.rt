@@ -1,7 +1,7 @@
 //! What is found over a deck.
 
-use match_decks::Place;
-use match_texts::Counts;
+use crate::match_decks::Place;
+use crate::match_texts::Counts;
 
 /// What is found of a panel beside a chart, and of a deck on it and on the chart's own.
 #[derive(Clone, Copy, Debug, PartialEq, Eq)]

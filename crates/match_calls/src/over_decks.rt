@@ -14,12 +14,12 @@ ghost use Rattle.program_io.specs.Refusals.{RefusesDeck};
 
 use crate::apart::apart_on;
 use crate::found::{Found, found_of};
+use crate::match_texts::Counts;
 use crate::outcome::Outcome;
 use crate::panels::{Panels, cards_of, panels_of};
 use crate::unmatched::{Unmatched, tell_unmatched};
 use card_code::Card;
 use faults::{Ending, Fault};
-use match_texts::Counts;
 use program_io::{put, read_whole};
 use std::alloc::Global;
 use std::io::{Read, Write};

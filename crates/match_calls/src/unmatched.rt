@@ -4,9 +4,10 @@ ghost use Rattle.std.specs.Prelude.{◌≡◌, OnOk};
 ghost use Rattle.std.specs.Io.KnownBytes.{Appends};
 ghost use Rattle.match_calls.specs.Unmatched.{IsToldUnmatched, counts_line, figures_text, unmatched_line, unmatched_status};
 
-use faults::{Ending, Fault, write_line};
-use match_decks::Place;
-use match_texts::Counts;
+use crate::match_decks::Place;
+use crate::match_texts::Counts;
+use faults::{Ending, Fault, write_line, write_place};
+use numerals::write_numbered;
 use std::io;
 use std::io::Write;
 
@@ -51,8 +52,9 @@ impl<'a> From<Fault<'a>> for Unmatched<'a> {
 fn write_figures<V: Write>(number: u8, counts: Counts, out: &mut V) -> io::Result<()>
     ensures { OnOk result (Appends (V.contents out.old) (V.contents out.new) (figures_text number counts)) }
 {
-    let Counts { missing, extra } = counts;
-    write!(out, "fault {number} missing {missing} extra {extra}")
+    write_numbered(out, "fault ", number)?;
+    write_numbered(out, " missing ", counts.missing)?;
+    write_numbered(out, " extra ", counts.extra)
 }
 
 // Writes the line that tells how much is missing and too much.
@@ -74,10 +76,11 @@ pub fn write_unmatched<V: Write>(told: &Unmatched, out: &mut V) -> io::Result<()
     match told {
         Unmatched::Failed { fault } => write_line(fault, out),
         Unmatched::Unwired { counts } => write_counts(*counts, out),
-        Unmatched::PrintsOtherwise { place } => writeln!(
+        Unmatched::PrintsOtherwise { place } => write_place(
             out,
-            "fault 95 page {} line {}",
-            place.page, place.line
+            "fault 95 page ",
+            place.page,
+            place.line,
         ),
     }
 }

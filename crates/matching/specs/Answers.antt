@@ -7,7 +7,7 @@ use Rattle.hubs.specs.declared.jack.Jack.{Jack}
 use Rattle.matching.specs.declared.answer.Matching.{Matching}
 use Rattle.matching.specs.declared.answer.Matching.TheVariants.{Differs, Matched}
 use Rattle.panel_plans.specs.Wired.{IsWiredBy}
-use Rattle.plans.specs.Plans.{IsFor, Lists}
+use Rattle.plans.specs.Plans.{Lists, ServesChart}
 use Rattle.report.specs.ChartForm.{form_of, stops_of}
 use Rattle.setups.specs.Tapes.{has_stop}
 use Rattle.setups.specs.Wiring.{HasJack, HasWire, Wiring}
@@ -39,7 +39,7 @@ pub record IsExtra (lines : List Line) (plan : Lists) (setup extra : Wiring) : T
 
 -- a plan of a chart by which a setup is not wired for it, and the differences
 pub record DiffersBy (lines : List Line) (setup : Wiring) (plan : Lists) (missing extra : Wiring) : Type 0 where
-  pub planned : IsFor lines plan
+  pub planned : ServesChart lines plan
   pub unwired : ¬ WiredFor lines plan setup
   pub is_missing : IsMissing lines plan setup missing
   pub is_extra : IsExtra lines plan setup extra
@@ -48,6 +48,11 @@ pub record DiffersBy (lines : List Line) (setup : Wiring) (plan : Lists) (missin
 abbrev pub IsMatchingOf : List Line → Wiring → Matching → Type 0
 IsMatchingOf lines setup (Matched plan) = IsWiredBy lines setup plan
 IsMatchingOf lines setup (Differs plan missing extra) = DiffersBy lines setup plan missing extra
+
+-- the plan that an answer tells
+abbrev pub plan_told : Matching → Lists
+plan_told (Matched plan) = plan
+plan_told (Differs plan missing extra) = plan
 
 -- an answer tells that the setup is wired for the chart
 abbrev pub IsMatched : Matching → Type 0

@@ -1,9 +1,11 @@
 //! A setup beside a chart.
 
 ghost use Rattle.std.specs.Prelude.{IfOk};
-ghost use Rattle.matching.specs.Answers.{IsMatched, IsMatchingOf};
+ghost use Rattle.matching.specs.Answers.{IsMatched, IsMatchingOf, plan_told};
+ghost use Rattle.panel_plans.specs.NamingWires.{ShowsPartsOf};
 ghost use Rattle.panel_plans.specs.Wired.{IsWiredBy};
-ghost use Rattle.plans.specs.Plans.{IsFor, Lists};
+ghost use Rattle.plans.specs.Plans.{Lists, ServesChart};
+ghost use Rattle.setups.specs.Wiring.{Wiring};
 
 use crate::answer::Matching;
 use chart_rules::Chart;
@@ -16,16 +18,20 @@ use wire_gen::wire;
 
 /// What is found of a setup beside a chart, of which a plan is given. `Matched` tells a plan of the chart by which the setup is wired for
 /// it, and where there is such a plan, one is found. `Differs` tells a plan by which the setup is not wired for the chart, and exactly what
-/// is missing and what is too much by this plan. Its only refusal is memory.
+/// is missing and what is too much by this plan. If the setup differs from one that is wired for the chart by some plan only in wires that
+/// name no part, in jacks and in its tape, the plan told is one by which that one is wired: so exactly what was changed is told. Its only
+/// refusal is memory.
 pub fn match_setup(
     alloc: Global,
     chart: &Chart,
     own: &Plan,
     setup: &Setup,
 ) -> Result<Matching, AllocError>
-    requires { IsFor chart.now.lines own.now }
+    requires { ServesChart chart.now.lines own.now }
     ensures told { IfOk result (IsMatchingOf chart.now.lines setup.now) }
     ensures found { IfOk result (λ matching. (its : Lists) → IsWiredBy chart.now.lines setup.now its → IsMatched matching) }
+    ensures shown { IfOk result (λ matching. (other : Wiring) (its : Lists) → ShowsPartsOf chart.now.lines setup.now other its
+        → IsWiredBy chart.now.lines other (plan_told matching)) }
 {
     let plan = read_plan(alloc, chart, own, setup)?;
     let wanted = wire(alloc, chart, &plan)?;

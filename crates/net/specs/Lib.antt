@@ -12,3 +12,4 @@ pub mod Printing
 pub mod RowSets
 pub mod WholeCycles
 pub mod Nothing
+pub mod Units

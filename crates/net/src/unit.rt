@@ -4,6 +4,7 @@ ghost use Rattle.std.specs.Prelude.{◌≡◌, ℕ, Bool};
 ghost use Rattle.hubs.specs.declared.hub.Hub.{Hub};
 ghost use Rattle.card_code.specs.declared.row.Row.{Row as CardRow};
 ghost use Rattle.net.specs.HubSets.{GainsHubs, has_hub};
+ghost use Rattle.net.specs.Units.{KeepsToItsOwn};
 ghost use Rattle.net.specs.declared.cycle.Cycle.{Cycle};
 ghost use Rattle.net.specs.declared.cycle.Point.{Point};
 ghost use Rattle.net.specs.declared.cycle.Point.TheVariants.{Row};
@@ -44,6 +45,10 @@ pub trait Unit {
     /// Ends a cycle.
     fn end_cycle(&mut self, cycle: Cycle)
         ensures { self.new ≡ ended self.old cycle };
+
+    // It emits at exits of its own, closes contacts of its own and senses entries of its own alone, and keeps its number.
+    ghost keeps_to_its_own: { KeepsToItsOwn
+        (record { emits = emits; closes = closes; sensed = sensed; ended = ended; number = number }) };
 
     ghost emits_steadily: { (unit : Self) (cycle : Cycle) (at other : CardRow) (picture : Hub → Bool) (hub : Hub)
         → emits (sensed unit cycle (Row at) picture) cycle (Row other) hub ≡ emits unit cycle (Row other) hub };

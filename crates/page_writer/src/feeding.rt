@@ -124,6 +124,7 @@ pub(crate) fn end_pages<S: Sink + Drop>(
     requires fits { out.old.has_failed ≡ false → total out.old + length (last_end form_lines line) < 2 ^ 64 }
     ensures bytes { Takes S.held S.has_failed (last_end form_lines line) result out.old out.new }
     ensures all { OnOk result (out.new.waiting ≡ []) }
+    ensures flushed { OnOk result (S.is_flushed out.new.sink ≡ true) }
     ensures same { S.borrow out.new.sink ≡ S.borrow out.old.sink }
     ensures again { out.old.has_failed ≡ true → IsErr result × (out.new ≡ out.old) }
 {

@@ -10,7 +10,7 @@
 //! ```
 //!
 //! `specs/` has what is written so far of the pages of lines, what a line adds to it, and what goes out to a sink. The contracts of
-//! [`laws`] join these to the pages of `page_text`.
+//! [`laws`] join these to the pages of `page_text`. The sinks of `devices` are offered here too.
 #![tactic(auto)]
 
 mod fault;
@@ -19,5 +19,6 @@ pub mod laws;
 mod outlet;
 mod writer;
 
+pub use devices::{DeviceFailed, Sink, ToWrite};
 pub use fault::WriteFault;
 pub use writer::{Finished, PageWriter, write_pages};

@@ -120,6 +120,7 @@ impl<S: Sink + Drop> Outlet<S> {
     pub(crate) fn flush(&mut self) -> Result<(), WriteFault>
         ensures bytes { Takes S.held S.has_failed [] result self.old self.new }
         ensures waiting { self.new.waiting ≡ self.old.waiting }
+        ensures flushed { OnOk result (S.is_flushed self.new.sink ≡ true) }
         ensures same { S.borrow self.new.sink ≡ S.borrow self.old.sink }
     {
         if self.sink.flush().is_err() {

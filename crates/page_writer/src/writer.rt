@@ -188,6 +188,7 @@ impl<S: Sink + Drop> PageWriter<S> {
     pub fn end(&mut self) -> Result<(), WriteFault>
         ensures bytes { Takes S.held S.has_failed (last_end self.old.form_lines self.old.line) result self.old.out self.new.out }
         ensures all { OnOk result (self.new.out.waiting ≡ []) }
+        ensures flushed { OnOk result (S.is_flushed self.new.out.sink ≡ true) }
         ensures page { OnOk result (self.new.page ≡ (if self.old.line == 0 then self.old.page else self.old.page + 1)) }
         ensures line { OnOk result (self.new.line ≡ 0) }
         ensures stays { OnErr result ((self.new.page ≡ self.old.page) × (self.new.line ≡ self.old.line)) }
@@ -206,6 +207,7 @@ impl<S: Sink + Drop> PageWriter<S> {
     /// Ends the pages as `end` does, and hands the sink back, also where it has failed.
     pub fn finish(mut self) -> Finished<S>
         ensures bytes { HandsBack S.held S.has_failed (last_end self.form_lines self.line) result.ended self.out result.sink }
+        ensures flushed { OnOk result.ended (S.is_flushed result.sink ≡ true) }
         ensures again { self.out.has_failed ≡ true → IsErrAnd result.ended (λ fault. fault.written ≡ self.out.written)
             × (result.sink ≡ self.out.sink) }
         ensures same { S.borrow result.sink ≡ S.borrow self.out.sink }
@@ -230,7 +232,8 @@ pub fn write_pages<S: Sink>(
 ) -> Result<(), WriteFault>
     requires few { form_lines ≤ 144 }
     requires order { IsInOrder form_lines lines.now }
-    ensures { Writes (Pages lines.now form_lines) result (S.held sink.old) (S.held sink.new) (S.has_failed sink.new) }
+    ensures bytes { Writes (Pages lines.now form_lines) result (S.held sink.old) (S.held sink.new) (S.has_failed sink.new) }
+    ensures flushed { OnOk result (S.is_flushed sink.new ≡ true) }
 {
     let mut pages = PageWriter::new(sink, form_lines);
     // After a failure the end of the pages fails alike.

@@ -3,7 +3,7 @@ use Rattle.std.proofs.Common.{◌≡◌, ◌∙◌, refl, ap, ℕ, ◌^◌, ◌�
 use Rattle.std.proofs.Math.Nat.{pow-le-pow_right}
 use Rattle.wired_panels.specs.Below.wanted.ChartTotals.{need_of}
 use Rattle.wired_panels.specs.Below.field_rules.Coupled.{has_sign}
-use Rattle.wired_panels.specs.Below.plans.Plans.{Lists, IsFor}
+use Rattle.wired_panels.specs.Below.plans.Plans.{Lists, ServesChart}
 use Rattle.wired_panels.specs.Below.field_rules.Fields.{field_named}
 use Rattle.wired_panels.specs.Below.chart_rules.Rules.{IsLawful}
 use Rattle.wired_panels.specs.Below.charts.Chart.{Chart, NumbersRise}
@@ -11,7 +11,7 @@ use Rattle.wired_panels.specs.Below.charts.Field.{columns_of, sign_column}
 use Rattle.wired_panels.specs.Below.charts.declared.statement.Field.{Field}
 use Rattle.wired_panels.specs.Below.charts.declared.statement.FieldKind.{FieldKind}
 use Rattle.wired_panels.specs.Below.charts.declared.statement.FieldKind.TheVariants as holds
-use Rattle.line_places.specs.Below.report.Amounts.{digits_on, is_negated, number_in}
+use Rattle.report.specs.Amounts.{digits_on, is_negated, number_in}
 use Rattle.totals.specs.Amounts.{IsOnCard, HasGroups}
 use Rattle.printed_lines.specs.Below.wiring_table.Figures.{IsAmount}
 use Rattle.panel_cycles.proofs.AmountFacts.{counter_at, digits_are, has_from}
@@ -34,7 +34,7 @@ enough_room need (of.Coupled lower upper) enough =
 
 -- The amounts of a lawful chart with a plan are lawful.
 pub lawful_amount : (chart : Chart) (plan : Lists) (name : List ℕ) → IsLawful chart → NumbersRise chart.lines chart.end
-    → IsFor chart.lines plan → HasGroups (amount_of chart.lines plan name)
+    → ServesChart chart.lines plan → HasGroups (amount_of chart.lines plan name)
 lawful_amount chart plan name lawful rise planned = record {
   room = λ level from has.
       let (number, total) = has_from chart.lines plan name level has in

@@ -1,6 +1,4 @@
-pub use Rattle.totals.proofs.Below.counter_cycles
 pub use Rattle.wired_panels.proofs.Below.field_rules
-pub use Rattle.line_places.proofs as line_places
 pub use Rattle.wired_panels.proofs.Below.machine
 pub use Rattle.wired_panels.proofs.Below.plans
 pub use Rattle.printed_lines.proofs as printed_lines

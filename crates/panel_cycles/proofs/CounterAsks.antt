@@ -1,8 +1,8 @@
 -- What is asked of the counter of a total in a cycle, by the pictures of the cycle.
 use Rattle.std.proofs.Common.{◌≡◌, ◌∙◌, refl, sym, ap, subst, ℕ, ◌^◌, ◌<◌, ◌==◌, ◌&&◌, Bool, true, false, List, Some, arith, if◌then◌else◌}
 use Rattle.std.proofs.lemmas.Bool.Decides.{nat_tests}
-use Rattle.totals.specs.Below.counter_cycles.Acts.{Act, Held, act_controls, digit_of}
-use Rattle.totals.specs.Below.counter_cycles.Acts.Act.{Still}
+use Rattle.totals.specs.CounterCycles.Acts.{Act, Held, act_controls, digit_of}
+use Rattle.totals.specs.CounterCycles.Acts.Act.{Still}
 use Rattle.wired_panels.specs.Below.field_rules.Coupled.{has_sign}
 use Rattle.wired_panels.specs.Below.plans.Plans.{Lists}
 use Rattle.wired_panels.specs.Below.field_rules.Fields.{field_named}
@@ -19,7 +19,7 @@ use Rattle.totals.specs.Below.net.declared.cycle.ProgramLevel.{ProgramLevel}
 use Rattle.totals.specs.Below.net.declared.cycle.Ordinal.{Ordinal}
 use Rattle.totals.specs.Below.net.declared.cycle.Ordinal.TheVariants.{First, Second, Third}
 use Rattle.totals.specs.Below.net.declared.cycle.Point.{Point}
-use Rattle.line_places.specs.Below.report.Amounts.{digits_on, number_in, is_negated}
+use Rattle.report.specs.Amounts.{digits_on, number_in, is_negated}
 use Rattle.totals.specs.Amounts.{Amount, IsSmall, Kind, act_of, lower}
 use Rattle.totals.specs.Amounts.Kind.{Entry, Prog as ProgKind, Other}
 use Rattle.printed_lines.specs.Below.wiring_table.Figures.{IsAmount}

@@ -6,8 +6,8 @@ use Rattle.std.proofs.lemmas.List.FromFn.{get_or-map-range_with_len, length-map-
 use Rattle.std.proofs.lemmas.List.Sums.{sum_by-cons}
 use Rattle.std.specs.List.{count_by, range_with_len}
 use Rattle.std.proofs.lemmas.Bool.{both_ways}
-use Rattle.totals.proofs.Below.counter_cycles.ShownLemmas.{digits-tell}
-use Rattle.totals.specs.Below.counter_cycles.Acts.{digit_of}
+use Rattle.totals.proofs.CounterCycles.ShownLemmas.{digits-tell}
+use Rattle.totals.specs.CounterCycles.Acts.{digit_of}
 use Rattle.wired_panels.specs.Below.card_code.CardCode.{has_row}
 use Rattle.wired_panels.specs.Below.card_code.Rows.{row_number}
 use Rattle.wired_panels.specs.Below.card_code.declared.row.Row.{Row as CardRow}
@@ -19,7 +19,7 @@ use Rattle.wired_panels.specs.Below.charts.declared.statement.Field.{Field}
 use Rattle.totals.proofs.Below.counters.NumberLemmas.{number-lt}
 use Rattle.totals.specs.Below.counters.Laws.{IsDigit}
 use Rattle.totals.specs.Below.counters.Numbers.{number}
-use Rattle.line_places.specs.Below.report.Amounts.{digit_in, digits_on, number_in}
+use Rattle.report.specs.Amounts.{digit_in, digits_on, number_in}
 use Rattle.printed_lines.specs.Below.wiring_table.Figures.{IsAmount}
 use Rattle.wired_panels.proofs.Ways.{same_tests}
 use Rattle.wired_panels.proofs.Below.charts.Listed.{found-listed, listed-cases, listed-within}

@@ -2,11 +2,11 @@
 use Rattle.std.proofs.Common.{◌≡◌, ◌∙◌, refl, sym, ap, subst, ℕ, ◌+◌, ◌-◌, ◌^◌, ◌<◌, ◌≤◌, ◌==◌, nat_le, ◌&&◌, Bool, true, false, List, Contains, Some, length, All, arith, option_map, inl, inr}
 use Rattle.std.proofs.lemmas.Bool.Decides.{nat_tests}
 use Rattle.std.proofs.lemmas.Option.{same_Some, slice_get_read}
-use Rattle.totals.proofs.Below.counter_cycles.DigitLemmas.{digit_of-above, digit_of-below, number-within}
-use Rattle.totals.proofs.Below.counter_cycles.PairLemmas.{digit_of-above_width}
+use Rattle.totals.proofs.CounterCycles.DigitLemmas.{digit_of-above, digit_of-below, number-within}
+use Rattle.totals.proofs.CounterCycles.PairLemmas.{digit_of-above_width}
 use Rattle.std.proofs.lemmas.Nat.{div-mul-add}
-use Rattle.totals.proofs.Below.counter_cycles.ShownLemmas.{digits-tell}
-use Rattle.totals.specs.Below.counter_cycles.Acts.{digit_of}
+use Rattle.totals.proofs.CounterCycles.ShownLemmas.{digits-tell}
+use Rattle.totals.specs.CounterCycles.Acts.{digit_of}
 use Rattle.wired_panels.specs.Below.plans.Plans.{Lists}
 use Rattle.wired_panels.specs.Below.card_code.CardCode.{has_row}
 use Rattle.wired_panels.specs.Below.card_code.Rows.{row_number}
@@ -37,7 +37,7 @@ use Rattle.totals.specs.Below.net.declared.cycle.ProgramLevel.{ProgramLevel}
 use Rattle.totals.specs.Below.net.declared.cycle.Ordinal.TheVariants.{Second, Third}
 use Rattle.totals.specs.Below.net.declared.cycle.Point.{Point}
 use Rattle.totals.specs.Below.net.declared.cycle.Point.TheVariants.{C, Row}
-use Rattle.line_places.specs.Below.report.Amounts.{digits_on, number_in}
+use Rattle.report.specs.Amounts.{digits_on, number_in}
 use Rattle.wired_panels.specs.Below.stations.Punches.{is_punched_at, is_punched}
 use Rattle.wired_panels.specs.Below.whole_cycles.Between.{IsIdle}
 use Rattle.wired_panels.specs.Below.whole_cycles.Units.{group_at}

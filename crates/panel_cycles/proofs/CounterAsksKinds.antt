@@ -2,8 +2,8 @@
 use Rattle.std.proofs.Common.{◌≡◌, ◌∙◌, refl, sym, ap, ℕ, ◌≤◌, ◌==◌, ◌&&◌, not, Bool, true, false, List, Some, arith, if◌then◌else◌}
 use Rattle.std.proofs.lemmas.Bool.Decides.{nat_tests}
 use Rattle.std.proofs.lemmas.Bool.{not-true, false_from_ne_true, both_ways}
-use Rattle.totals.specs.Below.counter_cycles.Acts.{Act, act_controls, IsControlled}
-use Rattle.totals.specs.Below.counter_cycles.Acts.Act.{Still}
+use Rattle.totals.specs.CounterCycles.Acts.{Act, act_controls, IsControlled}
+use Rattle.totals.specs.CounterCycles.Acts.Act.{Still}
 use Rattle.totals.specs.Below.counters.declared.controls.Controls.{Controls}
 use Rattle.wired_panels.specs.Below.field_rules.Coupled.{has_sign}
 use Rattle.wired_panels.specs.Below.plans.Plans.{Lists}
@@ -20,7 +20,7 @@ use Rattle.wired_panels.specs.Below.machine.Machine.{MachineState}
 use Rattle.totals.specs.Below.net.declared.cycle.Cycle.TheVariants.{Card}
 use Rattle.totals.specs.Below.net.declared.cycle.Point.{Point}
 use Rattle.totals.specs.Below.net.declared.cycle.Point.TheVariants.{C}
-use Rattle.line_places.specs.Below.report.Amounts.{is_negated, is_negative_by}
+use Rattle.report.specs.Amounts.{is_negated, is_negative_by}
 use Rattle.totals.specs.Amounts.{lower, posted}
 use Rattle.printed_lines.specs.Below.wiring_table.Figures.{IsAmount, IsSigned, rule_of}
 use Rattle.printed_lines.specs.Below.wiring_table.Parts.{IsLowest, pilot_for, top_for}

@@ -2,8 +2,8 @@
 use Rattle.std.proofs.Common.{◌≡◌, ◌∙◌, refl, sym, ap, subst, ℕ, ◌<◌, ◌≤◌, ◌==◌, ◌&&◌, not, Bool, true, false, List, Some, option_map, arith, if◌then◌else◌}
 use Rattle.std.proofs.lemmas.Bool.{not-true, false_from_ne_true}
 use Rattle.std.proofs.lemmas.Bool.Decides.{nat_tests}
-use Rattle.totals.specs.Below.counter_cycles.Acts.{Act, Held, act_controls}
-use Rattle.totals.specs.Below.counter_cycles.Acts.Act.{Still, Test, Turn, Show}
+use Rattle.totals.specs.CounterCycles.Acts.{Act, Held, act_controls}
+use Rattle.totals.specs.CounterCycles.Acts.Act.{Still, Test, Turn, Show}
 use Rattle.wired_panels.specs.Below.field_rules.Coupled.{has_sign}
 use Rattle.wired_panels.specs.Below.plans.Plans.{Lists}
 use Rattle.wired_panels.specs.Below.field_rules.Fields.{field_named}

@@ -7,8 +7,8 @@ use Rattle.wired_panels.specs.Below.card_code.declared.row.Row.{Row as CardRow}
 use Rattle.wired_panels.specs.Below.chart_rules.Rules.{IsLawful}
 use Rattle.wired_panels.specs.Below.charts.Chart.{Chart}
 use Rattle.wired_panels.specs.Below.charts.declared.chart.Line.{Line}
-use Rattle.totals.specs.Below.counter_cycles.Acts.{Act, Entered, Held, Spells, act_controls}
-use Rattle.totals.specs.Below.counter_cycles.Pairs.{EnteredInBoth, SpellInBoth}
+use Rattle.totals.specs.CounterCycles.Acts.{Act, Entered, Held, Spells, act_controls}
+use Rattle.totals.specs.CounterCycles.Pairs.{EnteredInBoth, SpellInBoth}
 use Rattle.totals.specs.Below.counters.Numbers.{number}
 use Rattle.wired_panels.specs.Below.whole_cycles.Units.{group_at}
 use Rattle.wired_panels.specs.Below.hubs.declared.hub.Group.{Group}
@@ -17,7 +17,7 @@ use Rattle.wired_panels.specs.Below.hubs.declared.hub.Hub.TheVariants.{GE}
 use Rattle.wired_panels.specs.Below.machine.Machine.{MachineState}
 use Rattle.totals.specs.Below.net.declared.cycle.Point.{Point}
 use Rattle.totals.specs.Below.net.declared.cycle.Point.TheVariants.{Row}
-use Rattle.wired_panels.specs.Below.plans.Plans.{IsFor, Lists}
+use Rattle.wired_panels.specs.Below.plans.Plans.{Lists, ServesChart}
 use Rattle.wired_panels.specs.Below.plans.declared.counter.TotalCounter.{TotalCounter}
 use Rattle.wired_panels.specs.Below.plans.declared.counter.TotalCounter.TheVariants as of
 use Rattle.printed_lines.specs.Below.wiring_table.Parts.{HasPanelGroup, IsPlaceOf, ServesPosition, StandsAt, counter_for, panel_group, top_for, top_group}
@@ -74,7 +74,7 @@ position_some counter position group place at = by counter at.from at.at
 
 -- a place serves one position of a total
 pub same_position : (lines : List Line) (plan : Lists) {name : List ℕ} {level position other : ℕ} {group : Group} {place : ℕ}
-    → IsFor lines plan → IsPlaceFor lines plan name level position group place → IsPlaceFor lines plan name level other group place
+    → ServesChart lines plan → IsPlaceFor lines plan name level position group place → IsPlaceFor lines plan name level other group place
     → position ≡ other
 same_position lines plan {position = position} {other = other} {group = group} {place = place} planned one and_other =
     let numbers = serves-own lines plan planned one.number and_other.number group

@@ -8,9 +8,9 @@ use Rattle.wired_panels.specs.Below.setups.Wiring.{Wiring, is_plugged}
 use Rattle.wired_panels.specs.Below.hubs.declared.jack.Jack.{Jack}
 use Rattle.wired_panels.specs.Below.hubs.declared.jack.Jack.TheVariants as jack
 use Rattle.totals.specs.Below.net.Printing.{printing_of}
-use Rattle.line_places.specs.Placing.{IsFormOf, printing_of_chart}
+use Rattle.panel_cycles.specs.LinePlaces.Placing.{IsFormOf, printing_of_chart}
 use Rattle.printed_lines.specs.Shown.{HasJacksOf}
-use Rattle.line_places.specs.Below.report.ChartForm.{heading_count, prints_details, prints_totals}
+use Rattle.report.specs.ChartForm.{heading_count, prints_details, prints_totals}
 use Rattle.printed_lines.specs.Below.wiring_table.Jacks.{ChartJack}
 use Rattle.printed_lines.specs.Below.wiring_table.Jacks.ChartJack.{list, total, head}
 use Rattle.wired_panels.proofs.Ways.{same_tests}

@@ -23,3 +23,4 @@ pub mod WheelRowsTotal
 pub mod WheelRowsTotalLine
 pub mod Rings
 mod CycleLaws
+pub mod LinePlaces

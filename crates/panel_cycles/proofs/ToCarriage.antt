@@ -2,13 +2,13 @@
 -- other cycles.
 use Rattle.std.proofs.Common.{◌≡◌, ◌≢◌, ◌∙◌, refl, sym, ap, subst, ℕ, zero, suc, ◌+◌, ◌≤◌, ◌<◌, Bool, true, false, List, Contains, Option, Some, None, ◌↔◌, arith, if◌then◌else◌}
 use Rattle.wired_panels.specs.Below.plans.Plans.{Lists}
-use Rattle.line_places.specs.Below.carriage.declared.asked.Asked.{Asked}
-use Rattle.line_places.specs.CarriageCycles.{carriage_after}
+use Rattle.carriage.specs.declared.asked.Asked.{Asked}
+use Rattle.panel_cycles.specs.LinePlaces.CarriageCycles.{carriage_after}
 use Rattle.wired_panels.specs.Below.whole_cycles.Between.{IsBetween}
 use Rattle.wired_panels.specs.Below.whole_cycles.WholeCycles.{WholeCycle}
 use Rattle.wired_panels.specs.Panel.{IsPanel}
 use Rattle.wired_panels.proofs.AfterCycles.{cycle-of}
-use Rattle.line_places.specs.Below.carriage.Asked.{asked_by, nothing_asked, lowest_from, channel_asked, lines_asked}
+use Rattle.carriage.specs.Asked.{asked_by, nothing_asked, lowest_from, channel_asked, lines_asked}
 use Rattle.wired_panels.specs.Below.charts.Chart.{Chart}
 use Rattle.wired_panels.specs.Below.charts.Levels.{level_number}
 use Rattle.wired_panels.specs.Below.charts.Spacings.{spacing_number}
@@ -35,13 +35,13 @@ use Rattle.totals.specs.Below.net.declared.cycle.ProgramLevel.TheVariants.{Minor
 use Rattle.totals.specs.Below.net.declared.cycle.Ordinal.TheVariants.{First, Second, Third}
 use Rattle.totals.specs.Below.net.declared.cycle.Point.{Point}
 use Rattle.totals.specs.Below.net.declared.cycle.Point.TheVariants.{C}
-use Rattle.line_places.proofs.LawfulForms.{form-lawful}
-use Rattle.line_places.specs.Placing.{kind_of, asked_of, channel_of, turns_page}
-use Rattle.line_places.specs.Below.report.ChartForm.{kind_number, spacing_of, after_of}
+use Rattle.panel_cycles.proofs.LinePlaces.LawfulForms.{form-lawful}
+use Rattle.panel_cycles.specs.LinePlaces.Placing.{kind_of, asked_of, channel_of, turns_page}
+use Rattle.report.specs.ChartForm.{kind_number, spacing_of, after_of}
 use Rattle.printed_lines.specs.Below.wiring_table.Parts.{source_of}
 use Rattle.printed_lines.specs.Below.wiring_table.Wires.{LineWire}
 use Rattle.printed_lines.specs.Below.wiring_table.Wires.LineWire.{double_space, triple_space, page, skip}
-use Rattle.line_places.proofs.Below.report.Said.{SaysSpace, SaysAfter, after-said, space-said}
+use Rattle.report.proofs.Said.{SaysSpace, SaysAfter, after-said, space-said}
 use Rattle.wired_panels.proofs.SaidOnce.{said-once, space-is, after-is}
 use Rattle.wired_panels.proofs.Straight.{at_control}
 use Rattle.wired_panels.specs.PanelCycles.{IsPanelCycle, ArrivesAtControl}

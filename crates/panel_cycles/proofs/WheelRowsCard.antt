@@ -29,8 +29,8 @@ use Rattle.wired_panels.specs.Below.machine.Machine.{closes}
 use Rattle.totals.specs.Below.net.declared.cycle.Point.TheVariants.{Row}
 use Rattle.printed_lines.specs.Shown.Shown.{Characters}
 use Rattle.printed_lines.specs.Shown.{digit_set, card_sends}
-use Rattle.line_places.specs.Below.report.Amounts.{columns_in, digits_on, is_negated, is_negative_by}
-use Rattle.line_places.specs.Below.report.BodyLines.{is_shown}
+use Rattle.report.specs.Amounts.{columns_in, digits_on, is_negated, is_negative_by}
+use Rattle.report.specs.BodyLines.{is_shown}
 use Rattle.wired_panels.specs.Below.selectors.Indicate.{is_latch_set}
 use Rattle.wired_panels.specs.Below.selectors.Pilots.{is_normal, is_transferred}
 use Rattle.wired_panels.specs.Below.selectors.Splits.{is_digit_row}

@@ -3,7 +3,7 @@ use Rattle.std.proofs.Common.{◌≡◌, ◌≢◌, ◌∙◌, refl, sym, ap, su
 use Rattle.std.proofs.lemmas.Bool.Decides.{nat_tests}
 use Rattle.std.proofs.lemmas.Option.{slice_get_within}
 use Rattle.std.proofs.lemmas.List.{length-map}
-use Rattle.wired_panels.specs.Below.plans.Plans.{IsFor, Lists}
+use Rattle.wired_panels.specs.Below.plans.Plans.{Lists, ServesChart}
 use Rattle.wired_panels.specs.Below.wanted.Units.{is_inside}
 use Rattle.wired_panels.specs.Below.wanted.Wanted.{indicate_at}
 use Rattle.wired_panels.specs.Below.card_code.CardCode.{has_row}
@@ -40,8 +40,8 @@ use Rattle.totals.specs.Below.net.declared.cycle.Cycle.{Cycle}
 use Rattle.printed_lines.specs.Below.print_unit.Emitters.{emitter_of}
 use Rattle.printed_lines.specs.Shown.Shown.{Characters}
 use Rattle.printed_lines.specs.Shown.{Shown, set_of_character, digit_set, card_sends, field_sends}
-use Rattle.line_places.specs.Below.report.Amounts.{columns_in, digits_on, is_negated}
-use Rattle.line_places.specs.Below.report.BodyLines.{is_shown}
+use Rattle.report.specs.Amounts.{columns_in, digits_on, is_negated}
+use Rattle.report.specs.BodyLines.{is_shown}
 use Rattle.wired_panels.specs.Below.selectors.Indicate.{is_latch_set}
 use Rattle.wired_panels.specs.Below.selectors.Splits.{is_digit_row}
 use Rattle.printed_lines.specs.Below.wiring_table.Figures.IsFigure.{on_detail as figure_on_detail}

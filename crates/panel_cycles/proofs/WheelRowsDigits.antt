@@ -11,7 +11,7 @@ use Rattle.wired_panels.specs.Below.card_code.Rows.{row_number}
 use Rattle.wired_panels.specs.Below.card_code.declared.row.Row.{Row as CardRow}
 use Rattle.wired_panels.specs.Below.chart_rules.ValidCard.{digit_count, digit_rows}
 use Rattle.printed_lines.specs.Shown.{set_of_character, digit_set}
-use Rattle.line_places.specs.Below.report.Amounts.{digit_in}
+use Rattle.report.specs.Amounts.{digit_in}
 use Rattle.wired_panels.specs.Below.selectors.Splits.{is_digit_row}
 use Rattle.panel_cycles.proofs.WheelRows.{no_rows}
 

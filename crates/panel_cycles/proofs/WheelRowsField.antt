@@ -24,8 +24,8 @@ use Rattle.wired_panels.specs.Below.charts.declared.statement.Mark.{Mark}
 use Rattle.wired_panels.specs.Below.charts.declared.statement.Statement.TheVariants as says
 use Rattle.printed_lines.specs.Shown.Shown.{Characters}
 use Rattle.printed_lines.specs.Shown.{Shown, card_sends, field_sends}
-use Rattle.line_places.specs.Below.report.Amounts.{columns_in, digits_on, digit_in, is_negated}
-use Rattle.line_places.specs.Below.report.BodyLines.{is_shown}
+use Rattle.report.specs.Amounts.{columns_in, digits_on, digit_in, is_negated}
+use Rattle.report.specs.BodyLines.{is_shown}
 use Rattle.wired_panels.specs.Below.selectors.Splits.{is_digit_row}
 use Rattle.printed_lines.specs.Below.wiring_table.Figures.{IsAmount}
 use Rattle.wired_panels.proofs.Below.chart_rules.Laws.{IsGoodField}

@@ -12,7 +12,7 @@ use Rattle.wired_panels.specs.Below.charts.Field.{columns_of}
 use Rattle.wired_panels.specs.Below.charts.declared.statement.Field.{Field}
 use Rattle.printed_lines.specs.Shown.Shown.{Characters}
 use Rattle.printed_lines.specs.Shown.{Shown, set_of_character, sets_of, wheel_of_shown}
-use Rattle.line_places.specs.Below.report.Amounts.{columns_in}
+use Rattle.report.specs.Amounts.{columns_in}
 use Rattle.printed_lines.specs.Below.wiring_table.Figures.{HasPunch, HasPunchAt}
 use Rattle.panel_cycles.proofs.WheelRows.{stands_on, sent_on, no_rows}
 

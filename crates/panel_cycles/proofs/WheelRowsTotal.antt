@@ -2,8 +2,8 @@
 use Rattle.std.proofs.Common.{◌≡◌, ◌∙◌, refl, sym, ap, subst, ℕ, ◌+◌, ◌-◌, ◌<◌, ◌≤◌, ◌==◌, ◌&&◌, ◌||◌, not, nat_lt, Bool, true, false, cond, List, Contains, Option, Some, None, is_some, length, map, slice_get, get_or, option_map, arith}
 use Rattle.std.proofs.lemmas.Bool.Decides.{nat_tests}
 use Rattle.std.proofs.lemmas.List.{length-map, get_or-map}
-use Rattle.totals.proofs.Below.counter_cycles.DigitLemmas.{digit_of-small}
-use Rattle.totals.specs.Below.counter_cycles.Acts.{digit_of}
+use Rattle.totals.proofs.CounterCycles.DigitLemmas.{digit_of-small}
+use Rattle.totals.specs.CounterCycles.Acts.{digit_of}
 use Rattle.wired_panels.specs.Below.card_code.CardCode.{has_row}
 use Rattle.wired_panels.specs.Below.card_code.Rows.{row_number}
 use Rattle.wired_panels.specs.Below.field_rules.Digits.{is_out_of_digits}
@@ -35,8 +35,8 @@ use Rattle.totals.specs.Below.net.declared.cycle.Ordinal.TheVariants.{Third}
 use Rattle.totals.specs.Below.net.declared.cycle.Point.TheVariants.{C, Row}
 use Rattle.printed_lines.specs.Shown.Shown.{Characters}
 use Rattle.printed_lines.specs.Shown.{Shown, Printed, digit_set, total_sends}
-use Rattle.line_places.specs.Below.report.Amounts.{columns_in}
-use Rattle.line_places.specs.Below.report.Edits.{last_digits}
+use Rattle.report.specs.Amounts.{columns_in}
+use Rattle.report.specs.Edits.{last_digits}
 use Rattle.wired_panels.specs.Below.storage_units.Storage.{StorageState, holds as holds_row}
 use Rattle.wired_panels.proofs.Below.whole_cycles.Units.{units-by_name}
 use Rattle.std.proofs.lemmas.Option.{same_Some}
@@ -53,7 +53,7 @@ use Rattle.wired_panels.proofs.Below.charts.Rising as rising
 use Rattle.wired_panels.proofs.Below.chart_rules.Laws.{good-field}
 use Rattle.printed_lines.proofs.Below.wiring_table.Groups as groups
 use Rattle.printed_lines.proofs.Below.wiring_table.Parts as parts
-use Rattle.line_places.proofs.Below.report.EditLaws.{last_digits-length}
+use Rattle.report.proofs.EditLaws.{last_digits-length}
 use Rattle.wired_panels.proofs.SpeakersLawful.{kept-at}
 use Rattle.panel_cycles.proofs.CounterAsksEntries.{counter_digit}
 use Rattle.panel_cycles.proofs.WheelRows.{SendsRow}

@@ -2,7 +2,7 @@
 use Rattle.std.proofs.Common.{◌≡◌, ◌∙◌, refl, sym, ap, subst, ℕ, ◌+◌, ◌<◌, ◌≤◌, ◌==◌, Bool, true, false, cond, List, Contains, Option, Some, None, length, map, slice_get, option_map, arith}
 use Rattle.std.proofs.lemmas.Bool.Decides.{nat_tests}
 use Rattle.std.proofs.lemmas.List.{length-map}
-use Rattle.totals.specs.Below.counter_cycles.Acts.{digit_of}
+use Rattle.totals.specs.CounterCycles.Acts.{digit_of}
 use Rattle.wired_panels.specs.Below.card_code.CardCode.{has_row}
 use Rattle.wired_panels.specs.Below.card_code.Rows.{row_number}
 use Rattle.wired_panels.specs.Below.field_rules.Fields.{field_named, fields_of}
@@ -39,8 +39,8 @@ use Rattle.totals.specs.Below.net.declared.cycle.Point.TheVariants.{C}
 use Rattle.printed_lines.specs.Below.print_unit.Emitters.{emitter_of}
 use Rattle.printed_lines.specs.Shown.Shown.{Characters}
 use Rattle.printed_lines.specs.Shown.{Shown, Printed, set_of_character, total_sends}
-use Rattle.line_places.specs.Below.report.Amounts.{columns_in}
-use Rattle.line_places.specs.Below.report.Edits.{last_digits}
+use Rattle.report.specs.Amounts.{columns_in}
+use Rattle.report.specs.Edits.{last_digits}
 use Rattle.wired_panels.proofs.Below.whole_cycles.Units.{units-by_name}
 use Rattle.wired_panels.specs.Below.whole_cycles.Units.{group_at, storage_at}
 use Rattle.printed_lines.specs.Below.wiring_table.Figures.IsFigure.{on_total as figure_on_total}
@@ -71,7 +71,7 @@ use Rattle.panel_cycles.proofs.WheelRowsFigure.{FigureSends, amount_shown, figur
 use Rattle.panel_cycles.proofs.WheelRowsText.{literal-of, standing, columns-sent, columns-of}
 use Rattle.panel_cycles.proofs.WheelRowsTotal.{total-amount, total-digits, digits-long, digit-shown, held-digit, closed-BAT}
 use Rattle.panel_cycles.proofs.WheelRowsUnits.{group-named, group-listed, counter-is, unit-listed, unit-place}
-use Rattle.line_places.proofs.Below.report.EditLaws.{last_digits-length}
+use Rattle.report.proofs.EditLaws.{last_digits-length}
 
 -- what a total line's line sends
 pub record SendsTotal (lines : List Line) (number : ℕ) (held : List ℕ → Printed) (its : Level) (wheel : ℕ) (name : List ℕ) (digits : ℕ)

@@ -5,9 +5,9 @@ use Rattle.std.proofs.lemmas.Bool.Decides.{nat_tests}
 use Rattle.std.proofs.lemmas.List.{get_or-map}
 use Rattle.std.proofs.lemmas.List.FromFn.{get_or-range_with_len}
 use Rattle.std.proofs.lemmas.List.Elements.{Contains-get_or}
-use Rattle.totals.proofs.Below.counter_cycles.ShownLemmas.{digits-tell}
-use Rattle.totals.specs.Below.counter_cycles.Acts.{digit_of}
-use Rattle.wired_panels.specs.Below.plans.Plans.{Lists, IsFor}
+use Rattle.totals.proofs.CounterCycles.ShownLemmas.{digits-tell}
+use Rattle.totals.specs.CounterCycles.Acts.{digit_of}
+use Rattle.wired_panels.specs.Below.plans.Plans.{Lists, ServesChart}
 use Rattle.wired_panels.specs.Below.charts.declared.chart.Line.{Line}
 use Rattle.totals.specs.Below.counters.Counters.{Counter, counter_number, counter_of}
 use Rattle.totals.specs.Below.counters.Laws.{IsCounter}
@@ -15,7 +15,7 @@ use Rattle.totals.specs.Below.counters.Numbers.{number}
 use Rattle.wired_panels.specs.Below.hubs.declared.hub.Group.{Group}
 use Rattle.wired_panels.specs.Below.machine.Machine.{MachineState, group_units, storage_units}
 use Rattle.totals.specs.Below.net.Panel.{unit_of}
-use Rattle.line_places.specs.Below.report.Edits.{last_digits}
+use Rattle.report.specs.Edits.{last_digits}
 use Rattle.wired_panels.specs.Below.storage_units.Storage.{StorageState, storage_number, storage_at_start}
 use Rattle.wired_panels.proofs.Below.whole_cycles.Rings.{group-own as own}
 use Rattle.wired_panels.proofs.Below.whole_cycles.Places.{in_units, as_many, told_at}
@@ -32,7 +32,7 @@ storage-at : (k : ℕ) → k < 4 → get_or storage_units k 0 ≡ 35 + k
 storage-at k within = get_or-range_with_len 35 4 k 0 within
 
 -- a group of a total is one of the panel
-pub group-named : (lines : List Line) (plan : Lists) (number : ℕ) (group : Group) → IsFor lines plan
+pub group-named : (lines : List Line) (plan : Lists) (number : ℕ) (group : Group) → ServesChart lines plan
     → ServesTotal lines plan number group → IsGroup group
 group-named lines plan number group planned serves =
     let has = serves-there lines plan planned number group serves in

@@ -1,7 +1,7 @@
 -- What the counters of a chart's totals hold and are asked, and a cycle as these totals tell it apart.
 use Rattle.std.specs.Prelude.{ℕ, Bool, false, List, Option, Some, None}
-use Rattle.totals.specs.Below.counter_cycles.Acts.{Act, Asks, Held}
-use Rattle.totals.specs.Below.counter_cycles.Pairs.{AsksBoth}
+use Rattle.totals.specs.CounterCycles.Acts.{Act, Asks, Held}
+use Rattle.totals.specs.CounterCycles.Pairs.{AsksBoth}
 use Rattle.wired_panels.specs.Below.plans.Plans.{Lists}
 use Rattle.wired_panels.specs.Below.plans.declared.counter.TotalCounter.{TotalCounter}
 use Rattle.wired_panels.specs.Below.plans.declared.counter.TotalCounter.TheVariants as of
@@ -19,7 +19,7 @@ use Rattle.totals.specs.Below.net.declared.cycle.Cycle.TheVariants.{Card, Head, 
 use Rattle.totals.specs.Below.net.declared.cycle.Point.{Point}
 use Rattle.totals.specs.Below.net.declared.cycle.ProgramLevel.{ProgramLevel}
 use Rattle.totals.specs.Below.net.declared.cycle.Ordinal.{Ordinal}
-use Rattle.line_places.specs.Below.report.Amounts.{digits_on, is_negated, number_in}
+use Rattle.report.specs.Amounts.{digits_on, is_negated, number_in}
 use Rattle.wired_panels.specs.Below.selectors.Contacts.{is_balance_set}
 use Rattle.wired_panels.specs.Below.whole_cycles.Units.{group_at}
 use Rattle.totals.specs.Amounts.{Kind}

@@ -2,15 +2,15 @@
 use Rattle.std.specs.Prelude.{◌≡◌, ℕ, Bool, List, Some, None}
 use Rattle.wired_panels.specs.Below.plans.Plans.{Lists}
 use Rattle.wired_panels.specs.Below.plans.declared.counter.TotalCounter.{TotalCounter}
-use Rattle.line_places.specs.Below.carriage.Asked.{nothing_asked}
+use Rattle.carriage.specs.Asked.{nothing_asked}
 use Rattle.wired_panels.specs.Below.charts.Chart.{Chart, NumbersRise}
 use Rattle.wired_panels.specs.Below.setups.Wiring.{Wiring}
 use Rattle.wired_panels.specs.Below.hubs.declared.hub.Hub.{Hub}
 use Rattle.wired_panels.specs.Below.machine.Machine.{MachineState}
 use Rattle.totals.specs.Below.net.declared.cycle.Cycle.{Cycle}
 use Rattle.totals.specs.Below.net.declared.cycle.Point.{Point}
-use Rattle.line_places.specs.CarriageCycles.{carriage_after}
-use Rattle.line_places.specs.Placing.{asked_of, kind_of}
+use Rattle.panel_cycles.specs.LinePlaces.CarriageCycles.{carriage_after}
+use Rattle.panel_cycles.specs.LinePlaces.Placing.{asked_of, kind_of}
 use Rattle.totals.specs.Amounts.{IsSmall, Kind, act_of}
 use Rattle.wired_panels.specs.Below.whole_cycles.Between.{IsBetween}
 use Rattle.wired_panels.specs.Below.whole_cycles.WholeCycles.{WholeCycle}

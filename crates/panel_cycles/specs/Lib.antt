@@ -4,3 +4,4 @@ pub mod CounterStates
 pub mod PrintedRows
 pub mod WheelLaws
 pub mod CycleLaws
+pub mod LinePlaces

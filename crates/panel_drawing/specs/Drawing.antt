@@ -106,7 +106,7 @@ abbrev pub way_curve : List Hub → List ℕ
 way_curve [] = []
 way_curve (exit ∷ others) = pen_at (place_of exit) ++ steps_text exit others
 
--- the frame of the drawing
+-- the frame of the drawing; behind what is drawn, whose id is board, a marker that shows it too, whose id is background
 unfoldable pub drawing_open : List ℕ
 drawing_open = codes "<svg id=\"panel\" xmlns=\"http://www.w3.org/2000/svg\" viewBox=\"0 0 87 77\"><g id=\"board\">\n<g class=\"hubs\">\n"
 
@@ -114,7 +114,11 @@ unfoldable pub drawing_between : List ℕ
 drawing_between = codes "</g>\n<g class=\"wires\">\n"
 
 unfoldable pub drawing_close : List ℕ
-drawing_close = codes "</g>\n</g></svg>\n"
+drawing_close = codes "</g>\n</g>\n<marker id=\"background\" markerUnits=\"userSpaceOnUse\"><use href=\"#board\"/></marker></svg>\n"
+
+-- the front of a picture over the panel, of the same size: an empty path, at which the style sheet shows the marker, and with it the panel
+unfoldable pub picture_open : List ℕ
+picture_open = codes "<svg xmlns=\"http://www.w3.org/2000/svg\" viewBox=\"0 0 87 77\"><path class=\"background\" d=\"M0 0h0\"/>"
 
 -- these are the hubs of the panel, each once, in the order of their numbers
 abbrev pub AreHubs : List Hub → Type 0

@@ -5,11 +5,12 @@ ghost use Rattle.std.specs.List.{flat_map};
 ghost use Rattle.std.specs.String.{string_bytes};
 ghost use Rattle.panel_drawing.specs.Blocks.{blocks, place_of};
 ghost use Rattle.markup.specs.Pieces.{numbered_words};
-ghost use Rattle.panel_drawing.specs.Drawing.{block_text, box_text, centre_text, colour_text, curve_between, dot_text, drawing_between, drawing_close, drawing_open, ends_at, has_number, has_wire_at, hub_dot, label_text, line_to, link_text, linked_dot, pen_at, step_text, steps_text, way_curve, width_text, wire_name, wire_path, wire_text};
+ghost use Rattle.panel_drawing.specs.Drawing.{block_text, box_text, centre_text, colour_text, curve_between, dot_text, drawing_between, drawing_close, drawing_open, ends_at, has_number, has_wire_at, hub_dot, label_text, line_to, link_text, linked_dot, pen_at, picture_open, step_text, steps_text, way_curve, width_text, wire_name, wire_path, wire_text};
 ghost use Rattle.panel_drawing.specs.Helper.{GainsDrawing, GainsHubs};
 
 use crate::blocks::{BLOCKS, Block, Place, hub_place};
 use hubs::{Hub, write_hub};
+use numerals::{push_between, push_numbered};
 use std::alloc::AllocError;
 
 /// A wire that is drawn.
@@ -27,14 +28,10 @@ pub struct PanelWire {
 fn write_box(text: &mut String, block: &Block) -> Result<(), AllocError>
     ensures { OnOk result (string_bytes text.new ≡ string_bytes text.old ++ box_text block.now) }
 {
-    let x = block.left;
-    let y = block.top;
-    let width = block.columns;
-    let height = block.rows;
-    write!(
-        text,
-        "<rect x=\"{x}\" y=\"{y}\" width=\"{width}\" height=\"{height}\"/>"
-    )
+    push_numbered(text, "<rect x=\"", block.left)?;
+    push_numbered(text, "\" y=\"", block.top)?;
+    push_numbered(text, "\" width=\"", block.columns)?;
+    push_between(text, "\" height=\"", block.rows, "\"/>")
 }
 
 // The width of the counter groups of a block, where each width has one.
@@ -44,7 +41,7 @@ fn write_width(text: &mut String, width: u32) -> Result<(), AllocError>
     if width == 0 {
         Ok(())
     } else {
-        write!(text, ".{width}")
+        push_numbered(text, ".", width)
     }
 }
 
@@ -52,9 +49,8 @@ fn write_width(text: &mut String, width: u32) -> Result<(), AllocError>
 fn write_label(text: &mut String, block: &Block) -> Result<(), AllocError>
     ensures { OnOk result (string_bytes text.new ≡ string_bytes text.old ++ label_text block.now) }
 {
-    let x = block.left;
-    let y = block.top;
-    write!(text, "<text x=\"{x}\" y=\"{y}\">")?;
+    push_numbered(text, "<text x=\"", block.left)?;
+    push_between(text, "\" y=\"", block.top, "\">")?;
     text.push_str(block.kind.spelled())?;
     write_width(text, block.width)?;
     text.push_str("</text>\n")
@@ -83,9 +79,8 @@ fn write_blocks(text: &mut String, table: &[Block]) -> Result<(), AllocError>
 fn write_centre(text: &mut String, place: Place) -> Result<(), AllocError>
     ensures { OnOk result (string_bytes text.new ≡ string_bytes text.old ++ centre_text place) }
 {
-    let x = place.x;
-    let y = place.y;
-    write!(text, " cx=\"{x}\" cy=\"{y}\" r=\".3\">")
+    push_numbered(text, " cx=\"", place.x)?;
+    push_between(text, "\" cy=\"", place.y, "\" r=\".3\">")
 }
 
 #[tactic(auto, unfolding(crate::specs::Drawing::dot_text))]
@@ -133,7 +128,7 @@ pub fn has_wire_at(number: u32, wires: &[PanelWire]) -> bool
 fn write_linked_dot(text: &mut String, number: u32, hub: Hub) -> Result<(), AllocError>
     ensures { OnOk result (string_bytes text.new ≡ string_bytes text.old ++ linked_dot number hub) }
 {
-    write!(text, "<a href=\"#hub{number}\">")?;
+    push_between(text, "<a href=\"#hub", number, "\">")?;
     write_dot(text, hub)?;
     text.push_str("</a>\n")
 }
@@ -172,43 +167,40 @@ fn write_hubs(text: &mut String, wires: &[PanelWire]) -> Result<(), AllocError>
 fn write_pen(text: &mut String, place: Place) -> Result<(), AllocError>
     ensures { OnOk result (string_bytes text.new ≡ string_bytes text.old ++ pen_at place) }
 {
-    let x = place.x;
-    let y = place.y;
-    write!(text, "M{x} {y}")
+    push_numbered(text, "M", place.x)?;
+    push_numbered(text, " ", place.y)
 }
 
 // A curve between two places.
 fn write_curve(text: &mut String, from: Place, to: Place) -> Result<(), AllocError>
     ensures { OnOk result (string_bytes text.new ≡ string_bytes text.old ++ curve_between from to) }
 {
-    let from_x = from.x;
-    let x = to.x;
-    let y = to.y;
-    write!(text, "C{from_x} 37 {x} 37 {x} {y}")
+    push_numbered(text, "C", from.x)?;
+    push_numbered(text, " 37 ", to.x)?;
+    push_numbered(text, " 37 ", to.x)?;
+    push_numbered(text, " ", to.y)
 }
 
 // A line to a place.
 fn write_line(text: &mut String, place: Place) -> Result<(), AllocError>
     ensures { OnOk result (string_bytes text.new ≡ string_bytes text.old ++ line_to place) }
 {
-    let x = place.x;
-    let y = place.y;
-    write!(text, "L{x} {y}")
+    push_numbered(text, "L", place.x)?;
+    push_numbered(text, " ", place.y)
 }
 
 // The link of a wire.
 fn write_link(text: &mut String, number: usize) -> Result<(), AllocError>
     ensures { OnOk result (string_bytes text.new ≡ string_bytes text.old ++ link_text number) }
 {
-    write!(text, "<a href=\"#wire{number}\">")
+    push_between(text, "<a href=\"#wire", number, "\">")
 }
 
 // The front of a wire's curve, with its colour.
 fn write_colour(text: &mut String, line: u16) -> Result<(), AllocError>
     ensures { OnOk result (string_bytes text.new ≡ string_bytes text.old ++ colour_text line) }
 {
-    let colour = line % 12;
-    write!(text, "<path class=\"c{colour}\" d=\"")
+    push_between(text, "<path class=\"c", line % 12, "\" d=\"")
 }
 
 /// Writes the name of a wire, as `FR.5 -&gt; W.3` of XHTML. Fails only where no memory is left.
@@ -273,14 +265,16 @@ fn write_between(text: &mut String) -> Result<(), AllocError>
 fn write_close(text: &mut String) -> Result<(), AllocError>
     ensures { OnOk result (string_bytes text.new ≡ string_bytes text.old ++ drawing_close) }
 {
-    text.push_str("</g>\n</g></svg>\n")
+    text.push_str(
+        "</g>\n</g>\n<marker id=\"background\" markerUnits=\"userSpaceOnUse\"><use href=\"#board\"/></marker></svg>\n",
+    )
 }
 
 #[tactic(auto, using(crate::proofs::Written::drawing_whole))]
 /// Writes the drawing of the panel as an SVG element: a box with a label for each block of hubs, a dot with its name for each hub, and
 /// for each wire of the list, in its order, a curve with its name. What is drawn has the id `board`, the element `panel`. A wire links to
 /// the element `wire` with its number in the list, from 1, and a dot at which a wire has an end to the element `hub` with the number of the
-/// hub.
+/// hub. A marker with the id `background` shows what is drawn in the pictures of the page: see [`write_picture_open`].
 ///
 /// Fails only where no memory is left; a front of the drawing may then have been written.
 pub fn write_drawing(text: &mut String, wires: &[PanelWire]) -> Result<(), AllocError>
@@ -292,6 +286,17 @@ pub fn write_drawing(text: &mut String, wires: &[PanelWire]) -> Result<(), Alloc
     write_between(text)?;
     write_wires(text, wires)?;
     write_close(text)
+}
+
+/// Writes the front of a picture over the panel: an SVG element of the drawing's size, and in it an empty path with the class `background`.
+/// A style sheet shows the marker of that name there, and so the drawing, without a copy of it for each picture. Fails only where no memory
+/// is left.
+pub fn write_picture_open(text: &mut String) -> Result<(), AllocError>
+    ensures { OnOk result (string_bytes text.new ≡ string_bytes text.old ++ picture_open) }
+{
+    text.push_str(
+        "<svg xmlns=\"http://www.w3.org/2000/svg\" viewBox=\"0 0 87 77\"><path class=\"background\" d=\"M0 0h0\"/>",
+    )
 }
 
 // A step of a way.

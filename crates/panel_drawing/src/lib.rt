@@ -2,7 +2,8 @@
 //!
 //! Each kind of hub is a labelled block, each hub a dot, and the exits stand above the entries. [`hub_place`] gives the place of a hub:
 //! no two hubs share one ([`hubs_have_places_of_their_own`]). [`panel_wires`] lists the wires of a setup, each once, [`write_drawing`]
-//! writes the drawing as SVG, with a curve for each wire of a list, and [`write_way`] the way of an impulse over it.
+//! writes the drawing as SVG, with a curve for each wire of a list. [`write_picture_open`] begins a picture that shows the drawing once
+//! more, and [`write_way`] writes the way of an impulse over it.
 //! `specs/Drawing.antt` says what is written.
 #![tactic(auto)]
 
@@ -13,7 +14,8 @@ mod wires;
 
 pub use blocks::{Block, Place, hub_place};
 pub use drawing::{
-    PanelWire, ends_at, has_number, has_wire_at, write_drawing, write_way, write_wire_name,
+    PanelWire, ends_at, has_number, has_wire_at, write_drawing, write_picture_open, write_way,
+    write_wire_name,
 };
 pub use laws::{
     blocks_have_all_hubs, exits_stand_above_entries, hubs_have_places_of_their_own,

@@ -4,7 +4,8 @@ ghost use Rattle.std.specs.Prelude.{◌≡◌, OnOk};
 ghost use Rattle.std.specs.Io.KnownBytes.{Appends};
 ghost use Rattle.panel_guides.specs.Unexplained.{IsToldUnexplained, unexplained_line, unexplained_status};
 
-use faults::{Ending, Fault, write_line};
+use faults::{Ending, Fault, write_line, write_place};
+use numerals::write_between;
 use std::io;
 use std::io::Write;
 
@@ -55,8 +56,8 @@ pub fn write_unexplained<V: Write>(told: &Unexplained, out: &mut V) -> io::Resul
 {
     match told {
         Unexplained::Failed { fault } => write_line(fault, out),
-        Unexplained::NoSuchLine { page, line } => writeln!(out, "fault 92 page {page} line {line}"),
-        Unexplained::NoSuchWheel { wheel } => writeln!(out, "fault 93 wheel {wheel}"),
+        Unexplained::NoSuchLine { page, line } => write_place(out, "fault 92 page ", *page, *line),
+        Unexplained::NoSuchWheel { wheel } => write_between(out, "fault 93 wheel ", *wheel, "\n"),
     }
 }
 

@@ -30,7 +30,7 @@ use Rattle.panel_plans.proofs.Rewired.{Rewired, kept_wire, of_comparing, other, 
 use Rattle.panel_plans.proofs.Zipped.{get-map, map-get, part-at, parts-many, range-at, range-get}
 use Rattle.plans.specs.PartNumbers.{AreNumbers}
 use Rattle.plans.specs.declared.part_numbers.PartKind.TheVariants as kind
-use Rattle.plans.specs.Plans.{IsFor, Lists}
+use Rattle.plans.specs.Plans.{Lists, ServesChart}
 use Rattle.plans.proofs.Numbers.{first-more, number-serves}
 use Rattle.setups.specs.Wiring.{HasWire, Wiring}
 use Rattle.wanted.specs.Positions.{compared_field, comparing_of, field_used, is_same_position, positions_for}
@@ -197,7 +197,7 @@ record Partner (lines : List Line) (numbers others : List ℕ) (k : ℕ) : Type 
   is : slice_get others m ≡ slice_get numbers k
   alike : slice_get (compared_columns lines) m ≡ slice_get (compared_columns lines) k
 
-module _ (chart : Chart) (rise : NumbersRise chart.lines chart.end) (plan : Lists) (planned : IsFor chart.lines plan) where
+module _ (chart : Chart) (rise : NumbersRise chart.lines chart.end) (plan : Lists) (planned : ServesChart chart.lines plan) where
   served-columns : plan.parts.comparing ≡ comparing_of chart.lines
   served-columns = ap (λ (p : Parts). p.comparing) planned.parts
 
@@ -294,8 +294,8 @@ abbrev pub GoOn : Chart → Wiring → Lists → List ℕ → Type 0
 GoOn chart setup its items = Goes (IsGood chart setup its) (length (compared_columns chart.lines)) items
 
 module _ (chart : Chart) (setup : Wiring) (lawful : IsLawful chart) (rise : NumbersRise chart.lines chart.end) (its : Lists) where
-  planned-by : (numbers others : List ℕ) → IsFor chart.lines (comparing-by its numbers) → AreNumbers 30 (length its.parts.comparing) others
-      → IsFor chart.lines (comparing-by its others)
+  planned-by : (numbers others : List ℕ) → ServesChart chart.lines (comparing-by its numbers) → AreNumbers 30 (length its.parts.comparing) others
+      → ServesChart chart.lines (comparing-by its others)
   planned-by numbers others planned numbered = record {
     counters = planned.counters;
     parts = planned.parts;

@@ -24,9 +24,11 @@ use Rattle.wiring_table.specs.Figures.{IsAmount}
 use Rattle.wiring_table.specs.Parts.{counter_for}
 use Rattle.wiring_table.proofs.Groups.{counter-enough, is-served}
 use Rattle.wiring_table.proofs.Totals.{total-digits, total-of}
+use Rattle.panel_plans.specs.NamingWires.{ShowsPartsOf}
 use Rattle.panel_plans.specs.Shown.{IsShown}
-use Rattle.panel_plans.specs.Totals.{IsShownOn}
+use Rattle.panel_plans.specs.Totals.{IsShownOn, its_need}
 use Rattle.panel_plans.specs.Wired.{IsWiredBy, TotalOn, served_by, served_on, units_wheel}
+use Rattle.panel_plans.proofs.Alike.{back, if-none, if-some, is-shown}
 use Rattle.panel_plans.proofs.Unique.{its-shown, only-shown}
 use Rattle.panel_plans.proofs.Whole.{IsTotal, is-total, its-counter}
 
@@ -115,3 +117,23 @@ module _ (chart : Chart) (lawful : IsLawful chart) (rise : NumbersRise chart.lin
     served-there line total listed is =
         let counter = its-counter chart.lines chart.end its rise wired.planned line total listed is in
         (counter.0, ap (served_by chart.lines its line.number) is ∙ counter.1)
+
+  -- what is found where only the wires that name parts are those of a panel that is wired for the chart
+  pub found-alike : (setup other : Wiring) (its : Lists) → ShowsPartsOf chart.lines setup other its → (line : Line) (result : Option TotalCounter)
+      (total : Total) → Contains chart.lines line → line_total chart.lines line.number line.statement ≡ Some total
+      → ((on : TotalOn chart.lines line) → units_wheel chart.lines line on < 256 → IfSome result (IsShownOn chart.lines setup line on))
+      → ((on : TotalOn chart.lines line) → units_wheel chart.lines line on < 256
+      → IfNone result ((counter : TotalCounter) → ¬ IsShownOn chart.lines setup line on counter))
+      → result ≡ served_on chart.lines its line
+  found-alike setup other its shows line result total listed is some none =
+      found-on other its shows.wired line result total listed is
+      (λ on less.
+      if-some (IsShownOn chart.lines setup line on) (IsShownOn chart.lines other line on)
+      (is-shown shows.alike (level_number on.level) (units_wheel chart.lines line on) (its_need chart.lines line on)) result (some on less))
+      (λ on less.
+      if-none ((counter : TotalCounter) → ¬ IsShownOn chart.lines setup line on counter)
+      ((counter : TotalCounter) → ¬ IsShownOn chart.lines other line on counter)
+      (λ no counter there.
+      no counter
+      (is-shown (back shows.alike) (level_number on.level) (units_wheel chart.lines line on) (its_need chart.lines line on) counter there))
+      result (none on less))

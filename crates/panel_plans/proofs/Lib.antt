@@ -8,6 +8,7 @@ mod Whole
 mod Found
 mod Steps
 mod Zipped
+mod Alike
 mod Apart
 mod Texts
 mod Planned

@@ -30,8 +30,9 @@ use Rattle.field_rules.proofs.Places.{is_same_name-equal, is_same_name-own}
 use Rattle.hubs.specs.declared.hub.Group.{Group}
 use Rattle.hubs.specs.declared.hub.Hub.{Hub}
 use Rattle.hubs.specs.declared.hub.Hub.TheVariants.{FR, MI, PIX, W}
+use Rattle.panel_plans.specs.NamingWires.{ShowsPartsOf}
 use Rattle.panel_plans.specs.PilotWires.{IsSignedOf, IsTold, LeadsToTotal, TellsPilot, lowest, marked}
-use Rattle.panel_plans.specs.Renumbered.{IsUnwired}
+use Rattle.panel_plans.specs.Renumbered.{ShowsNoParts}
 use Rattle.panel_plans.specs.Shown.{units_group}
 use Rattle.panel_plans.specs.Wired.{IsWiredBy}
 use Rattle.panel_plans.specs.declared.pilots.SignedAmount.{SignedAmount}
@@ -423,15 +424,15 @@ module _ (chart : Chart) (lawful : IsLawful chart) where
         its.parts.pilots its.numbers.pilots wired.planned.numbers.pilots.many
         (subst HasOwnPlaces (sym served-names) (names-apart chart lawful))
 
-  -- a panel on which no pilot is that of an amount is wired by no plan
+  -- a panel on which no pilot is that of an amount shows the parts of none that is wired for the chart
   pub none-for : (setup : Wiring) (name : List ℕ) (field : Field) → Contains (pilots_of chart.lines) name → field_named chart.lines name ≡ Some field
       → (result : Option ℕ)
-      → IfNone result ((its : Lists) (pilot : ℕ) → IsWiredBy chart.lines setup its → 1 ≤ pilot → pilot ≤ 16 → IsTold chart.lines field.name
+      → IfNone result ((other : Wiring) (its : Lists) (pilot : ℕ) → ShowsPartsOf chart.lines setup other its → 1 ≤ pilot → pilot ≤ 16 → IsTold chart.lines field.name
       → ¬ (pilot_for its field.name ≡ Some pilot))
-      → IfNone result (IsUnwired chart.lines setup)
+      → IfNone result (ShowsNoParts chart.lines setup)
   none-for setup name field there named (Some pilot) none = tt
-  none-for setup name field there named None none = λ its wired.
+  none-for setup name field there named None none = λ other its shows.
       let own_name = same-name chart.lines name field named in
-      let given = pilot-there setup its wired name there in
-      none its given.n wired given.from given.to (subst (IsTold chart.lines) (sym own_name) (told-of name there))
+      let given = pilot-there other its shows.wired name there in
+      none other its given.n shows given.from given.to (subst (IsTold chart.lines) (sym own_name) (told-of name there))
       (ap (pilot_for its) own_name ∙ given.is)

@@ -3,16 +3,17 @@ use Rattle.std.proofs.Common.{◌≡◌, ◌∙◌, sym, ap, subst, List}
 use Rattle.charts.specs.declared.chart.Line.{Line}
 use Rattle.plans.proofs.Numbers.{in-order}
 use Rattle.panel_plans.specs.Renumbered.{TakesShown, with_numbers}
+use Rattle.panel_plans.specs.NamingWires.{ShowsPartsOf}
 use Rattle.panel_plans.specs.Wired.{IsWiredBy}
 use Rattle.plans.specs.PartNumbers.{PartNumbers, in_order, renumbered}
 use Rattle.plans.specs.declared.part_numbers.PartKind.TheVariants as kind
 use Rattle.charts.specs.declared.level.ControlLevel.TheVariants as control
 use Rattle.setups.specs.Wiring.{Wiring}
-use Rattle.plans.specs.Plans.{IsFor, IsWithinMachine, Lists}
+use Rattle.plans.specs.Plans.{IsWithinMachine, Lists, ServesChart}
 
 -- a plan of a chart with the counters of another, and the other parts in order
-pub planned-again : (lines : List Line) (own plan : Lists) → IsFor lines own → IsWithinMachine own.parts → plan.counters ≡ own.counters
-    → plan.parts ≡ own.parts → plan.numbers ≡ in_order own.parts → IsFor lines plan
+pub planned-again : (lines : List Line) (own plan : Lists) → ServesChart lines own → IsWithinMachine own.parts → plan.counters ≡ own.counters
+    → plan.parts ≡ own.parts → plan.numbers ≡ in_order own.parts → ServesChart lines plan
 planned-again lines own plan planned within counters parts numbers = record {
   counters = rw counters planned.counters;
   parts = parts ∙ planned.parts;
@@ -29,22 +30,22 @@ planned-again lines own plan planned within counters parts numbers = record {
 
 -- numbers of which each kind is shown, one after the other
 module _ {lines : List Line} {setup : Wiring} {none units splits minor intermediate major positions all : PartNumbers} where
-  pub all-shown : ((its : Lists) → IsWiredBy lines setup its → TakesShown lines setup kind.Storage none units)
-      → ((its : Lists) → IsWiredBy lines setup its → TakesShown lines setup kind.Split units splits)
-      → ((its : Lists) → IsWiredBy lines setup its → TakesShown lines setup (kind.Indicate control.Minor) splits minor)
-      → ((its : Lists) → IsWiredBy lines setup its → TakesShown lines setup (kind.Indicate control.Intermediate) minor intermediate)
-      → ((its : Lists) → IsWiredBy lines setup its → TakesShown lines setup (kind.Indicate control.Major) intermediate major)
-      → ((its : Lists) → IsWiredBy lines setup its → TakesShown lines setup kind.Comparing major positions)
-      → ((its : Lists) → IsWiredBy lines setup its → TakesShown lines setup kind.Pilot positions all)
-      → (its : Lists) → IsWiredBy lines setup its → IsWiredBy lines setup (with_numbers its all)
-  all-shown u s m i j p l its wired =
-      let first = u its wired in
-      let second = s its wired in
-      let third = m its wired in
-      let fourth = i its wired in
-      let fifth = j its wired in
-      let sixth = p its wired in
-      let last = l its wired in
+  pub all-shown : ((other : Wiring) (its : Lists) → ShowsPartsOf lines setup other its → TakesShown lines setup kind.Storage none units)
+      → ((other : Wiring) (its : Lists) → ShowsPartsOf lines setup other its → TakesShown lines setup kind.Split units splits)
+      → ((other : Wiring) (its : Lists) → ShowsPartsOf lines setup other its → TakesShown lines setup (kind.Indicate control.Minor) splits minor)
+      → ((other : Wiring) (its : Lists) → ShowsPartsOf lines setup other its → TakesShown lines setup (kind.Indicate control.Intermediate) minor intermediate)
+      → ((other : Wiring) (its : Lists) → ShowsPartsOf lines setup other its → TakesShown lines setup (kind.Indicate control.Major) intermediate major)
+      → ((other : Wiring) (its : Lists) → ShowsPartsOf lines setup other its → TakesShown lines setup kind.Comparing major positions)
+      → ((other : Wiring) (its : Lists) → ShowsPartsOf lines setup other its → TakesShown lines setup kind.Pilot positions all)
+      → (other : Wiring) (its : Lists) → ShowsPartsOf lines setup other its → IsWiredBy lines other (with_numbers its all)
+  all-shown u s m i j p l other its shows =
+      let first = u other its shows in
+      let second = s other its shows in
+      let third = m other its shows in
+      let fourth = i other its shows in
+      let fifth = j other its shows in
+      let sixth = p other its shows in
+      let last = l other its shows in
       let same : all
       ≡ record {
         pilots = last.numbers;
@@ -63,8 +64,12 @@ module _ {lines : List Line} {setup : Wiring} {none units splits minor intermedi
       ∙ ap (λ n. renumbered n (kind.Indicate control.Intermediate) fourth.numbers) (third.is_new
       ∙ ap (λ n. renumbered n (kind.Indicate control.Minor) third.numbers) (second.is_new
       ∙ ap (λ n. renumbered n kind.Split second.numbers) first.is_new))))) in
-      subst (λ n. IsWiredBy lines setup (with_numbers its n)) (sym same)
-      (last.are _ (sixth.are _ (fifth.are _ (fourth.are _ (third.are _ (second.are _ (first.are its wired)))))))
+      subst (λ n. IsWiredBy lines other (with_numbers its n)) (sym same)
+      (last.are other _ (on (sixth.are other _ (on (fifth.are other _ (on (fourth.are other _ (on (third.are other _ (on (second.are other _ (on
+      (first.are other its shows)))))))))))))
+    where
+      on : {plan : Lists} → IsWiredBy lines other plan → ShowsPartsOf lines setup other plan
+      on wired = record { wired = wired; alike = shows.alike }
 
 -- a plan with the counters and the parts of one by which a setup is wired, and with numbers that go with these
 pub plan-wired : (lines : List Line) (setup : Wiring) (its plan : Lists) → IsWiredBy lines setup its → plan.counters ≡ its.counters

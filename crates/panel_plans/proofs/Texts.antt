@@ -20,13 +20,15 @@ use Rattle.field_rules.specs.Fields.{field_named, fields_of}
 use Rattle.field_rules.specs.Names.{names_amount}
 use Rattle.hubs.specs.declared.hub.Hub.{Hub}
 use Rattle.hubs.specs.declared.hub.Hub.TheVariants.{PX, SO, SX, W}
+use Rattle.panel_plans.specs.NamingWires.{ShowsPartsOf}
+use Rattle.panel_plans.proofs.Alike.{back, if-none, if-some, shows-text}
 use Rattle.panel_plans.specs.Shown.{ShowsText}
 use Rattle.panel_plans.specs.Texts.{text_of}
 use Rattle.panel_plans.specs.Wired.{IsWiredBy}
 use Rattle.panel_plans.specs.declared.text_units.TextPlace.{TextPlace}
 use Rattle.panel_plans.proofs.Apart.{HasOwnPlaces, all-numbers, apart-lines, own-place}
 use Rattle.panel_plans.proofs.Unique.{same-line}
-use Rattle.plans.specs.Plans.{IsFor, Lists}
+use Rattle.plans.specs.Plans.{Lists, ServesChart}
 use Rattle.print_rules.specs.Items.{item_of, text_item}
 use Rattle.print_rules.specs.Wheels.{HasWheel}
 use Rattle.print_rules.specs.declared.items.PrintedLine.TheVariants.{Body}
@@ -234,3 +236,15 @@ module _ (chart : Chart) (setup : Wiring) (lawful : IsLawful chart) (rise : Numb
       (subst HasOwnPlaces (sym stored)
       (own-place (map (λ (line : Line). line.number) (filter (λ line. is_total_text line.statement) chart.lines))
       (apart-lines (λ line. is_total_text line.statement) chart.lines chart.end rise)))
+
+-- what is found where only the wires that name parts are those of a panel that is wired for the chart
+pub unit-found-alike : (chart : Chart) (setup other : Wiring) (lawful : IsLawful chart) (rise : NumbersRise chart.lines chart.end) (its : Lists)
+    → ShowsPartsOf chart.lines setup other its → (line : Line) (text : TextPlace) → Contains chart.lines line → text_of line.statement ≡ Some text
+    → (result : Option ℕ) → IfSome result (ShowsText setup text.level text.wheel)
+    → IfNone result ((unit : ℕ) → 1 ≤ unit → unit ≤ 4 → ¬ ShowsText setup text.level text.wheel unit) → result ≡ unit_on its line
+unit-found-alike chart setup other lawful rise its shows line text listed is result some none =
+    unit-found-on chart other lawful rise its shows.wired line text listed is result
+    (if-some (ShowsText setup text.level text.wheel) (ShowsText other text.level text.wheel) (shows-text shows.alike text.level text.wheel) result some)
+    (if-none ((unit : ℕ) → 1 ≤ unit → unit ≤ 4 → ¬ ShowsText setup text.level text.wheel unit)
+    ((unit : ℕ) → 1 ≤ unit → unit ≤ 4 → ¬ ShowsText other text.level text.wheel unit)
+    (λ no unit from to there. no unit from to (shows-text (back shows.alike) text.level text.wheel unit there)) result none)

@@ -22,7 +22,7 @@ use Rattle.hubs.specs.declared.hub.Group.{Group}
 use Rattle.hubs.specs.declared.hub.Hub.{Hub}
 use Rattle.hubs.specs.declared.hub.Hub.TheVariants.{CI, CO, GX, PX, RO, W}
 use Rattle.plans.specs.Counters.{HasCounter, IsEnoughFor}
-use Rattle.plans.specs.Plans.{IsFor, Lists}
+use Rattle.plans.specs.Plans.{Lists, ServesChart}
 use Rattle.plans.specs.declared.counter.TotalCounter.{TotalCounter}
 use Rattle.plans.specs.declared.counter.TotalCounter.TheVariants as of
 use Rattle.print_rules.specs.Items.{figure_width, is_same_line, item_of, mark_width, total_item}
@@ -57,7 +57,7 @@ same-line level.Final level.Final same = refl
 same-line one other same = cc
 
 module _ (chart : Chart) (plan : Lists) (setup : Wiring) (lawful : IsLawful chart) (rise : NumbersRise chart.lines chart.end)
-    (planned : IsFor chart.lines plan) (wired : WiredFor chart.lines plan setup) where
+    (planned : ServesChart chart.lines plan) (wired : WiredFor chart.lines plan setup) where
   -- the item that a total is, and the wheels of its digits
   its-item : (line : Line) (total : TotalOn chart.lines line)
       → item_of (fields_of chart.lines) line.statement ≡ Some (total_item total.level total.wheel total.digits total.mark total.field.kind)

@@ -37,7 +37,7 @@ use Rattle.panel_plans.proofs.Apart.{HasOwnPlaces, apart-lines, number-at, own-p
 use Rattle.panel_plans.proofs.Wheels.{on-wheels}
 use Rattle.panel_plans.proofs.Zipped.{get-map, given-at, given-many, part-at, parts-many, range-at, range-get}
 use Rattle.plans.specs.PartNumbers.{AreNumbers, numbers_at}
-use Rattle.plans.specs.Plans.{IsFor, Lists}
+use Rattle.plans.specs.Plans.{Lists, ServesChart}
 use Rattle.print_rules.specs.Items.{detail_item, is_same_line, item_of}
 use Rattle.print_rules.specs.Wheels.{HasWheel}
 use Rattle.printed_lines.proofs.Meeting.{one-line}

@@ -15,7 +15,7 @@ use Rattle.charts.specs.declared.statement.Statement.{Statement}
 use Rattle.charts.specs.declared.statement.Statement.TheVariants as says
 use Rattle.charts.proofs.Listed.{given-by, listed-after, listed-cases, listed-first, listed-none}
 use Rattle.charts.proofs.Rising.{NumbersRise-tail, number-above}
-use Rattle.plans.specs.Plans.{IsFor, Lists}
+use Rattle.plans.specs.Plans.{Lists, ServesChart}
 use Rattle.plans.specs.declared.counter.TotalCounter.{TotalCounter}
 use Rattle.plans.specs.declared.counter.TotalCounter.TheVariants as of
 use Rattle.wanted.specs.ChartTotals.{line_total, totals_of}
@@ -83,7 +83,7 @@ after-front front next rest place total there = by (cases_lt place (length front
             ∙ get_or_from_slice_get (front ++ next ∷ rest) place total total there in
             inr (inr (k, omega (arith, less, within, length-append front (next ∷ rest)), at))
 
-module _ (lines : List Line) (end : ℕ) (plan : Lists) (rise : NumbersRise lines end) (planned : IsFor lines plan) where
+module _ (lines : List Line) (end : ℕ) (plan : Lists) (rise : NumbersRise lines end) (planned : ServesChart lines plan) where
   abbrev pub total-on : Line → Option Total
   total-on line = line_total lines line.number line.statement
 

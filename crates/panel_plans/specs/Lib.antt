@@ -1,5 +1,6 @@
 pub mod ComparedColumns
 pub mod Groups
+pub mod NamingWires
 pub mod PilotWires
 pub mod Renumbered
 pub mod Shown

@@ -1,6 +1,7 @@
 -- Plans with other numbers of a kind of part, and numbers that a setup shows.
 use Rattle.std.specs.Prelude.{◌≡◌, ℕ, List}
 use Rattle.charts.specs.declared.chart.Line.{Line}
+use Rattle.panel_plans.specs.NamingWires.{ShowsPartsOf}
 use Rattle.panel_plans.specs.Wired.{IsWiredBy}
 use Rattle.plans.specs.PartNumbers.{PartNumbers, renumbered}
 use Rattle.plans.specs.Plans.{Lists}
@@ -15,13 +16,15 @@ with_numbers plan numbers = record { counters = plan.counters; parts = plan.part
 abbrev pub with_kind : Lists → PartKind → List ℕ → Lists
 with_kind plan kind numbers = with_numbers plan (renumbered plan.numbers kind numbers)
 
--- A setup shows these numbers of a kind: whatever plan it is wired by, with these in place of its own it is one by which it is wired.
+-- A setup shows these numbers of a kind: by whatever plan another one is wired of which it shows the parts, with these in place of the
+-- plan's own it is a plan by which that one is wired.
 abbrev pub AreShown : List Line → Wiring → PartKind → List ℕ → Type 0
-AreShown lines setup kind numbers = (its : Lists) → IsWiredBy lines setup its → IsWiredBy lines setup (with_kind its kind numbers)
+AreShown lines setup kind numbers =
+    (other : Wiring) (its : Lists) → ShowsPartsOf lines setup other its → IsWiredBy lines other (with_kind its kind numbers)
 
--- no plan is one by which a setup is wired
-abbrev pub IsUnwired : List Line → Wiring → Type 0
-IsUnwired lines setup = (its : Lists) → ¬ IsWiredBy lines setup its
+-- a setup shows the parts of none that is wired for a chart
+abbrev pub ShowsNoParts : List Line → Wiring → Type 0
+ShowsNoParts lines setup = (other : Wiring) (its : Lists) → ¬ ShowsPartsOf lines setup other its
 
 -- numbers in which those of a kind are some that a setup shows
 pub record TakesShown (lines : List Line) (setup : Wiring) (kind : PartKind) (old new : PartNumbers) : Type 0 where

@@ -6,7 +6,7 @@ use Rattle.charts.specs.declared.level.Level.{Level}
 use Rattle.charts.specs.declared.statement.Field.{Field}
 use Rattle.charts.specs.declared.statement.Mark.{Mark}
 use Rattle.charts.specs.declared.statement.Statement.TheVariants as says
-use Rattle.plans.specs.Plans.{IsFor, Lists}
+use Rattle.plans.specs.Plans.{Lists, ServesChart}
 use Rattle.plans.specs.declared.counter.TotalCounter.{TotalCounter}
 use Rattle.setups.specs.Wiring.{Wiring}
 use Rattle.wanted.specs.ChartTotals.{line_total}
@@ -17,7 +17,7 @@ use Rattle.wiring_table.specs.WiredFor.{WiredFor}
 
 -- a setup is wired for a chart by a plan of it
 pub record IsWiredBy (lines : List Line) (setup : Wiring) (plan : Lists) : Type 0 where
-  pub planned : IsFor lines plan
+  pub planned : ServesChart lines plan
   pub wired : WiredFor lines plan setup
 
 -- a line of a chart is a total of an amount

@@ -3,7 +3,7 @@
 
 ghost use Rattle.std.specs.Prelude.{◌≡◌, ◌↔◌, ◌≤◌, ◌++◌, ℕ, Contains, IsTrue, IfNone, IfOk, IfSome, OnOk, Some};
 ghost use Rattle.panel_plans.specs.ComparedColumns.{IsCompared, columns_for, compared_columns, level_of};
-ghost use Rattle.panel_plans.specs.Renumbered.{AreShown, IsUnwired};
+ghost use Rattle.panel_plans.specs.Renumbered.{AreShown, ShowsNoParts};
 ghost use Rattle.plans.specs.PartNumbers.{AreThere};
 ghost use Rattle.wanted.specs.Positions.{compared_field};
 
@@ -126,7 +126,7 @@ pub(crate) fn shown_positions(
 ) -> Result<Option<Vec<u8>>, AllocError>
     ensures there { IfOk result (λ shown. IfSome shown (λ list. AreThere 30 list.items)) }
     ensures shown { IfOk result (λ found. IfSome found (λ list. AreShown chart.now.lines setup.now PartKind.Comparing list.items)) }
-    ensures none { IfOk result (λ found. IfNone found (IsUnwired chart.now.lines setup.now)) }
+    ensures none { IfOk result (λ found. IfNone found (ShowsNoParts chart.now.lines setup.now)) }
 {
     // What is known of the lines of a chart is told with them.
     let _lines = chart.lines();

@@ -1,10 +1,12 @@
 //! The parts other than the counters that a setup shows.
 
 ghost use Rattle.std.specs.Prelude.{◌≡◌, ◌≤◌, IfNone, IfOk, IfSome};
-ghost use Rattle.panel_plans.specs.Renumbered.{AreShown, IsUnwired, TakesShown, with_numbers};
+ghost use Rattle.panel_plans.specs.NamingWires.{ShowsPartsOf};
+ghost use Rattle.panel_plans.specs.Renumbered.{AreShown, ShowsNoParts, TakesShown, with_numbers};
 ghost use Rattle.panel_plans.specs.Wired.{IsWiredBy};
 ghost use Rattle.plans.specs.PartNumbers.{AreThere, last_of};
 ghost use Rattle.plans.specs.Plans.{IsWithinMachine, Lists};
+ghost use Rattle.setups.specs.Wiring.{Wiring};
 ghost use Rattle.wanted.specs.Wanted.{parts_of};
 
 use crate::compared::{near_positions, shown_positions};
@@ -89,8 +91,8 @@ fn with_shown(
 ) -> Result<PartNumbers, AllocError>
     requires there { IfSome shown (λ list. AreThere (last_of kind) list.items) }
     requires shown { IfSome shown (λ list. AreShown chart.now.lines setup.now kind list.items) }
-    requires none { IfNone shown (IsUnwired chart.now.lines setup.now) }
-    ensures { IfOk result (λ told. (its : Lists) → IsWiredBy chart.now.lines setup.now its
+    requires none { IfNone shown (ShowsNoParts chart.now.lines setup.now) }
+    ensures { IfOk result (λ told. (other : Wiring) (its : Lists) → ShowsPartsOf chart.now.lines setup.now other its
         → TakesShown chart.now.lines setup.now kind numbers told) }
 {
     match shown {
@@ -108,7 +110,7 @@ fn with_indicates(
     level: ControlLevel,
     numbers: PartNumbers,
 ) -> Result<PartNumbers, AllocError>
-    ensures { IfOk result (λ told. (its : Lists) → IsWiredBy chart.now.lines setup.now its
+    ensures { IfOk result (λ told. (other : Wiring) (its : Lists) → ShowsPartsOf chart.now.lines setup.now other its
         → TakesShown chart.now.lines setup.now (PartKind.Indicate level) numbers told) }
 {
     let shown = shown_indicates(alloc, chart, setup, level)?;
@@ -124,7 +126,7 @@ fn with_units(
     parts: &Parts,
     numbers: PartNumbers,
 ) -> Result<PartNumbers, AllocError>
-    ensures { IfOk result (λ told. (its : Lists) → IsWiredBy chart.now.lines setup.now its
+    ensures { IfOk result (λ told. (other : Wiring) (its : Lists) → ShowsPartsOf chart.now.lines setup.now other its
         → TakesShown chart.now.lines setup.now PartKind.Storage numbers told) }
 {
     let shown = shown_units(alloc, chart, setup)?;
@@ -147,7 +149,7 @@ fn with_splits(
     parts: &Parts,
     numbers: PartNumbers,
 ) -> Result<PartNumbers, AllocError>
-    ensures { IfOk result (λ told. (its : Lists) → IsWiredBy chart.now.lines setup.now its
+    ensures { IfOk result (λ told. (other : Wiring) (its : Lists) → ShowsPartsOf chart.now.lines setup.now other its
         → TakesShown chart.now.lines setup.now PartKind.Split numbers told) }
 {
     let shown = shown_splits(alloc, chart, setup)?;
@@ -162,7 +164,7 @@ fn with_positions(
     parts: &Parts,
     numbers: PartNumbers,
 ) -> Result<PartNumbers, AllocError>
-    ensures { IfOk result (λ told. (its : Lists) → IsWiredBy chart.now.lines setup.now its
+    ensures { IfOk result (λ told. (other : Wiring) (its : Lists) → ShowsPartsOf chart.now.lines setup.now other its
         → TakesShown chart.now.lines setup.now PartKind.Comparing numbers told) }
 {
     let shown = shown_positions(alloc, chart, setup)?;
@@ -186,7 +188,7 @@ fn with_pilots(
     numbers: PartNumbers,
 ) -> Result<PartNumbers, AllocError>
     requires { parts.now ≡ parts_of chart.now.lines }
-    ensures { IfOk result (λ told. (its : Lists) → IsWiredBy chart.now.lines setup.now its
+    ensures { IfOk result (λ told. (other : Wiring) (its : Lists) → ShowsPartsOf chart.now.lines setup.now other its
         → TakesShown chart.now.lines setup.now PartKind.Pilot numbers told) }
 {
     let shown = shown_pilots(alloc, chart, setup, parts.pilots())?;
@@ -203,8 +205,8 @@ pub(crate) fn shown_numbers(
 ) -> Result<PartNumbers, AllocError>
     requires within { IsWithinMachine parts.now }
     requires wanted { parts.now ≡ parts_of chart.now.lines }
-    ensures { IfOk result (λ numbers. (its : Lists) → IsWiredBy chart.now.lines setup.now its
-        → IsWiredBy chart.now.lines setup.now (with_numbers its numbers)) }
+    ensures { IfOk result (λ numbers. (other : Wiring) (its : Lists) → ShowsPartsOf chart.now.lines setup.now other its
+        → IsWiredBy chart.now.lines other (with_numbers its numbers)) }
 {
     let none = PartNumbers::in_order(alloc, parts)?;
     let units = with_units(alloc, chart, setup, parts, none)?;

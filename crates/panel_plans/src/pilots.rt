@@ -8,13 +8,13 @@ ghost use Rattle.charts.specs.declared.statement.Field.{Field};
 ghost use Rattle.charts.specs.declared.statement.SignRule.{SignRule};
 ghost use Rattle.field_rules.specs.Fields.{field_named};
 ghost use Rattle.hubs.specs.declared.hub.Hub.TheVariants.{FR, PIX, W};
+ghost use Rattle.panel_plans.specs.NamingWires.{ShowsPartsOf};
 ghost use Rattle.panel_plans.specs.PilotWires.{IsSignedOf, IsTold, LeadsToTotal, TellsPilot};
 ghost use Rattle.panel_plans.specs.Shown.{units_group};
-ghost use Rattle.panel_plans.specs.Renumbered.{AreShown, IsUnwired};
-ghost use Rattle.panel_plans.specs.Wired.{IsWiredBy};
+ghost use Rattle.panel_plans.specs.Renumbered.{AreShown, ShowsNoParts};
 ghost use Rattle.plans.specs.PartNumbers.{AreThere};
 ghost use Rattle.plans.specs.Plans.{Lists};
-ghost use Rattle.setups.specs.Wiring.{HasWire};
+ghost use Rattle.setups.specs.Wiring.{HasWire, Wiring};
 ghost use Rattle.wanted.specs.ChartTotals.{line_total};
 ghost use Rattle.wanted.specs.Pilots.{pilots_of};
 ghost use Rattle.wanted.specs.declared.total.Total.{Total};
@@ -81,9 +81,9 @@ fn units_group(counter: TotalCounter) -> Group
 
 // Whether a pilot has the counter of the total on a line subtract while the sign column tells negative.
 fn leads_to_total(chart: &Chart, setup: &Setup, line: &Line, rule: SignRule, pilot: u8) -> bool
-    ensures { (its : Lists) (total : Total) → IsWiredBy chart.now.lines setup.now its → Contains chart.now.lines line.now
+    ensures { (other : Wiring) (its : Lists) (total : Total) → ShowsPartsOf chart.now.lines setup.now other its → Contains chart.now.lines line.now
         → line_total chart.now.lines line.now.number line.now.statement ≡ Some total
-        → IsTrue result ↔ LeadsToTotal chart.now.lines its setup.now rule pilot line.now.number }
+        → IsTrue result ↔ LeadsToTotal chart.now.lines its other rule pilot line.now.number }
 {
     // What is known of the lines of a chart is told with them.
     let _lines = chart.lines();
@@ -118,9 +118,9 @@ fn leads_to_mark(setup: &Setup, mark: u32, rule: SignRule, pilot: u8) -> bool
 // Whether a line of the chart tells that a pilot is that of an amount: by its total, or by its mark on the line of a card.
 fn tells_pilot(chart: &Chart, setup: &Setup, line: &Line, amount: &SignedAmount, pilot: u8) -> bool
     requires { IsSignedOf chart.now.lines amount.now }
-    ensures yes { (its : Lists) → IsWiredBy chart.now.lines setup.now its → Contains chart.now.lines line.now → IsTrue result
+    ensures yes { (other : Wiring) (its : Lists) → ShowsPartsOf chart.now.lines setup.now other its → Contains chart.now.lines line.now → IsTrue result
         → pilot_for its amount.now.field.name ≡ Some pilot }
-    ensures no { (its : Lists) → IsWiredBy chart.now.lines setup.now its → Contains chart.now.lines line.now
+    ensures no { (other : Wiring) (its : Lists) → ShowsPartsOf chart.now.lines setup.now other its → Contains chart.now.lines line.now
         → pilot_for its amount.now.field.name ≡ Some pilot → TellsPilot chart.now.lines amount.now.field.name line.now → IsTrue result }
 {
     // What is known of the lines of a chart is told with them.
@@ -145,8 +145,8 @@ fn tells_pilot(chart: &Chart, setup: &Setup, line: &Line, amount: &SignedAmount,
 // Whether some line of the chart tells that a pilot is that of an amount.
 fn is_told(chart: &Chart, setup: &Setup, amount: &SignedAmount, pilot: u8) -> bool
     requires { IsSignedOf chart.now.lines amount.now }
-    ensures yes { (its : Lists) → IsWiredBy chart.now.lines setup.now its → IsTrue result → pilot_for its amount.now.field.name ≡ Some pilot }
-    ensures no { (its : Lists) (line : Line) → IsWiredBy chart.now.lines setup.now its → Contains chart.now.lines line
+    ensures yes { (other : Wiring) (its : Lists) → ShowsPartsOf chart.now.lines setup.now other its → IsTrue result → pilot_for its amount.now.field.name ≡ Some pilot }
+    ensures no { (other : Wiring) (its : Lists) (line : Line) → ShowsPartsOf chart.now.lines setup.now other its → Contains chart.now.lines line
         → pilot_for its amount.now.field.name ≡ Some pilot → TellsPilot chart.now.lines amount.now.field.name line → IsTrue result }
 {
     for line in chart.lines() {
@@ -177,8 +177,8 @@ fn picks_up(setup: &Setup, column: u16, pilot: u8) -> bool
 // Whether a pilot is that of an amount: its sign column leads to it, and a line tells it.
 fn is_pilot(chart: &Chart, setup: &Setup, amount: &SignedAmount, pilot: u8) -> bool
     requires { IsSignedOf chart.now.lines amount.now }
-    ensures yes { (its : Lists) → IsWiredBy chart.now.lines setup.now its → IsTrue result → pilot_for its amount.now.field.name ≡ Some pilot }
-    ensures no { (its : Lists) → IsWiredBy chart.now.lines setup.now its → pilot_for its amount.now.field.name ≡ Some pilot
+    ensures yes { (other : Wiring) (its : Lists) → ShowsPartsOf chart.now.lines setup.now other its → IsTrue result → pilot_for its amount.now.field.name ≡ Some pilot }
+    ensures no { (other : Wiring) (its : Lists) → ShowsPartsOf chart.now.lines setup.now other its → pilot_for its amount.now.field.name ≡ Some pilot
         → IsTold chart.now.lines amount.now.field.name → IsTrue result }
 {
     // What is known of the lines of a chart is told with them.
@@ -190,9 +190,9 @@ fn is_pilot(chart: &Chart, setup: &Setup, amount: &SignedAmount, pilot: u8) -> b
 fn pilot_of(chart: &Chart, setup: &Setup, amount: &SignedAmount) -> Option<u8>
     requires { IsSignedOf chart.now.lines amount.now }
     ensures there { IfSome result (λ pilot. (1 ≤ pilot) × (pilot ≤ 16)) }
-    ensures shown { IfSome result (λ pilot. (its : Lists) → IsWiredBy chart.now.lines setup.now its
+    ensures shown { IfSome result (λ pilot. (other : Wiring) (its : Lists) → ShowsPartsOf chart.now.lines setup.now other its
         → pilot_for its amount.now.field.name ≡ Some pilot) }
-    ensures none { IfNone result ((its : Lists) (pilot : ℕ) → IsWiredBy chart.now.lines setup.now its → 1 ≤ pilot → pilot ≤ 16
+    ensures none { IfNone result ((other : Wiring) (its : Lists) (pilot : ℕ) → ShowsPartsOf chart.now.lines setup.now other its → 1 ≤ pilot → pilot ≤ 16
         → IsTold chart.now.lines amount.now.field.name → ¬ (pilot_for its amount.now.field.name ≡ Some pilot)) }
 {
     for place in 0..16 {
@@ -206,8 +206,8 @@ fn pilot_of(chart: &Chart, setup: &Setup, amount: &SignedAmount) -> Option<u8>
 // The pilot of the amount of a name, if there is one.
 fn shown_pilot(chart: &Chart, setup: &Setup, name: Name) -> Option<u8>
     ensures there { IfSome result (λ pilot. (1 ≤ pilot) × (pilot ≤ 16)) }
-    ensures shown { IfSome result (λ pilot. (its : Lists) → IsWiredBy chart.now.lines setup.now its → pilot_for its name ≡ Some pilot) }
-    ensures none { Contains (pilots_of chart.now.lines) name → IfNone result (IsUnwired chart.now.lines setup.now) }
+    ensures shown { IfSome result (λ pilot. (other : Wiring) (its : Lists) → ShowsPartsOf chart.now.lines setup.now other its → pilot_for its name ≡ Some pilot) }
+    ensures none { Contains (pilots_of chart.now.lines) name → IfNone result (ShowsNoParts chart.now.lines setup.now) }
 {
     // What is known of the lines of a chart is told with them.
     let _lines = chart.lines();
@@ -227,7 +227,7 @@ pub(crate) fn shown_pilots(
     requires { names.now ≡ pilots_of chart.now.lines }
     ensures there { IfOk result (λ shown. IfSome shown (λ list. AreThere 16 list.items)) }
     ensures shown { IfOk result (λ found. IfSome found (λ list. AreShown chart.now.lines setup.now PartKind.Pilot list.items)) }
-    ensures none { IfOk result (λ found. IfNone found (IsUnwired chart.now.lines setup.now)) }
+    ensures none { IfOk result (λ found. IfNone found (ShowsNoParts chart.now.lines setup.now)) }
 {
     // What is known of the lines of a chart is told with them.
     let _lines = chart.lines();

@@ -1,10 +1,12 @@
 //! The plan that a setup shows.
 
 ghost use Rattle.std.specs.Prelude.{◌≡◌, IfOk, ◌∷◌};
+ghost use Rattle.panel_plans.specs.NamingWires.{ShowsPartsOf};
 ghost use Rattle.panel_plans.specs.Renumbered.{with_numbers};
 ghost use Rattle.panel_plans.specs.Wired.{IsWiredBy};
 ghost use Rattle.plans.specs.PartNumbers.{in_order};
-ghost use Rattle.plans.specs.Plans.{IsFor, IsWithinMachine, Lists};
+ghost use Rattle.plans.specs.Plans.{IsWithinMachine, Lists, ServesChart};
+ghost use Rattle.setups.specs.Wiring.{Wiring};
 ghost use Rattle.std.specs.Option.{IsSomeAnd};
 ghost use Rattle.wanted.specs.Wanted.{parts_of};
 
@@ -32,7 +34,8 @@ fn shown_counters(
     chart: &Chart,
     setup: &Setup,
 ) -> Result<Option<Vec<TotalCounter>>, AllocError>
-    ensures { IfOk result (λ shown. (its : Lists) → IsWiredBy chart.now.lines setup.now its → IsSomeAnd shown (λ list. list.items ≡ its.counters)) }
+    ensures { IfOk result (λ shown. (other : Wiring) (its : Lists) → ShowsPartsOf chart.now.lines setup.now other its
+        → IsSomeAnd shown (λ list. list.items ≡ its.counters)) }
 {
     let lines = chart.lines();
     let mut counters = Vec::new(alloc);
@@ -104,7 +107,7 @@ fn with_counters(
     own: &Plan,
     counters: &[TotalCounter],
 ) -> Result<Plan, AllocError>
-    requires { IsFor chart.now.lines own.now }
+    requires { ServesChart chart.now.lines own.now }
     ensures counters { IfOk result (λ plan. plan.counters ≡ counters.now) }
     ensures parts { IfOk result (λ plan. plan.parts ≡ own.now.parts) }
     ensures numbers { IfOk result (λ plan. plan.numbers ≡ in_order own.now.parts) }
@@ -120,8 +123,8 @@ fn with_counters(
 
 // A plan of a chart with the counters of another.
 fn again(alloc: Global, chart: &Chart, own: &Plan) -> Result<Plan, AllocError>
-    requires { IsFor chart.now.lines own.now }
-    ensures { IfOk result (IsFor chart.now.lines) }
+    requires { ServesChart chart.now.lines own.now }
+    ensures { IfOk result (ServesChart chart.now.lines) }
 {
     with_counters(alloc, chart, own, own.counters())
 }
@@ -135,18 +138,18 @@ fn near(
     setup: &Setup,
     counters: &[TotalCounter],
 ) -> Result<Plan, AllocError>
-    requires { IsFor chart.now.lines own.now }
-    ensures { IfOk result (IsFor chart.now.lines) }
+    requires { ServesChart chart.now.lines own.now }
+    ensures { IfOk result (ServesChart chart.now.lines) }
 {
     let in_order = with_counters(alloc, chart, own, counters)?;
-    if in_order.is_for(chart) {
+    if in_order.serves(chart) {
         return Ok(in_order);
     }
     let Some(counters) = near_counters(alloc, chart, setup)? else {
         return again(alloc, chart, own);
     };
     let plan = shown_plan(alloc, chart, own, setup, counters)?;
-    if !plan.is_for(chart) {
+    if !plan.serves(chart) {
         return again(alloc, chart, own);
     }
     Ok(plan)
@@ -160,11 +163,11 @@ fn shown_plan(
     setup: &Setup,
     counters: Vec<TotalCounter>,
 ) -> Result<Plan, AllocError>
-    requires { IsFor chart.now.lines own.now }
+    requires { ServesChart chart.now.lines own.now }
     ensures counters { IfOk result (λ plan. plan.counters ≡ counters.items) }
     ensures parts { IfOk result (λ plan. plan.parts ≡ own.now.parts) }
-    ensures numbers { IfOk result (λ plan. (its : Lists) → IsWiredBy chart.now.lines setup.now its
-        → IsWiredBy chart.now.lines setup.now (with_numbers its plan.numbers)) }
+    ensures numbers { IfOk result (λ plan. (other : Wiring) (its : Lists) → ShowsPartsOf chart.now.lines setup.now other its
+        → IsWiredBy chart.now.lines other (with_numbers its plan.numbers)) }
 {
     // What is known of the parts of every plan is told with them.
     let _pilots = own.pilots();
@@ -182,13 +185,13 @@ fn planned(
     setup: &Setup,
     counters: Vec<TotalCounter>,
 ) -> Result<Plan, AllocError>
-    requires { IsFor chart.now.lines own.now }
-    ensures planned { IfOk result (IsFor chart.now.lines) }
-    ensures kept { IfOk result (λ plan. (its : Lists) → IsWiredBy chart.now.lines setup.now its → counters.items ≡ its.counters
-        → IsWiredBy chart.now.lines setup.now plan) }
+    requires { ServesChart chart.now.lines own.now }
+    ensures planned { IfOk result (ServesChart chart.now.lines) }
+    ensures kept { IfOk result (λ plan. (other : Wiring) (its : Lists) → ShowsPartsOf chart.now.lines setup.now other its
+        → counters.items ≡ its.counters → IsWiredBy chart.now.lines other plan) }
 {
     let plan = shown_plan(alloc, chart, own, setup, counters)?;
-    if plan.is_for(chart) {
+    if plan.serves(chart) {
         Ok(plan)
     } else {
         near(alloc, chart, own, setup, plan.counters())
@@ -197,8 +200,8 @@ fn planned(
 
 // A plan of a chart that is near, where a setup shows no counter of some total.
 fn near_plan(alloc: Global, chart: &Chart, own: &Plan, setup: &Setup) -> Result<Plan, AllocError>
-    requires { IsFor chart.now.lines own.now }
-    ensures { IfOk result (IsFor chart.now.lines) }
+    requires { ServesChart chart.now.lines own.now }
+    ensures { IfOk result (ServesChart chart.now.lines) }
 {
     match near_counters(alloc, chart, setup)? {
         Some(counters) => planned(alloc, chart, own, setup, counters),
@@ -206,18 +209,22 @@ fn near_plan(alloc: Global, chart: &Chart, own: &Plan, setup: &Setup) -> Result<
     }
 }
 
-/// The plan of a chart that the wires of a setup show: where the setup is wired by some plan, one by which it is. Where they show none, one
-/// that is near: what shows no counter of its own has a free one, and where that is no plan of the chart, it has the counters of a plan of
-/// it that is given. Its only refusal is memory.
+/// The plan of a chart that the wires of a setup show: if the setup is wired by some plan, one by which it is. If it differs from one that is
+/// wired by some plan only in wires that name no part, in jacks and in its tape, it is a plan by which that one is wired: so what is missing
+/// and what is too much by the plan is exactly the difference. If the wires show no plan, it is one
+/// that is near: a total that shows no counter of its own gets a free one. If that is no plan of the chart, the counters are those of the
+/// plan that is given. Its only refusal is memory.
 pub fn read_plan(
     alloc: Global,
     chart: &Chart,
     own: &Plan,
     setup: &Setup,
 ) -> Result<Plan, AllocError>
-    requires { IsFor chart.now.lines own.now }
-    ensures planned { IfOk result (IsFor chart.now.lines) }
+    requires { ServesChart chart.now.lines own.now }
+    ensures planned { IfOk result (ServesChart chart.now.lines) }
     ensures found { IfOk result (λ plan. (its : Lists) → IsWiredBy chart.now.lines setup.now its → IsWiredBy chart.now.lines setup.now plan) }
+    ensures shown { IfOk result (λ plan. (other : Wiring) (its : Lists) → ShowsPartsOf chart.now.lines setup.now other its
+        → IsWiredBy chart.now.lines other plan) }
 {
     match shown_counters(alloc, chart, setup)? {
         Some(counters) => planned(alloc, chart, own, setup, counters),

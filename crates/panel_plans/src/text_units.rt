@@ -3,7 +3,7 @@
 ghost use Rattle.std.specs.Prelude.{◌≡◌, ◌↔◌, ◌≤◌, ℕ, IsTrue, IfNone, IfOk, IfSome};
 ghost use Rattle.panel_plans.specs.Shown.{ShowsText};
 ghost use Rattle.panel_plans.specs.Texts.{text_of};
-ghost use Rattle.panel_plans.specs.Renumbered.{AreShown, IsUnwired};
+ghost use Rattle.panel_plans.specs.Renumbered.{AreShown, ShowsNoParts};
 ghost use Rattle.plans.specs.PartNumbers.{AreThere};
 
 use chart_rules::Chart;
@@ -78,7 +78,7 @@ pub(crate) fn shown_units(
 ) -> Result<Option<Vec<u8>>, AllocError>
     ensures there { IfOk result (λ shown. IfSome shown (λ list. AreThere 4 list.items)) }
     ensures shown { IfOk result (λ found. IfSome found (λ list. AreShown chart.now.lines setup.now PartKind.Storage list.items)) }
-    ensures none { IfOk result (λ found. IfNone found (IsUnwired chart.now.lines setup.now)) }
+    ensures none { IfOk result (λ found. IfNone found (ShowsNoParts chart.now.lines setup.now)) }
 {
     let lines = chart.lines();
     let mut units = Vec::new(alloc);

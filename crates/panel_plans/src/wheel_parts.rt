@@ -4,7 +4,7 @@ ghost use Rattle.std.specs.Prelude.{◌≡◌, ◌↔◌, ◌≤◌, ◌++◌, �
 ghost use Rattle.std.specs.Option.{IsSomeAnd};
 ghost use Rattle.hubs.specs.declared.hub.Hub.TheVariants.{W};
 ghost use Rattle.panel_plans.specs.WheelParts.{AreLed, detail_wheel, exit_of, indicated_wheels, sign_wheel, split_wheel, split_wheels, wheel_at, wheels_from};
-ghost use Rattle.panel_plans.specs.Renumbered.{AreShown, IsUnwired};
+ghost use Rattle.panel_plans.specs.Renumbered.{AreShown, ShowsNoParts};
 ghost use Rattle.plans.specs.PartNumbers.{AreThere};
 ghost use Rattle.setups.specs.Wiring.{HasWire};
 ghost use Rattle.wanted.specs.Positions.{indicated_field};
@@ -224,7 +224,7 @@ pub(crate) fn shown_splits(
 ) -> Result<Option<Vec<u8>>, AllocError>
     ensures there { IfOk result (λ shown. IfSome shown (λ list. AreThere 16 list.items)) }
     ensures shown { IfOk result (λ found. IfSome found (λ list. AreShown chart.now.lines setup.now PartKind.Split list.items)) }
-    ensures none { IfOk result (λ found. IfNone found (IsUnwired chart.now.lines setup.now)) }
+    ensures none { IfOk result (λ found. IfNone found (ShowsNoParts chart.now.lines setup.now)) }
 {
     // What is known of the lines of a chart is told with them.
     let _lines = chart.lines();
@@ -242,7 +242,7 @@ pub(crate) fn shown_indicates(
 ) -> Result<Option<Vec<u8>>, AllocError>
     ensures there { IfOk result (λ shown. IfSome shown (λ list. AreThere 30 list.items)) }
     ensures shown { IfOk result (λ found. IfSome found (λ list. AreShown chart.now.lines setup.now (PartKind.Indicate level) list.items)) }
-    ensures none { IfOk result (λ found. IfNone found (IsUnwired chart.now.lines setup.now)) }
+    ensures none { IfOk result (λ found. IfNone found (ShowsNoParts chart.now.lines setup.now)) }
 {
     // What is known of the lines of a chart is told with them.
     let _lines = chart.lines();

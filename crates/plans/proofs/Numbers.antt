@@ -1,6 +1,7 @@
 -- The number of the part that serves a thing, by a test of what is served.
 use Rattle.std.proofs.Common.{◌≡◌, ◌∙◌, ◌⊎◌, inl, inr, refl, sym, ap, subst, ℕ, zero, suc, ◌+◌, ◌≤◌, ◌<◌, Bool, true, List, [], ◌∷◌, ◌++◌, length, take, Option, Some, None, get_or, slice_get, position, arith}
 use Rattle.std.proofs.lemmas.Bool.{cases_lt}
+use Rattle.std.proofs.lemmas.Grind.{same_number_lists}
 use Rattle.std.proofs.lemmas.List.{get_or-take, length-take-le}
 use Rattle.std.specs.List.{Contains, range_with_len}
 use Rattle.std.specs.Option.{option_and_then}
@@ -128,6 +129,43 @@ not-apart numbers place number within at (k, less, is) apart =
     slice_get-get_or numbers k number (omega (arith, lower, within)) ∙ ap Some (sym (get_or-take place numbers k number lower) ∙ is) in
     let same = apart k place number here at in
     omega (arith, same, lower)
+
+-- the first of some numbers are 1, 2 and so on
+pub record AreFirstBelow (numbers : List ℕ) (count : ℕ) : Type 0 where
+  pub first : (place : ℕ) → place < count → get_or numbers place 0 ≡ 1 + place
+
+-- one number more that is the next
+pub first-below-more : (numbers : List ℕ) (place : ℕ) → get_or numbers place 0 ≡ place + 1 → AreFirstBelow numbers place
+    → AreFirstBelow numbers (place + 1)
+first-below-more numbers place is below = record { first = λ other less. by other (cases_lt other place) less } where
+  by : (other : ℕ) → (other < place) ⊎ (place ≤ other) → other < place + 1 → get_or numbers other 0 ≡ 1 + other
+  by other (inl lower) less = below.first other lower
+  by other (inr past) less =
+      let same : other ≡ place = omega (arith, past, less) in
+      let there : get_or numbers other 0 ≡ get_or numbers place 0 = ap (λ k. get_or numbers k 0) same in
+      omega (arith, there, is, same)
+
+-- all of them
+pub first-all : (numbers : List ℕ) (things count : ℕ) → length numbers ≡ things → length numbers ≤ count → AreFirstBelow numbers count
+    → numbers ≡ range_with_len 1 things
+first-all numbers things count many past below =
+    same_number_lists numbers (range_with_len 1 things) (many ∙ sym (length-range_with_len 1 things))
+    (λ k less.
+    let within : k < things = omega (arith, less, many) in
+    below.first k (omega (arith, less, past)) ∙ sym (get_or-range_with_len 1 things k 0 within))
+
+-- not if one is another
+pub not-first : (numbers : List ℕ) (things place : ℕ) → place < length numbers → ¬ (get_or numbers place 0 ≡ place + 1)
+    → ¬ (numbers ≡ range_with_len 1 things)
+not-first numbers things place within other same =
+    let long : length numbers ≡ things = ap length same ∙ length-range_with_len 1 things in
+    let there : get_or numbers place 0 ≡ 1 + place =
+    ap (λ (list : List ℕ). get_or list place 0) same ∙ get_or-range_with_len 1 things place 0 (omega (arith, within, long)) in
+    other (omega (arith, there))
+
+-- nor if there are more or less
+pub not-first-by-length : (numbers : List ℕ) (things : ℕ) → ¬ (length numbers ≡ things) → ¬ (numbers ≡ range_with_len 1 things)
+not-first-by-length numbers things other same = other (ap length same ∙ length-range_with_len 1 things)
 
 -- the parts 1, 2 and so on serve as many things, where there are no more things than parts
 pub first-numbers : (last things : ℕ) → things ≤ last → AreNumbers last things (range_with_len 1 things)

@@ -7,7 +7,7 @@ use Rattle.wanted.specs.declared.total.Total.{Total}
 use Rattle.wanted.specs.declared.count.Capacity.TheVariants as of
 use Rattle.plans.specs.Excess.{IsOver}
 use Rattle.plans.specs.Assignments.{IsAssignment}
-use Rattle.plans.specs.PartNumbers.{AreNumbersOf, PartNumbers}
+use Rattle.plans.specs.PartNumbers.{AreNumbersOf, PartNumbers, in_order}
 use Rattle.plans.specs.declared.counter.TotalCounter.{TotalCounter}
 use Rattle.wanted.specs.Wanted.{Parts, Wanted, wanted_of}
 
@@ -34,9 +34,15 @@ pub record Serves (wanted : Wanted) (plan : Lists) : Type 0 where
   pub intermediate : ¬ IsOver (of.Indicate control.Intermediate) wanted standard
   pub major : ¬ IsOver (of.Indicate control.Major) wanted standard
 
--- a plan is one for a chart
-abbrev pub IsFor : List Line → Lists → Type 0
-IsFor lines plan = Serves (wanted_of lines) plan
+-- a plan serves a chart, whichever parts it has for it
+abbrev pub ServesChart : List Line → Lists → Type 0
+ServesChart lines plan = Serves (wanted_of lines) plan
+
+-- A plan is one for a chart: it serves the chart, and it has a choice of counter groups alone. Of each other kind the parts 1, 2 and so
+-- on serve, each list in the order in which the chart asks for it.
+pub record IsFor (lines : List Line) (plan : Lists) : Type 0 where
+  pub serves : ServesChart lines plan
+  pub numbers : plan.numbers ≡ in_order plan.parts
 
 -- no more is served than the standard machine has parts
 pub record IsWithinMachine (parts : Parts) : Type 0 where

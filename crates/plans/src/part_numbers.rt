@@ -82,6 +82,7 @@ impl Model for PartNumbers {
 
 impl PartNumbers {
     ghost use Rattle.std.specs.Prelude.{◌≡◌, ◌↔◌, IfOk, IsTrue};
+    ghost use Rattle.std.specs.List.{range_with_len};
     ghost use Rattle.std.specs.Prelude.{length};
     ghost use Rattle.wanted.specs.Wanted.{indicate_at};
     ghost use Rattle.plans.specs.PartNumbers.{AreNumbers, AreNumbersOf, AreThere, in_order, last_of, numbers_at, renumbered};
@@ -189,6 +190,26 @@ impl PartNumbers {
             && self.are_at(parts, ControlLevel::Major)
     }
 
+    /// Whether these are the parts 1, 2 and so on of each kind, for these things in their order.
+    pub(crate) fn are_in_order(&self, parts: &Parts) -> bool
+        ensures { IsTrue result ↔ (self.now ≡ in_order parts.now) }
+    {
+        are_first(self.pilots(), parts.pilots().len())
+            && are_first(self.comparing(), parts.comparing().len())
+            && are_first(self.storage(), parts.storage().len())
+            && are_first(self.splits(), parts.splits().len())
+            && self.are_first_at(parts, ControlLevel::Minor)
+            && self.are_first_at(parts, ControlLevel::Intermediate)
+            && self.are_first_at(parts, ControlLevel::Major)
+    }
+
+    /// Whether the indicate positions 1, 2 and so on serve the columns that are indicated at a level.
+    fn are_first_at(&self, parts: &Parts, level: ControlLevel) -> bool
+        ensures { IsTrue result ↔ (numbers_at self.now level ≡ range_with_len 1 (length (indicate_at parts.now level))) }
+    {
+        are_first(self.indicate(level), parts.indicate(level).len())
+    }
+
     /// Whether each of the columns that are indicated at a level has a position of its own.
     fn are_at(&self, parts: &Parts, level: ControlLevel) -> bool
         ensures { IsTrue result ↔ AreNumbers 30 (length (indicate_at parts.now level)) (numbers_at self.now level) }
@@ -209,6 +230,21 @@ fn first_numbers(alloc: Global, things: usize, last: usize) -> Result<Vec<u8>, A
         list.push(place as u8 + 1)?;
     }
     Ok(list)
+}
+
+// Whether these are the numbers 1, 2 and so on, as many as there are things.
+fn are_first(numbers: &[u8], things: usize) -> bool
+    ensures { IsTrue result ↔ (numbers.now ≡ range_with_len 1 things) }
+{
+    if numbers.len() != things {
+        return false;
+    }
+    for (place, number) in numbers.iter().enumerate() {
+        if usize::from(*number) != place + 1 {
+            return false;
+        }
+    }
+    true
 }
 
 // Whether each of so many things has a part of its own, of a machine that has so many parts.

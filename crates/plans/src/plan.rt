@@ -14,7 +14,8 @@ use wanted::{Parts, Position, has_narrow_texts, total_place};
 ///
 /// Contracts see a counter for each TOTAL amount, in the order of their lines; what the other parts serve, in the order in which the
 /// chart asks for it; and the numbers of the parts that serve it. What the other parts serve is no more than the standard machine has
-/// parts. Whether the counters and the numbers go with that, and with a chart, [`is_for`](Plan::is_for) tells.
+/// parts. Whether the counters and the numbers go with that, and with a chart, [`serves`](Plan::serves) tells;
+/// [`is_for`](Plan::is_for) tells whether only the counters are chosen.
 pub struct Plan {
     counters: Vec<TotalCounter>,
     parts: Parts,
@@ -48,7 +49,7 @@ impl Plan {
     ghost use Rattle.wanted.specs.ChartTotals.{totals_of};
     ghost use Rattle.wanted.specs.Wanted.{indicate_at};
     ghost use Rattle.plans.specs.PartNumbers.{in_order, number_for, numbers_at};
-    ghost use Rattle.plans.specs.Plans.{IsFor, IsWithinMachine, counter_on};
+    ghost use Rattle.plans.specs.Plans.{IsFor, IsWithinMachine, ServesChart, counter_on};
     ghost use Rattle.wanted.specs.Positions.{is_same_position};
 
     /// The plan of these counters, and of other parts with these numbers. The other parts serve no more things than the standard machine
@@ -82,17 +83,25 @@ impl Plan {
         Ok(Plan::of(counters, parts, numbers))
     }
 
-    /// Whether this is a plan of the chart: each total has a counter of its own of the standard machine that is enough for
+    /// Whether this plan serves the chart: each total has a counter of its own of the standard machine that is enough for
     /// it, and there are no more counters; the other parts serve what the chart asks for, each thing by a part of its own of the
     /// standard machine, whichever that is; and no text on a total line of the chart is wider than a storage unit, which has 16 columns.
-    pub fn is_for(&self, chart: &Chart) -> bool
-        ensures { IsTrue result ↔ IsFor chart.now.lines self.now }
+    pub fn serves(&self, chart: &Chart) -> bool
+        ensures { IsTrue result ↔ ServesChart chart.now.lines self.now }
     {
         let has_counters = has_assignment(self.counters(), chart);
         let has_parts = self.parts.are_for(chart);
         let has_numbers = self.numbers.are_for(&self.parts);
         let has_width = has_narrow_texts(chart);
         has_counters && has_parts && has_numbers && has_width
+    }
+
+    /// Whether this is a plan of the chart: it serves the chart, and of each kind of parts but the counter groups the parts 1, 2 and so
+    /// on serve what the chart asks for, in its order. Any counter groups do that are enough.
+    pub fn is_for(&self, chart: &Chart) -> bool
+        ensures { IsTrue result ↔ IsFor chart.now.lines self.now }
+    {
+        self.serves(chart) && self.numbers.are_in_order(&self.parts)
     }
 
     /// The counters, one for each TOTAL amount of the chart, in the order of their lines.

@@ -5,3 +5,5 @@ pub mod RowSets
 pub mod WheelWords
 pub mod Wheels
 pub mod ZeroControl
+pub mod Kinds
+pub mod OwnHubs

@@ -48,6 +48,7 @@ fn emit_each(emitter: u8, sets: &mut RowSets)
 }
 
 impl Unit for Emitters {
+    ghost use Rattle.print_unit.specs.OwnHubs.{emitters_keep};
     ghost use Rattle.std.proofs.Common.{refl};
     ghost use Rattle.net.specs.Nothing.{closes_nothing, senses_nothing, ends_unchanged};
     ghost use Rattle.print_unit.specs.Emitters.{emitters_emit, emitters_number};
@@ -61,6 +62,8 @@ impl Unit for Emitters {
     ghost ended = { ends_unchanged };
 
     ghost number = { emitters_number };
+
+    ghost keeps_to_its_own = { emitters_keep };
 
     ghost emits_steadily = { λ unit cycle at other picture hub. refl };
 

@@ -77,6 +77,7 @@ impl Wheels {
 }
 
 impl Unit for Wheels {
+    ghost use Rattle.print_unit.specs.OwnHubs.{wheels_keep};
     ghost use Rattle.std.proofs.Common.{refl};
     ghost use Rattle.net.specs.Nothing.{emits_nothing, closes_nothing};
     ghost use Rattle.print_unit.specs.Wheels.{wheels_sensed, wheels_ended, wheels_number};
@@ -90,6 +91,8 @@ impl Unit for Wheels {
     ghost ended = { wheels_ended };
 
     ghost number = { wheels_number };
+
+    ghost keeps_to_its_own = { wheels_keep };
 
     ghost emits_steadily = { λ unit cycle at other picture hub. refl };
 

@@ -9,11 +9,11 @@ use Rattle.panel_cycles.specs.Below.machine.Cycles.{CycleRun, line_of}
 use Rattle.panel_cycles.specs.Below.machine.Feeds.{due_in, taken}
 use Rattle.panel_cycles.specs.Below.machine.Machine.{MachineState}
 use Rattle.panel_cycles.specs.Below.net.declared.cycle.Cycle.{Cycle}
-use Rattle.panel_cycles.proofs.Below.line_places.BodyLines.{body-placed}
-use Rattle.panel_cycles.proofs.Below.line_places.UnprintedKinds.{unprinted-stays}
-use Rattle.panel_cycles.specs.Below.line_places.CarriageCycles.{carriage_after, line_at}
-use Rattle.panel_cycles.specs.Below.line_places.FormFacts.{HasGoodForm}
-use Rattle.panel_cycles.specs.Below.line_places.Placing.{IsCarriageOf, IsAt, asked_of, kind_of, prints_kind}
+use Rattle.panel_cycles.proofs.LinePlaces.BodyLines.{body-placed}
+use Rattle.panel_cycles.proofs.LinePlaces.UnprintedKinds.{unprinted-stays}
+use Rattle.panel_cycles.specs.LinePlaces.CarriageCycles.{carriage_after, line_at}
+use Rattle.panel_cycles.specs.LinePlaces.FormFacts.{HasGoodForm}
+use Rattle.panel_cycles.specs.LinePlaces.Placing.{IsCarriageOf, IsAt, asked_of, kind_of, prints_kind}
 use Rattle.decks.specs.Below.report.Places.{BodyText, Left, page_of, line_below, left_by, headed, placed}
 use Rattle.printed_reports.proofs.Headings.{IsReadyFor}
 use Rattle.printed_reports.proofs.Steps.{fed_with, GoesFrom, stepped}

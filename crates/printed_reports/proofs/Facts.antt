@@ -1,7 +1,7 @@
 -- What is known of the cycles of a machine that is wired for a chart, cycle by cycle.
 use Rattle.std.proofs.Common.{◌≡◌, ℕ, ◌≤◌, ◌<◌, ◌^◌, true, false, List, unsigned_abs}
 use Rattle.std.specs.Int.{is_negative}
-use Rattle.panel_cycles.specs.Below.counter_cycles.Acts.{Held}
+use Rattle.panel_cycles.specs.Below.totals.CounterCycles.Acts.{Held}
 use Rattle.panel_cycles.specs.Below.plans.Plans.{Lists}
 use Rattle.decks.specs.Below.charts.Chart.{Chart}
 use Rattle.decks.specs.Below.charts.declared.statement.Field.{Field}
@@ -11,7 +11,7 @@ use Rattle.panel_cycles.specs.Below.wired_panels.PanelCycles.{IsCardRead}
 use Rattle.panel_cycles.specs.Below.machine.Machine.{MachineState}
 use Rattle.panel_cycles.specs.Below.net.declared.cycle.Cycle.{Cycle}
 use Rattle.panel_cycles.specs.Below.net.declared.cycle.Cycle.TheVariants.{RunIn, Card, Prog, Head}
-use Rattle.panel_cycles.specs.Below.line_places.CarriageCycles.{carriage_after}
+use Rattle.panel_cycles.specs.LinePlaces.CarriageCycles.{carriage_after}
 use Rattle.decks.specs.Below.report.Totals.{total_of}
 use Rattle.panel_cycles.specs.Below.selectors.Indicate.{indicate_ended}
 use Rattle.panel_cycles.specs.Below.whole_cycles.Between.{IsReady}

@@ -15,12 +15,12 @@ use Rattle.panel_cycles.specs.Below.net.Printing.{prints}
 use Rattle.panel_cycles.specs.Below.net.declared.cycle.Cycle.TheVariants.{Card, Head}
 use Rattle.panel_cycles.specs.Below.net.declared.cycle.ProgramLevel.{ProgramLevel}
 use Rattle.panel_cycles.specs.Below.net.declared.cycle.Ordinal.TheVariants.{First}
-use Rattle.panel_cycles.proofs.Below.line_places.BodyLines.{jacks-print}
-use Rattle.panel_cycles.proofs.Below.line_places.CyclesDue.{cards-due, cards-wait, others-come}
-use Rattle.panel_cycles.proofs.Below.line_places.DueCycles.{due, is_between, stage_after}
-use Rattle.panel_cycles.proofs.Below.line_places.LawfulForms.{form-lawful}
-use Rattle.panel_cycles.specs.Below.line_places.FormFacts.{HasGoodForm}
-use Rattle.panel_cycles.specs.Below.line_places.Placing.{IsCarriageOf, IsAt, prints_kind, printing_of_chart}
+use Rattle.panel_cycles.proofs.LinePlaces.BodyLines.{jacks-print}
+use Rattle.panel_cycles.proofs.LinePlaces.CyclesDue.{cards-due, cards-wait, others-come}
+use Rattle.panel_cycles.proofs.LinePlaces.DueCycles.{due, is_between, stage_after}
+use Rattle.panel_cycles.proofs.LinePlaces.LawfulForms.{form-lawful}
+use Rattle.panel_cycles.specs.LinePlaces.FormFacts.{HasGoodForm}
+use Rattle.panel_cycles.specs.LinePlaces.Placing.{IsCarriageOf, IsAt, prints_kind, printing_of_chart}
 use Rattle.panel_cycles.specs.Below.program_unit.CycleOrder.{card_over, is_fresh, levels_to, top_level, headed as headed_by}
 use Rattle.panel_cycles.specs.Below.program_unit.Program.{stage_ended}
 use Rattle.panel_cycles.specs.Below.program_unit.declared.stage.Stage.{Stage}

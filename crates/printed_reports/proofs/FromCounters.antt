@@ -1,9 +1,9 @@
 -- What a cycle leaves of the totals of an amount: each holds what its act makes of what it held.
 use Rattle.std.proofs.Common.{◌≡◌, ◌∙◌, refl, sym, ap, subst, ℕ, ◌≤◌, Bool, true, false, List, Contains, Option, Some, None, is_some, option_and_then, if◌then◌else◌, arith, ◌+◌, inl, inr}
 use Rattle.std.proofs.lemmas.List.Elements.{All-contains}
-use Rattle.panel_cycles.proofs.Below.counter_cycles.ActLemmas.{acts-done}
-use Rattle.panel_cycles.specs.Below.counter_cycles.Acts.{Act, Asks, Held, IsWithinGroup, held_after, held_by}
-use Rattle.panel_cycles.specs.Below.counter_cycles.Acts.Act.{Still}
+use Rattle.panel_cycles.proofs.Below.totals.CounterCycles.ActLemmas.{acts-done}
+use Rattle.panel_cycles.specs.Below.totals.CounterCycles.Acts.{Act, Asks, Held, IsWithinGroup, held_after, held_by}
+use Rattle.panel_cycles.specs.Below.totals.CounterCycles.Acts.Act.{Still}
 use Rattle.panel_cycles.specs.Below.plans.Plans.{Lists}
 use Rattle.decks.specs.Below.charts.Chart.{Chart, NumbersRise}
 use Rattle.decks.specs.Below.charts.Levels.{level_number}
@@ -35,8 +35,8 @@ use Rattle.panel_cycles.specs.Below.field_rules.Coupled.{has_sign}
 use Rattle.panel_cycles.specs.Below.field_rules.Fields.{field_named}
 use Rattle.panel_cycles.specs.Below.plans.declared.counter.TotalCounter.{TotalCounter}
 use Rattle.panel_cycles.specs.Below.plans.declared.counter.TotalCounter.TheVariants as of
-use Rattle.panel_cycles.proofs.Below.counter_cycles.PairLemmas.{pairs-done}
-use Rattle.panel_cycles.specs.Below.counter_cycles.Pairs.{AsksBoth, held_by_both}
+use Rattle.panel_cycles.proofs.Below.totals.CounterCycles.PairLemmas.{pairs-done}
+use Rattle.panel_cycles.specs.Below.totals.CounterCycles.Pairs.{AsksBoth, held_by_both}
 use Rattle.panel_cycles.specs.Below.counters.Laws.{number_of_both}
 use Rattle.panel_cycles.specs.Below.net.declared.cycle.Point.{Point}
 use Rattle.panel_cycles.specs.Below.net.declared.cycle.Point.TheVariants.{K}

@@ -13,8 +13,8 @@ use Rattle.panel_cycles.specs.Below.machine.Cycles.{CycleRun}
 use Rattle.panel_cycles.specs.Below.machine.Machine.{MachineState}
 use Rattle.panel_cycles.specs.Below.net.declared.cycle.Cycle.{Cycle}
 use Rattle.panel_cycles.specs.Below.net.declared.cycle.Cycle.TheVariants.{Card}
-use Rattle.panel_cycles.specs.Below.line_places.CarriageCycles.{carriage_after}
-use Rattle.panel_cycles.specs.Below.line_places.Placing.{kind_of}
+use Rattle.panel_cycles.specs.LinePlaces.CarriageCycles.{carriage_after}
+use Rattle.panel_cycles.specs.LinePlaces.Placing.{kind_of}
 use Rattle.panel_cycles.specs.Below.program_unit.CycleOrder.{levels_to, top_level}
 use Rattle.decks.specs.Below.report.Breaks.{ended_after}
 use Rattle.panel_cycles.specs.Below.selectors.Pilots.{moves_pilots}

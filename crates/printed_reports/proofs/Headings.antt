@@ -16,14 +16,14 @@ use Rattle.panel_cycles.specs.Below.net.declared.cycle.Cycle.{Cycle}
 use Rattle.panel_cycles.specs.Below.net.declared.cycle.Cycle.TheVariants.{Head}
 use Rattle.panel_cycles.specs.Below.net.declared.cycle.Ordinal.{Ordinal}
 use Rattle.panel_cycles.specs.Below.net.declared.cycle.Ordinal.TheVariants.{First, Second, Third}
-use Rattle.panel_cycles.proofs.Below.line_places.CyclesDue.{headings-come}
-use Rattle.panel_cycles.proofs.Below.line_places.DueCycles.{due}
-use Rattle.panel_cycles.proofs.Below.line_places.HeadingLines.{headings-placed}
-use Rattle.panel_cycles.proofs.Below.line_places.Placements.{ready-within}
-use Rattle.panel_cycles.specs.Below.line_places.CarriageCycles.{begun_by, carriage_after, line_at, heading_cycles, lines_placed}
-use Rattle.panel_cycles.specs.Below.line_places.FormFacts.{HasGoodForm}
-use Rattle.panel_cycles.specs.Below.line_places.Laws.{AreHeadingTexts}
-use Rattle.panel_cycles.specs.Below.line_places.Placing.{IsCarriageOf, IsAt, AwaitsBody}
+use Rattle.panel_cycles.proofs.LinePlaces.CyclesDue.{headings-come}
+use Rattle.panel_cycles.proofs.LinePlaces.DueCycles.{due}
+use Rattle.panel_cycles.proofs.LinePlaces.HeadingLines.{headings-placed}
+use Rattle.panel_cycles.proofs.LinePlaces.Placements.{ready-within}
+use Rattle.panel_cycles.specs.LinePlaces.CarriageCycles.{begun_by, carriage_after, line_at, heading_cycles, lines_placed}
+use Rattle.panel_cycles.specs.LinePlaces.FormFacts.{HasGoodForm}
+use Rattle.panel_cycles.specs.LinePlaces.Laws.{AreHeadingTexts}
+use Rattle.panel_cycles.specs.LinePlaces.Placing.{IsCarriageOf, IsAt, AwaitsBody}
 use Rattle.panel_cycles.specs.Below.program_unit.CycleOrder.{headed as headed_by, after_heading}
 use Rattle.panel_cycles.specs.Below.program_unit.Program.{ProgramState, stage_ended}
 use Rattle.panel_cycles.specs.Below.program_unit.declared.stage.Stage.{Stage}

@@ -3,7 +3,7 @@
 use Rattle.std.proofs.Common.{◌≡◌, ◌∙◌, refl, sym, ap, subst, ℕ, suc, ◌+◌, nat_le, ◌≤◌, ◌<◌, ◌^◌, ℤ, Bool, true, false, List, [], Option, Some, None, if◌then◌else◌, arith, unsigned_abs}
 use Rattle.std.specs.Int.{is_negative}
 use Rattle.std.proofs.lemmas.Bool.Decides.{nat_tests}
-use Rattle.panel_cycles.specs.Below.counter_cycles.Acts.{Held}
+use Rattle.panel_cycles.specs.Below.totals.CounterCycles.Acts.{Held}
 use Rattle.panel_cycles.specs.Below.plans.Plans.{Lists}
 use Rattle.panel_cycles.specs.Below.carriage.Asked.{nothing_asked}
 use Rattle.decks.specs.Below.chart_rules.ValidCard.{IsValidCard}

@@ -22,13 +22,13 @@ use Rattle.panel_cycles.specs.Below.net.declared.cycle.Cycle.TheVariants.{Prog, 
 use Rattle.panel_cycles.specs.Below.net.declared.cycle.ProgramLevel.{ProgramLevel}
 use Rattle.panel_cycles.specs.Below.net.declared.cycle.ProgramLevel.TheVariants.{Final}
 use Rattle.panel_cycles.specs.Below.net.declared.cycle.Ordinal.TheVariants.{First, Second, Third}
-use Rattle.panel_cycles.proofs.Below.line_places.BodyLines.{jacks-print}
-use Rattle.panel_cycles.proofs.Below.line_places.CyclesDue.{levels-due, levels-rise, seconds-due, thirds-due, totals-wait, others-come}
-use Rattle.panel_cycles.proofs.Below.line_places.DueCycles.{due, stage_after}
-use Rattle.panel_cycles.proofs.Below.line_places.Placements.{quiet-stays}
-use Rattle.panel_cycles.specs.Below.line_places.CarriageCycles.{begins_page, carriage_after, line_at}
-use Rattle.panel_cycles.specs.Below.line_places.FormFacts.{HasGoodForm}
-use Rattle.panel_cycles.specs.Below.line_places.Placing.{IsCarriageOf, IsAt, prints_kind, printing_of_chart}
+use Rattle.panel_cycles.proofs.LinePlaces.BodyLines.{jacks-print}
+use Rattle.panel_cycles.proofs.LinePlaces.CyclesDue.{levels-due, levels-rise, seconds-due, thirds-due, totals-wait, others-come}
+use Rattle.panel_cycles.proofs.LinePlaces.DueCycles.{due, stage_after}
+use Rattle.panel_cycles.proofs.LinePlaces.Placements.{quiet-stays}
+use Rattle.panel_cycles.specs.LinePlaces.CarriageCycles.{begins_page, carriage_after, line_at}
+use Rattle.panel_cycles.specs.LinePlaces.FormFacts.{HasGoodForm}
+use Rattle.panel_cycles.specs.LinePlaces.Placing.{IsCarriageOf, IsAt, prints_kind, printing_of_chart}
 use Rattle.panel_cycles.specs.Below.program_unit.CycleOrder.{card_over, has_level_left, level_above, levels_to, top_level, headed as headed_by}
 use Rattle.panel_cycles.specs.Below.program_unit.Program.{ProgramState, stage_ended}
 use Rattle.panel_cycles.specs.Below.program_unit.declared.stage.Stage.TheVariants.{RanProg, BeforeTotal}

@@ -14,9 +14,9 @@ use Rattle.panel_cycles.specs.Below.machine.Runs.{has_more, moved_on}
 use Rattle.panel_cycles.specs.Below.net.Printing.{printing_of}
 use Rattle.panel_cycles.specs.Below.net.declared.cycle.Cycle.TheVariants.{RunIn}
 use Rattle.panel_cycles.specs.Below.net.declared.cycle.ProgramLevel.{ProgramLevel}
-use Rattle.panel_cycles.proofs.Below.line_places.DueCycles.{due, is_between}
-use Rattle.panel_cycles.proofs.Below.line_places.Placements.{starts}
-use Rattle.panel_cycles.specs.Below.line_places.Placing.{IsCarriageOf, IsFormOf, printing_of_chart}
+use Rattle.panel_cycles.proofs.LinePlaces.DueCycles.{due, is_between}
+use Rattle.panel_cycles.proofs.LinePlaces.Placements.{starts}
+use Rattle.panel_cycles.specs.LinePlaces.Placing.{IsCarriageOf, IsFormOf, printing_of_chart}
 use Rattle.panel_cycles.specs.Below.program_unit.CycleOrder.{card_over}
 use Rattle.panel_cycles.specs.Below.program_unit.Program.{ProgramState}
 use Rattle.decks.specs.Below.report.Places.{before_all, placed}

@@ -4,7 +4,7 @@ use Rattle.std.proofs.Common.{◌≡◌, ◌∙◌, refl, sym, ap, subst, ℕ, z
 use Rattle.std.specs.Int.{is_negative}
 use Rattle.std.proofs.lemmas.Bool.Decides.{nat_tests}
 use Rattle.std.proofs.lemmas.Int.{ints}
-use Rattle.panel_cycles.specs.Below.counter_cycles.Acts.{Held}
+use Rattle.panel_cycles.specs.Below.totals.CounterCycles.Acts.{Held}
 use Rattle.decks.specs.Below.charts.declared.statement.Field.{Field}
 use Rattle.panel_cycles.specs.Below.net.declared.cycle.Ordinal.TheVariants.{First, Second, Third}
 use Rattle.decks.specs.Below.report.Amounts.{digits_on, is_negated, number_in, value_of}

@@ -1,7 +1,7 @@
 -- What a machine that is wired for a chart holds between its cycles: the latches of group indication, the pilots, the totals and the stored
 -- texts.
 use Rattle.std.specs.Prelude.{◌≡◌, ℕ, suc, ◌≤◌, ℤ, List, Option, Some}
-use Rattle.panel_cycles.specs.Below.counter_cycles.Acts.{Held}
+use Rattle.panel_cycles.specs.Below.totals.CounterCycles.Acts.{Held}
 use Rattle.panel_cycles.specs.Below.plans.Plans.{Lists}
 use Rattle.decks.specs.Below.charts.Chart.{Chart}
 use Rattle.decks.specs.Below.charts.declared.statement.Field.{Field}

@@ -16,7 +16,7 @@ use Rattle.panel_cycles.specs.Below.net.declared.cycle.Cycle.TheVariants.{Card, 
 use Rattle.panel_cycles.specs.Below.net.declared.cycle.ProgramLevel.{ProgramLevel}
 use Rattle.panel_cycles.specs.Below.net.declared.cycle.Ordinal.{Ordinal}
 use Rattle.panel_cycles.specs.Below.net.declared.cycle.Ordinal.TheVariants.{First, Second, Third}
-use Rattle.panel_cycles.specs.Below.line_places.Placing.{IsFormOf, printing_of_chart}
+use Rattle.panel_cycles.specs.LinePlaces.Placing.{IsFormOf, printing_of_chart}
 use Rattle.decks.specs.Below.report.Breaks.{ended_after, taking}
 use Rattle.printed_reports.specs.Steps.{GoesOn, Heads, RunsCard, Totals}
 

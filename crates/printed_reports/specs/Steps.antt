@@ -11,8 +11,8 @@ use Rattle.panel_cycles.specs.Below.net.declared.cycle.Cycle.TheVariants.{Card, 
 use Rattle.panel_cycles.specs.Below.net.declared.cycle.ProgramLevel.{ProgramLevel}
 use Rattle.panel_cycles.specs.Below.net.declared.cycle.Ordinal.{Ordinal}
 use Rattle.panel_cycles.specs.Below.net.declared.cycle.Ordinal.TheVariants.{Third}
-use Rattle.panel_cycles.specs.Below.line_places.CarriageCycles.{carriage_after}
-use Rattle.panel_cycles.specs.Below.line_places.Placing.{asked_of}
+use Rattle.panel_cycles.specs.LinePlaces.CarriageCycles.{carriage_after}
+use Rattle.panel_cycles.specs.LinePlaces.Placing.{asked_of}
 use Rattle.panel_cycles.specs.Below.program_unit.CycleOrder.{levels_to, top_level}
 use Rattle.panel_cycles.specs.Below.program_unit.Program.{program_ended}
 use Rattle.panel_cycles.specs.Below.program_unit.declared.stage.Stage.TheVariants.{RanCard}

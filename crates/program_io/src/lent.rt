@@ -11,6 +11,8 @@ use std::io::Write;
 #[derive(Drop)]
 pub struct Lent<'a, W: Write> {
     writer: &'a mut W,
+    // For contracts alone: a writer of std doesn't tell whether it was flushed.
+    is_flushed: bool,
     has_failed: bool,
     wants_memory: bool,
 }
@@ -23,6 +25,7 @@ impl<'a, W: Write> Lent<'a, W> {
     {
         Lent {
             writer,
+            is_flushed: false,
             has_failed: false,
             wants_memory: false,
         }
@@ -61,6 +64,8 @@ impl<'a, W: Write> Lent<'a, W> {
 impl<W: Write> Sink for Lent<'_, W> {
     ghost held = { λ sink. W.contents sink.writer.now };
 
+    ghost is_flushed = { λ sink. sink.is_flushed };
+
     ghost has_failed = { λ sink. sink.has_failed };
 
     ghost borrow = { λ sink. sink.writer.ghost_name };
@@ -70,7 +75,10 @@ impl<W: Write> Sink for Lent<'_, W> {
             return Err(DeviceFailed);
         }
         match self.writer.write(bytes) {
-            Ok(taken) if taken > 0 || bytes.is_empty() => Ok(taken),
+            Ok(taken) if taken > 0 || bytes.is_empty() => {
+                self.is_flushed = false;
+                Ok(taken)
+            }
             Ok(_) => Err(self.fail(Fault::Write)),
             Err(error) => Err(self.fail(unprinted(&error))),
         }
@@ -81,7 +89,10 @@ impl<W: Write> Sink for Lent<'_, W> {
             return Err(DeviceFailed);
         }
         match self.writer.flush() {
-            Ok(()) => Ok(()),
+            Ok(()) => {
+                self.is_flushed = true;
+                Ok(())
+            }
             Err(error) => Err(self.fail(unprinted(&error))),
         }
     }

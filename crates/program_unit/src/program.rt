@@ -158,6 +158,7 @@ impl Program {
 }
 
 impl Unit for Program {
+    ghost use Rattle.program_unit.specs.OwnHubs.{program_keeps};
     ghost use Rattle.std.specs.Prelude.{refl};
     ghost use Rattle.net.specs.Nothing.{closes_nothing};
     ghost use Rattle.program_unit.specs.Program.{program_emits, program_sensed, program_ended, program_number};
@@ -187,6 +188,8 @@ impl Unit for Program {
     fn end_cycle(&mut self, cycle: Cycle) {
         self.stage = stage_ended(self.stage, cycle);
     }
+
+    ghost keeps_to_its_own = { program_keeps };
 
     ghost emits_steadily = { λ unit cycle at other picture hub. refl };
 

@@ -7,7 +7,7 @@ use browser_pages::show_to_end;
 use check_calls::check_deck_to_end;
 use command_line::{Refused, Wanted, read_words};
 use commands::{Fault, chart_and_deck, read_whole, replay_by_orders, serve, tell, unprinted};
-use guides::fault_to_end;
+use fault_guide::guides::fault_to_end;
 use match_calls::{match_deck_to_end, match_to_end};
 use panel_guides::{Place, explain_to_end, legend_to_end};
 use std::fs::File;

@@ -7,3 +7,5 @@ pub mod Splits
 pub mod Spread
 pub mod Steady
 pub mod WholeCycles
+pub mod Kinds
+pub mod OwnHubs

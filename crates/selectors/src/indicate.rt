@@ -71,6 +71,7 @@ impl Indicate {
 }
 
 impl Unit for Indicate {
+    ghost use Rattle.selectors.specs.OwnHubs.{indicate_keeps};
     ghost use Rattle.std.specs.Prelude.{refl};
     ghost use Rattle.net.specs.Nothing.{emits_nothing, senses_nothing};
     ghost use Rattle.selectors.specs.Indicate.{indicate_closes, indicate_ended, indicate_number};
@@ -102,6 +103,8 @@ impl Unit for Indicate {
             _ => {}
         }
     }
+
+    ghost keeps_to_its_own = { indicate_keeps };
 
     ghost emits_steadily = { λ unit cycle at other picture hub. refl };
 

@@ -88,6 +88,7 @@ impl Pilots {
 }
 
 impl Unit for Pilots {
+    ghost use Rattle.selectors.specs.OwnHubs.{pilots_keep};
     ghost use Rattle.std.specs.Prelude.{refl};
     ghost use Rattle.net.specs.Nothing.{emits_nothing};
     ghost use Rattle.selectors.specs.Pilots.{pilots_closes, pilots_sensed, pilots_ended, pilots_number};
@@ -118,6 +119,8 @@ impl Unit for Pilots {
             self.picked_up = [false; PILOTS];
         }
     }
+
+    ghost keeps_to_its_own = { pilots_keep };
 
     ghost emits_steadily = { λ unit cycle at other picture hub. refl };
 

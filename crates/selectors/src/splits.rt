@@ -43,6 +43,7 @@ impl Splits {
 }
 
 impl Unit for Splits {
+    ghost use Rattle.selectors.specs.OwnHubs.{splits_keep};
     ghost use Rattle.std.specs.Prelude.{refl};
     ghost use Rattle.net.specs.Nothing.{emits_nothing, senses_nothing, ends_unchanged};
     ghost use Rattle.selectors.specs.Splits.{splits_closes, splits_number};
@@ -62,6 +63,8 @@ impl Unit for Splits {
     fn sense(&mut self, _cycle: Cycle, _point: Point, _picture: &Picture) {}
 
     fn end_cycle(&mut self, _cycle: Cycle) {}
+
+    ghost keeps_to_its_own = { splits_keep };
 
     ghost emits_steadily = { λ unit cycle at other picture hub. refl };
 

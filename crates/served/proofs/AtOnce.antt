@@ -8,7 +8,8 @@ use Rattle.net.specs.Cycles.{point_at}
 use Rattle.net.specs.Impulsed.{IsPicture}
 use Rattle.net.specs.declared.cycle.Cycle.{Cycle}
 use Rattle.served.specs.Laws.{UnitsCanActAtOnce}
-use Rattle.served.specs.Units.{Kind, all_close, all_emit}
+use Rattle.net.specs.Units.{Kind}
+use Rattle.served.specs.Units.{all_close, all_emit}
 
 module _ {State : Type 0} (kind : Kind State) (wiring : Wiring) (cycle : Cycle) (count : ℕ) (units : ℕ → State) where
   picture_by : (ℕ → State) → ℕ → Hub → Bool

@@ -6,7 +6,8 @@ use Rattle.net.specs.declared.cycle.Cycle.{Cycle}
 use Rattle.served.specs.Laws.{CyclesHaveTheirSteps}
 use Rattle.served.specs.Steps.{AreOver, Emits, Runs, Senses, Served, Starts, Step, Takes}
 use Rattle.served.specs.Steps.Step.{emission, sensing}
-use Rattle.served.specs.Units.{IsUnit, Kind}
+use Rattle.net.specs.Units.{Kind}
+use Rattle.served.specs.Units.{IsUnit}
 
 -- one where a unit has emitted at its point
 pub one_if : Bool → ℕ

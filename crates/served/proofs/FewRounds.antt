@@ -11,7 +11,8 @@ use Rattle.served.specs.Laws.{RoundsAreFew, RoundsAreSteps}
 use Rattle.served.specs.Orders.{NamesAll}
 use Rattle.served.specs.Rounds.{Round, Rounds, Turn}
 use Rattle.served.specs.Steps.{AreOver, Runs, Served, Step}
-use Rattle.served.specs.Units.{IsUnit, Kind}
+use Rattle.net.specs.Units.{Kind}
+use Rattle.served.specs.Units.{IsUnit}
 
 module _ {State : Type 0} (kind : Kind State) (wiring : Wiring) (cycle : Cycle) (count : ℕ) where
   -- steps, and then other steps

@@ -14,7 +14,8 @@ use Rattle.served.specs.Cycles.{IsAtOnce}
 use Rattle.served.specs.Laws.{SchedulesEndAsAtOnce}
 use Rattle.served.specs.Steps.{Emits, HasEmitted, Runs, Senses, Served, Starts, Step, Takes}
 use Rattle.served.specs.Steps.Step.{emission, sensing}
-use Rattle.served.specs.Units.{IsUnit, KeepsToItsOwn, Kind, all_close, all_emit}
+use Rattle.net.specs.Units.{KeepsToItsOwn, Kind}
+use Rattle.served.specs.Units.{IsUnit, all_close, all_emit}
 use Rattle.served.specs.Waits.{MayReach}
 
 -- what is kept by each step

@@ -14,7 +14,8 @@ use Rattle.served.proofs.Progress.{some_step}
 use Rattle.served.specs.Laws.{UnitsCanGoBySteps}
 use Rattle.served.specs.Steps.{AreOver, CanStep, Emits, MayEmit, MaySense, Runs, Senses, Served, Starts, Step, Takes}
 use Rattle.served.specs.Steps.Step.{emission, sensing}
-use Rattle.served.specs.Units.{Kind, all_close}
+use Rattle.net.specs.Units.{Kind}
+use Rattle.served.specs.Units.{all_close}
 
 -- one value of a function put in the place of another
 put : {A : Type 0} → ℕ → A → (ℕ → A) → ℕ → A

@@ -6,7 +6,8 @@ use Rattle.setups.specs.Wiring.{Wiring}
 use Rattle.net.specs.Cycles.{point_at}
 use Rattle.net.specs.declared.cycle.Cycle.{Cycle}
 use Rattle.served.specs.Cycles.{IsAtOnce}
-use Rattle.served.specs.Units.{AreNumbered, IsUnit, KeepsToItsOwn, Kind, some_unit}
+use Rattle.net.specs.Units.{KeepsToItsOwn, Kind}
+use Rattle.served.specs.Units.{AreNumbered, IsUnit, some_unit}
 
 -- a unit that passes a test
 pub record Found (test : ℕ → Bool) (count : ℕ) : Type 0 where

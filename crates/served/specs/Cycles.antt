@@ -6,7 +6,8 @@ use Rattle.setups.specs.Wiring.{Wiring}
 use Rattle.net.specs.Cycles.{point_at}
 use Rattle.net.specs.Impulsed.{IsPicture}
 use Rattle.net.specs.declared.cycle.Cycle.{Cycle}
-use Rattle.served.specs.Units.{Kind, IsUnit, AreNumbered, all_emit, all_close}
+use Rattle.net.specs.Units.{Kind}
+use Rattle.served.specs.Units.{IsUnit, AreNumbered, all_emit, all_close}
 
 -- The states of the units through a cycle: before the point with each place, 0 to 13, and at 14 after the closing point.
 pub record IsAtOnce {State : Type 0} (kind : Kind State) (wiring : Wiring) (cycle : Cycle) (count : ℕ)

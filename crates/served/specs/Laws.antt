@@ -6,7 +6,8 @@ use Rattle.served.specs.Cycles.{IsAtOnce}
 use Rattle.served.specs.Orders.{NamesAll}
 use Rattle.served.specs.Rounds.{Rounds}
 use Rattle.served.specs.Steps.{AreOver, CanStep, Runs, Served, Starts, Step}
-use Rattle.served.specs.Units.{AreNumbered, IsUnit, KeepsToItsOwn, Kind}
+use Rattle.net.specs.Units.{KeepsToItsOwn, Kind}
+use Rattle.served.specs.Units.{AreNumbered, IsUnit}
 
 -- Whatever steps are taken until the cycle is over for all, each unit ends as it does where all units act at once.
 abbrev pub SchedulesEndAsAtOnce : Type 0 → Type 0

@@ -2,7 +2,7 @@
 use Rattle.std.specs.Prelude.{◌≡◌, ℕ, List, [], ◌∷◌}
 use Rattle.setups.specs.Wiring.{Wiring}
 use Rattle.net.specs.declared.cycle.Cycle.{Cycle}
-use Rattle.served.specs.Units.{Kind}
+use Rattle.net.specs.Units.{Kind}
 use Rattle.served.specs.Steps.{AreOver, CanStep, Runs, Served, Step}
 use Rattle.served.specs.Steps.Step.{emission, sensing}
 

@@ -7,7 +7,8 @@ use Rattle.setups.specs.Wiring.{Wiring}
 use Rattle.net.specs.Cycles.{point_at}
 use Rattle.net.specs.Impulsed.{IsPicture}
 use Rattle.net.specs.declared.cycle.Cycle.{Cycle}
-use Rattle.served.specs.Units.{Kind, IsUnit, all_close}
+use Rattle.net.specs.Units.{Kind}
+use Rattle.served.specs.Units.{IsUnit, all_close}
 use Rattle.served.specs.Waits.{WaitsFor}
 
 -- What stands inside a cycle. For each unit its state, the place of the point to which it has come, 14 after the closing point,

@@ -1,7 +1,22 @@
 //! Laws of units that run ahead of one another, over the states of any kind of units that keep to their own hubs. Each is a
 //! function that does nothing: its contract is the law.
 
+ghost use Rattle.net.specs.Units.{KeepsToItsOwn};
 ghost use Rattle.served.specs.Laws.{CyclesHaveTheirSteps, RoundsAreFew, RoundsAreSteps, SchedulesEndAsAtOnce, SomeUnitCanStep, UnitsCanActAtOnce, UnitsCanGoBySteps};
+
+use net::Unit;
+
+/// A unit of any type emits at its own exits, closes its own contacts and senses its own entries alone, whatever its state, and keeps
+/// its number: each type of units proves it.
+pub fn a_unit_keeps_to_its_own<U: Unit>()
+    ensures { KeepsToItsOwn (record {
+      emits = U.emits;
+      closes = U.closes;
+      sensed = U.sensed;
+      ended = U.ended;
+      number = U.number;
+    }) }
+{}
 
 /// Whatever steps the units take until the cycle is over for all, each unit ends as it does where all units act at once.
 pub fn schedules_end_as_at_once<State>()

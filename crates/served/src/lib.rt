@@ -9,7 +9,7 @@ mod laws;
 mod service;
 
 pub use laws::{
-    cycles_have_their_steps, rounds_are_few, rounds_are_steps, schedules_end_as_at_once,
-    some_unit_can_step, units_can_act_at_once, units_can_go_by_steps,
+    a_unit_keeps_to_its_own, cycles_have_their_steps, rounds_are_few, rounds_are_steps,
+    schedules_end_as_at_once, some_unit_can_step, units_can_act_at_once, units_can_go_by_steps,
 };
 pub use service::{NotAnOrder, Service, UNITS, is_order};

@@ -4,8 +4,8 @@ use Rattle.compile407.specs.Below.charts.Chart.{Chart}
 use Rattle.compile407.specs.Headline.{IsSound}
 use Rattle.compile407.specs.Below.page_text.Pages.{Pages}
 use Rattle.served_runs.specs.Below.placed_lines.declared.placed_line.PlacedLine.{PlacedLine}
-use Rattle.compile407.specs.Below.plans.Plans.{Lists, IsFor}
-use Rattle.compile407.specs.Below.promises.Promises.{IsDeck, PrintsReport}
+use Rattle.compile407.specs.Below.plans.Plans.{Lists, ServesChart}
+use Rattle.compile407.specs.Below.streamed_runs.PrintPromises.Promises.{IsDeck, PrintsReport}
 use Rattle.compile407.specs.Below.report.ChartForm.{form_of}
 use Rattle.compile407.specs.Below.report.Report.{Report}
 use Rattle.compile407.specs.Below.report.Totals.{Fits}
@@ -32,5 +32,5 @@ ServedSetupsPrintTheirReports = (chart : Chart) (wiring : Wiring) → PrintsRepo
 -- Every setup that is wired for a sound chart by a plan of it prints the chart's reports where the units run ahead of one another.
 abbrev pub WiredSetupsPrintReportsServed : Type 0
 WiredSetupsPrintReportsServed =
-    (chart : Chart) (plan : Lists) (wiring : Wiring) → IsSound chart → IsFor chart.lines plan →
+    (chart : Chart) (plan : Lists) (wiring : Wiring) → IsSound chart → ServesChart chart.lines plan →
     WiredFor chart.lines plan wiring → PrintsReportServed chart wiring

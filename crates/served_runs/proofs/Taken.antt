@@ -161,7 +161,7 @@ pub waits_by : (wiring : Wiring) (waits : List ℕ) (unit other : ℕ) → AreWa
 waits_by wiring waits unit other are is is_other =
     let one : unit - 1 + 1 ≡ unit = omega (arith, is.0) in
     let two : other - 1 + 1 ≡ other = omega (arith, is_other.0) in
-    let own = are (unit - 1) (other - 1) (omega (arith, is.0), omega (arith, is.1)) in (
+    let own = are (unit - 1) (omega (arith, is.0), omega (arith, is.1)) (other - 1) in (
       λ on.
           subst (λ (u : ℕ). WaitsFor wiring u other) one
           (subst (λ (v : ℕ). WaitsFor wiring (unit - 1 + 1) v) two (own.0 on).1),

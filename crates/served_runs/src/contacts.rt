@@ -6,7 +6,7 @@ ghost use Rattle.net.specs.HubSets.{GainsHubs};
 ghost use Rattle.net.specs.declared.cycle.Cycle.{Cycle};
 ghost use Rattle.served_runs.specs.Contacts.{balances_to};
 
-use counters::Group;
+use counters::{Group, group_of_unit};
 use hubs::Hub;
 use net::{Contacts, Point};
 
@@ -36,22 +36,5 @@ fn close_balances(name: hubs::Group, unit: u8, latch: bool, contacts: &mut Conta
     for position in 1..=4 {
         contacts.insert_where(Hub::BAN(name, position), !latch);
         contacts.insert_where(Hub::BAT(name, position), latch);
-    }
-}
-
-// The group that is a unit.
-fn group_of_unit(unit: u8) -> hubs::Group
-    requires from { 3 ≤ unit }
-    ensures { result ≡ group_of_unit unit }
-{
-    let width = match unit {
-        0..11 => 3,
-        11..19 => 4,
-        19..27 => 6,
-        _ => 8,
-    };
-    hubs::Group {
-        width,
-        number: (unit - 3) % 8 + 1,
     }
 }

@@ -12,4 +12,4 @@ mod sizes;
 mod units;
 
 pub use counts::Counts;
-pub use run::{ServedRun, simulate_served};
+pub use run::{Served, simulate_served};

@@ -17,15 +17,17 @@ use placed_lines::PlacedLine;
 use served::Service;
 use setups::Setup;
 use std::alloc::{AllocError, Global};
-use waits::waits;
+use waits::all_waits;
 
-/// A served run of a deck.
+/// What a served run of a deck printed, and what was counted in it.
 #[derive(Drop)]
-pub struct ServedRun {
+pub struct Served {
     /// The printed lines in order with their places.
     pub lines: Vec<PlacedLine>,
-    /// What was counted.
-    pub counts: Counts,
+    /// How many rounds were taken in all cycles.
+    pub rounds: u64,
+    /// How many hubs the pictures had that the units sensed, all together.
+    pub seen: u64,
 }
 
 /// Runs a deck of at most 999,999 cards through a setup of the panel. In each cycle the units are served in rounds, by the orders of
@@ -38,15 +40,15 @@ pub fn simulate_served(
     setup: &Setup,
     cards: &[Card],
     service: &Service,
-) -> Result<ServedRun, AllocError>
+) -> Result<Served, AllocError>
     requires { length cards.now ≤ most_cards }
     ensures lines { IfOk result (λ run. MachineLines setup.now cards.now run.lines.items) }
     ensures in_order { IfOk result (λ run. IsInOrder setup.now.tape.lines run.lines.items) }
-    ensures served { IfOk result (λ run. IsServedRun setup.now service.now cards.now run.lines.items run.counts) }
+    ensures served { IfOk result (λ run. IsServedRun setup.now service.now cards.now run.lines.items (record { rounds = run.rounds; seen = run.seen })) }
 {
     let _form = setup.known();
     let net = Net::of(alloc, setup)?;
-    let waits = waits(&net);
+    let waits = all_waits(&net);
     let panel = Panel { net, waits };
     let mut units = Units::new(setup);
     let mut hopper = units.move_cards(cards);
@@ -58,5 +60,10 @@ pub fn simulate_served(
         (units, counts) = serve_cycle(units, &panel, cycle, service, counts);
         append_line(&mut lines, units.placed_line())?;
     }
-    Ok(ServedRun { lines, counts })
+    let Counts { rounds, seen } = counts;
+    Ok(Served {
+        lines,
+        rounds,
+        seen,
+    })
 }

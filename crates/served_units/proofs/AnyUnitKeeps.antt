@@ -4,14 +4,14 @@ use Rattle.machine.specs.Below.hubs.declared.hub.Hub.{Hub}
 use Rattle.machine.specs.Below.net.Panel.{owner_of}
 use Rattle.machine.specs.Below.net.declared.cycle.Cycle.{Cycle}
 use Rattle.machine.specs.Below.net.declared.cycle.Point.{Point}
-use Rattle.served.specs.Units.{AgreeOnEntries, KeepsToItsOwn}
-use Rattle.served_units.proofs.Carriage.{carriage_keeps}
-use Rattle.served_units.proofs.Counters.{counters_keep}
-use Rattle.served_units.proofs.PrintUnit.{emitters_keep, wheels_keep}
-use Rattle.served_units.proofs.ProgramUnit.{program_keeps}
-use Rattle.served_units.proofs.Selectors.{indicate_keeps, pilots_keep, splits_keep}
-use Rattle.served_units.proofs.Stations.{comparing_keeps, stations_keep}
-use Rattle.served_units.proofs.StorageUnits.{storage_keeps}
+use Rattle.machine.specs.Below.net.Units.{AgreeOnEntries, KeepsToItsOwn}
+use Rattle.machine.specs.Below.carriage.OwnHubs.{carriage_keeps}
+use Rattle.machine.specs.Below.counters.OwnHubs.{counters_keep}
+use Rattle.machine.specs.Below.print_unit.OwnHubs.{emitters_keep, wheels_keep}
+use Rattle.machine.specs.Below.program_unit.OwnHubs.{program_keeps}
+use Rattle.machine.specs.Below.selectors.OwnHubs.{indicate_keeps, pilots_keep, splits_keep}
+use Rattle.machine.specs.Below.stations.OwnHubs.{comparing_keeps, stations_keep}
+use Rattle.machine.specs.Below.storage_units.OwnHubs.{storage_keeps}
 use Rattle.served_units.specs.AnyUnit.{AnyUnit, any_closes, any_emits, any_ended, any_kind, any_number, any_sensed}
 use Rattle.served_units.specs.AnyUnit.AnyUnit.{CarriageUnit, ComparingUnit, EmittersUnit, GroupUnit, IndicationUnit, PilotsUnit, ProgramUnit, SplitsUnit, StationsUnit, StorageUnit, WheelsUnit}
 

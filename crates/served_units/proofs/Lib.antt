@@ -1,10 +1,3 @@
-pub mod Counters
-pub mod PrintUnit
-pub mod ProgramUnit
-pub mod Selectors
-pub mod Stations
-pub mod StorageUnits
-pub mod Carriage
 pub mod AnyUnitKeeps
 pub mod Listed
 pub mod SameUnits

@@ -14,8 +14,14 @@ use Rattle.machine.specs.Below.selectors.Indicate.{Latches}
 use Rattle.machine.specs.Below.selectors.Pilots.{PilotStates}
 use Rattle.machine.specs.Below.selectors.declared.splits.Splits.{Splits}
 use Rattle.served.specs.Orders.{unit_count}
-use Rattle.served.specs.Units.{Kind}
-use Rattle.served_units.specs.Kinds.{carriage_kind, comparing_kind, counter_kind, emitters_kind, indicate_kind, pilots_kind, program_kind, splits_kind, stations_kind, storage_kind, wheels_kind}
+use Rattle.machine.specs.Below.net.Units.{Kind}
+use Rattle.machine.specs.Below.carriage.Kinds.{carriage_kind}
+use Rattle.machine.specs.Below.counters.Kinds.{counter_kind}
+use Rattle.machine.specs.Below.print_unit.Kinds.{emitters_kind, wheels_kind}
+use Rattle.machine.specs.Below.program_unit.Kinds.{program_kind}
+use Rattle.machine.specs.Below.selectors.Kinds.{indicate_kind, pilots_kind, splits_kind}
+use Rattle.machine.specs.Below.stations.Kinds.{comparing_kind, stations_kind}
+use Rattle.machine.specs.Below.storage_units.Kinds.{storage_kind}
 use Rattle.machine.specs.Below.stations.Comparing.{Compared}
 use Rattle.machine.specs.Below.stations.Stations.{StationCards}
 use Rattle.machine.specs.Below.storage_units.Storage.{StorageState}

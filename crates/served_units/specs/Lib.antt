@@ -1,4 +1,3 @@
-pub mod Kinds
 pub mod AnyUnit
 pub mod Runs
 pub mod Laws

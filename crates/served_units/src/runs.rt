@@ -1,6 +1,6 @@
 //! Runs in which the units run ahead of one another. Each function does nothing: its contract is the law.
 
-ghost use Rattle.served.specs.Units.{KeepsToItsOwn};
+ghost use Rattle.machine.specs.Below.net.Units.{KeepsToItsOwn};
 ghost use Rattle.served_units.specs.AnyUnit.{any_kind};
 ghost use Rattle.served_units.specs.Laws.{ServedCyclesAreCycles, ServedRunsPrintTheSame};
 

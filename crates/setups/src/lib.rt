@@ -1,7 +1,7 @@
 //! Setups of the control panel, and its carriage tapes.
 //!
 //! A setup is a set of wires, each from an exit to an entry, a set of plugged jacks and a carriage tape. The hubs and the
-//! jacks are those of `hubs`. What the machine does with a setup is told above, by `net` and the units.
+//! jacks are those of `hubs`, and are offered here too. What the machine does with a setup is told above, by `net` and the units.
 #![tactic(auto)]
 
 mod fault;
@@ -10,6 +10,7 @@ mod setup;
 mod tape;
 
 pub use fault::SetupFault;
+pub use hubs::{Group, Hub, Jack};
 pub use laws::is_wired_tells_the_wires;
 pub use setup::Setup;
 pub use tape::Tape;

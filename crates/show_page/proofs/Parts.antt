@@ -9,16 +9,16 @@ use Rattle.hubs.specs.declared.hub.Hub.{Hub}
 use Rattle.machine.specs.Runs.{MachineLines}
 use Rattle.placed_lines.specs.declared.placed_line.PlacedLine.{PlacedLine}
 use Rattle.setups.specs.Wiring.{Wiring}
-use Rattle.wheel_sections.specs.Sections.{told_sections}
-use Rattle.wheel_sections.specs.Told.{AreTold, printed_places}
-use Rattle.wheel_sections.specs.declared.told.ToldWheel.{ToldWheel}
-use Rattle.wire_sections.specs.Helper.{GainsWireSections}
+use Rattle.page_sections.specs.WheelSections.Sections.{told_sections}
+use Rattle.page_sections.specs.WheelSections.Told.{AreTold, printed_places}
+use Rattle.page_sections.specs.declared.wheel_sections.told.ToldWheel.{ToldWheel}
+use Rattle.page_sections.specs.WireSections.Helper.{GainsWireSections}
 use Rattle.panel_drawing.specs.Helper.{GainsDrawing}
 use Rattle.panel_drawing.specs.declared.drawing.PanelWire.{PanelWire}
 use Rattle.traces.specs.Traces.{IsTrace}
 use Rattle.show_page.specs.Cycles.{shown_cycles}
 use Rattle.show_page.specs.Frame.{document_close, why_open}
-use Rattle.show_page.specs.Helper.{GainsBody}
+use Rattle.show_page.specs.Helper.{GainsBody, GainsFront}
 use Rattle.show_page.specs.Page.{IsPage, front, front_text, page_text, shown, unasked}
 
 -- the lines of a run are printed, and so are those of them that are shown
@@ -76,10 +76,12 @@ body_whole cards wires told trace legend old one two three four five six new h1 
 pub page_whole : (wiring : Wiring) (asked : List (String Global × Wiring)) (deck : List (List ℕ)) (lines : List PlacedLine)
     (wires : List PanelWire) (told : List ToldWheel) (trace legend none one new : List ℕ) → MachineLines wiring deck lines
     → IsTrace wiring deck trace → AreTold wiring asked deck (printed_places (shown (length deck) lines)) told → none ≡ []
-    → one ≡ none ++ front_text (length deck) trace (shown (length deck) lines) wiring.tape.lines
+    → GainsFront (length deck) trace (shown (length deck) lines) wiring.tape.lines none one
     → GainsBody (length deck) trace wires legend told one new → IsPage wiring asked deck wires legend new
 unfolding page_text
 page_whole wiring asked deck lines wires told trace legend none one new run traced are empty first body = record {
+  style = first.style;
+  is_style = first.is_style;
   lines = lines;
   run = run;
   told = told;
@@ -91,8 +93,8 @@ page_whole wiring asked deck lines wires told trace legend none one new run trac
   trace = trace;
   traced = traced;
   spelled =
-      let front = front_text (length deck) trace (shown (length deck) lines) wiring.tape.lines in
+      let front = front_text first.style (length deck) trace (shown (length deck) lines) wiring.tape.lines in
       let cycles = shown_cycles (length deck) trace in
       subst (λ (l : List ℕ). new ≡ l ++ body.drawing ++ legend ++ why_open ++ told_sections told ++ body.ways ++ cycles ++ document_close)
-      (first ∙ ap (λ (l : List ℕ). l ++ front) empty) body.gained;
+      (first.gained ∙ ap (λ (l : List ℕ). l ++ front) empty) body.gained;
 }

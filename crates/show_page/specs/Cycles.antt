@@ -1,7 +1,7 @@
 -- The cycles of the run on the page: a link to the first one at the top, and an element for each that is shown.
 use Rattle.std.specs.Prelude.{ℕ, ◌==◌, List, [], codes, if◌then◌else◌, length, nat_le}
 use Rattle.card_code.specs.Lines.{lines_of}
-use Rattle.cycle_sections.specs.Sections.{cycles_text}
+use Rattle.page_sections.specs.CycleSections.Sections.{cycles_text}
 
 -- a link to the first cycle
 unfoldable pub step_words : List ℕ

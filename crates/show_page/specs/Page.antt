@@ -4,8 +4,8 @@ use Rattle.std.specs.Prelude.{◌≡◌, ℕ, List, [], ◌∷◌, ◌++◌, Str
 use Rattle.std.specs.declared.alloc.Global.{Global}
 use Rattle.charts.specs.declared.chart.Line.{Line}
 use Rattle.hubs.specs.declared.hub.Hub.{Hub}
-use Rattle.chart_panels.specs.Asking.{AreChartWires}
-use Rattle.chart_panels.specs.Legends.{IsLegendSection}
+use Rattle.page_sections.specs.ChartPanels.Asking.{AreChartWires}
+use Rattle.page_sections.specs.ChartPanels.Legends.{IsLegendSection}
 use Rattle.legend.specs.LineSetups.{AreLineSetups}
 use Rattle.machine.specs.Runs.{MachineLines}
 use Rattle.markup.specs.Escapes.{escaped}
@@ -15,16 +15,16 @@ use Rattle.panel_drawing.specs.Wires.{AreWiresOf}
 use Rattle.panel_drawing.specs.declared.drawing.PanelWire.{PanelWire}
 use Rattle.placed_lines.specs.declared.placed_line.PlacedLine.{PlacedLine}
 use Rattle.plans.specs.Plans.{Lists}
-use Rattle.report_sheets.specs.Sheets.{sheets_text}
+use Rattle.page_sections.specs.ReportSheets.Sheets.{sheets_text}
 use Rattle.setups.specs.Wiring.{Wiring}
 use Rattle.traces.specs.Traces.{IsTrace}
-use Rattle.wheel_sections.specs.Sections.{told_sections}
-use Rattle.wheel_sections.specs.Told.{AreTold, printed_places}
-use Rattle.wheel_sections.specs.declared.told.ToldWheel.{ToldWheel}
-use Rattle.wire_sections.specs.Sections.{AreWireSections}
+use Rattle.page_sections.specs.WheelSections.Sections.{told_sections}
+use Rattle.page_sections.specs.WheelSections.Told.{AreTold, printed_places}
+use Rattle.page_sections.specs.declared.wheel_sections.told.ToldWheel.{ToldWheel}
+use Rattle.page_sections.specs.WireSections.Sections.{AreWireSections}
 use Rattle.wiring_text.specs.declared.statement.Version.{Version}
 use Rattle.show_page.specs.Cycles.{shown_cycles, step_text}
-use Rattle.show_page.specs.Frame.{body_open, cut_words, document_close, document_open, legend_open, panel_open, sheets_open, style, why_open, wiring_close, wiring_open}
+use Rattle.show_page.specs.Frame.{IsStyle, body_open, cut_words, document_close, document_open, legend_open, panel_open, sheets_open, why_open, wiring_close, wiring_open}
 
 -- the lines of the first two pages
 abbrev pub front : List PlacedLine → List PlacedLine
@@ -40,15 +40,15 @@ unfoldable pub cut_text : ℕ → List ℕ
 cut_text cards = if nat_le cards 200 then [] else cut_words
 
 -- the page up to the drawing
-unfoldable pub front_text : (cards : ℕ) → (trace : List ℕ) → List PlacedLine → (long : ℕ) → List ℕ
-front_text cards trace lines long =
+unfoldable pub front_text : (style : List ℕ) → (cards : ℕ) → (trace : List ℕ) → List PlacedLine → (long : ℕ) → List ℕ
+front_text style cards trace lines long =
     document_open ++ style ++ body_open ++ cut_text cards ++ step_text trace ++ sheets_open ++ sheets_text lines long ++ panel_open
 
 -- the page, by its parts
-unfoldable pub page_text : (cards : ℕ) → (trace : List ℕ) → List PlacedLine → (long : ℕ) → (drawing legend : List ℕ) → List ToldWheel
-    → (ways : List ℕ) → List ℕ
-page_text cards trace lines long drawing legend told ways =
-    front_text cards trace lines long
+unfoldable pub page_text : (style : List ℕ) → (cards : ℕ) → (trace : List ℕ) → List PlacedLine → (long : ℕ)
+    → (drawing legend : List ℕ) → List ToldWheel → (ways : List ℕ) → List ℕ
+page_text style cards trace lines long drawing legend told ways =
+    front_text style cards trace lines long
     ++ drawing
     ++ legend
     ++ why_open
@@ -62,6 +62,8 @@ page_text cards trace lines long drawing legend told ways =
 -- the cycles are those of the run.
 pub record IsPage (wiring : Wiring) (asked : List (String Global × Wiring)) (deck : List (List ℕ)) (wires : List PanelWire)
     (legend text : List ℕ) : Type 0 where
+  pub style : List ℕ
+  pub is_style : IsStyle style
   pub lines : List PlacedLine
   pub run : MachineLines wiring deck lines
   pub told : List ToldWheel
@@ -72,7 +74,7 @@ pub record IsPage (wiring : Wiring) (asked : List (String Global × Wiring)) (de
   pub are_ways : AreWireSections wires told ways
   pub trace : List ℕ
   pub traced : IsTrace wiring deck trace
-  pub spelled : text ≡ page_text (length deck) trace (shown (length deck) lines) wiring.tape.lines drawing legend told ways
+  pub spelled : text ≡ page_text style (length deck) trace (shown (length deck) lines) wiring.tape.lines drawing legend told ways
 
 -- The page of a chart, its plan and its setup, and a deck: the wires are those of the setup, the legend is that of the chart, and its lines
 -- are those that ask for wires.

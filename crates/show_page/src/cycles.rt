@@ -8,7 +8,7 @@ ghost use Rattle.traces.specs.Traces.{IsTrace};
 ghost use Rattle.show_page.specs.Cycles.{most_shown, shown_cycles, step_text, step_words};
 
 use card_code::Card;
-use cycle_sections::{count_cycles, write_cycles};
+use page_sections::cycle_sections::{count_cycles, write_cycles};
 use setups::Setup;
 use std::alloc::{AllocError, Global};
 use traces::write_trace;

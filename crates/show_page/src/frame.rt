@@ -2,7 +2,8 @@
 
 ghost use Rattle.std.specs.Prelude.{◌≡◌, ◌++◌, OnOk};
 ghost use Rattle.std.specs.String.{string_bytes};
-ghost use Rattle.show_page.specs.Frame.{document_open, style_a, style_b, style_c, style_d, style_e, style_f, style_g, style_h, style_i, style_k, body_open, cut_words, sheets_open, panel_open, legend_open, wiring_open, wiring_close, why_open, document_close, style};
+ghost use Rattle.markup.specs.Pieces.{GainsOne};
+ghost use Rattle.show_page.specs.Frame.{IsStyle, document_open, body_open, cut_words, sheets_open, panel_open, legend_open, wiring_open, wiring_close, why_open, document_close};
 
 use std::alloc::AllocError;
 
@@ -16,103 +17,35 @@ pub(crate) fn write_document_open(text: &mut String) -> Result<(), AllocError>
     )
 }
 
-#[tactic(auto, unfolding(crate::specs::Frame::style_a))]
-// A part of the style.
-fn write_style_a(text: &mut String) -> Result<(), AllocError>
-    ensures { OnOk result (string_bytes text.new ≡ string_bytes text.old ++ style_a) }
+// Writes the style sheet: sheets like green-bar paper, blocks, wires in twelve colours. Of the elements with explanations, wires, hubs and
+// cycles it shows the one that is linked to, and at the empty path of a picture the panel.
+pub(crate) fn write_style(text: &mut String) -> Result<(), AllocError>
+    ensures { OnOk result (GainsOne IsStyle (string_bytes text.old) (string_bytes text.new)) }
 {
     text.push_str(
-        "body{margin:1em;font:16px/1.4 sans-serif;color:#222;background:#fff}h1{font-size:1.2em}\npre{margin:0;font:13px/1.5 monospace}.sheets{overflow-x:auto}\n",
-    )
-}
-
-#[tactic(auto, unfolding(crate::specs::Frame::style_b))]
-// A part of the style.
-fn write_style_b(text: &mut String) -> Result<(), AllocError>
-    ensures { OnOk result (string_bytes text.new ≡ string_bytes text.old ++ style_b) }
-{
-    text.push_str(
-        ".sheets pre{width:max-content;padding:0 1.5em;margin:0 0 1em;border:1px solid #bbb;line-height:1.5em;background:repeating-linear-gradient(#fff 0 4.5em,#e2f0e0 4.5em 9em);print-color-adjust:exact}\n.sheets a{color:inherit;text-decoration:none}.sheets a:hover,.sheets a:focus,.sheets span:target{background:#fd6}\n",
-    )
-}
-
-#[tactic(auto, unfolding(crate::specs::Frame::style_c))]
-// A part of the style.
-fn write_style_c(text: &mut String) -> Result<(), AllocError>
-    ensures { OnOk result (string_bytes text.new ≡ string_bytes text.old ++ style_c) }
-{
-    text.push_str(
-        "#panel{display:block;width:100%;min-width:44em;max-width:80em;height:auto}.board{overflow-x:auto}\n.hubs rect{fill:#f3f1ec;stroke:#ccc;stroke-width:.1;transform:translate(-.5px,-.5px)}\n.hubs text{font:1.4px sans-serif;transform:translate(-.4px,-.8px)}.hubs circle{fill:#777}\n.hubs a circle{fill:#222}.hubs a:hover circle,.hubs a:focus circle{fill:#d00}\n",
-    )
-}
-
-#[tactic(auto, unfolding(crate::specs::Frame::style_d))]
-// A part of the style.
-fn write_style_d(text: &mut String) -> Result<(), AllocError>
-    ensures { OnOk result (string_bytes text.new ≡ string_bytes text.old ++ style_d) }
-{
-    text.push_str(
-        ".wires path{fill:none;stroke-width:.2;stroke-opacity:.75}.wires path:hover,.wires a:focus path{stroke-width:.6;stroke-opacity:1}\n.c0{stroke:#555;border-color:#555}.c1{stroke:#c0392b;border-color:#c0392b}.c2{stroke:#2471a3;border-color:#2471a3}\n",
-    )
-}
-
-#[tactic(auto, unfolding(crate::specs::Frame::style_e))]
-// A part of the style.
-fn write_style_e(text: &mut String) -> Result<(), AllocError>
-    ensures { OnOk result (string_bytes text.new ≡ string_bytes text.old ++ style_e) }
-{
-    text.push_str(
-        ".c3{stroke:#1e8449;border-color:#1e8449}.c4{stroke:#7d3c98;border-color:#7d3c98}.c5{stroke:#ca6f1e;border-color:#ca6f1e}\n.c6{stroke:#0e7c7b;border-color:#0e7c7b}.c7{stroke:#b03a83;border-color:#b03a83}.c8{stroke:#6e4b1f;border-color:#6e4b1f}\n",
-    )
-}
-
-#[tactic(auto, unfolding(crate::specs::Frame::style_f))]
-// A part of the style.
-fn write_style_f(text: &mut String) -> Result<(), AllocError>
-    ensures { OnOk result (string_bytes text.new ≡ string_bytes text.old ++ style_f) }
-{
-    text.push_str(
-        ".c9{stroke:#5b6abf;border-color:#5b6abf}.c10{stroke:#7a8b12;border-color:#7a8b12}.c11{stroke:#e0559a;border-color:#e0559a}\n.legend pre{white-space:pre-wrap;border-left-width:6px;border-left-style:solid;padding-left:.6em;margin:0 0 .5em}\n",
-    )
-}
-
-#[tactic(auto, unfolding(crate::specs::Frame::style_g))]
-// A part of the style.
-fn write_style_g(text: &mut String) -> Result<(), AllocError>
-    ensures { OnOk result (string_bytes text.new ≡ string_bytes text.old ++ style_g) }
-{
-    text.push_str(
-        ".legend pre:target{background:#fd6}.why section{display:none}.why pre{white-space:pre-wrap;margin:.3em 0}\n.why section:target{display:block;position:fixed;left:0;right:0;bottom:0;max-height:60vh;overflow:auto;box-sizing:border-box;padding:.5em 1em;background:#fffbe8;border-top:3px solid #c90}\n",
-    )
-}
-
-#[tactic(auto, unfolding(crate::specs::Frame::style_h))]
-// A part of the style.
-fn write_style_h(text: &mut String) -> Result<(), AllocError>
-    ensures { OnOk result (string_bytes text.new ≡ string_bytes text.old ++ style_h) }
-{
-    text.push_str(
-        ".why svg{display:block;width:100%;height:auto;background:#fff}.why use{opacity:.3}\n.why path{fill:none;stroke:#d00;stroke-width:.5;stroke-linejoin:round}.why p{margin:.3em 0}.why div{columns:15em}.why div a{display:block}\n@media(min-width:75em){body:has(.why :target){margin-right:46vw}.why section:target{left:auto;top:0;width:44vw;max-height:none;border-top:0;border-left:3px solid #c90}}\n",
-    )
-}
-
-#[tactic(auto, unfolding(crate::specs::Frame::style_i))]
-// A part of the style.
-fn write_style_i(text: &mut String) -> Result<(), AllocError>
-    ensures { OnOk result (string_bytes text.new ≡ string_bytes text.old ++ style_i) }
-{
-    text.push_str(
-        "@page{margin:1cm}@media print{body{margin:0}.why{display:none}.sheets,.board{overflow:visible}#panel{min-width:0}.sheets pre{font-size:6.5pt;break-after:page}}\n",
-    )
-}
-
-#[tactic(auto, unfolding(crate::specs::Frame::style_k))]
-// A part of the style.
-fn write_style_k(text: &mut String) -> Result<(), AllocError>
-    ensures { OnOk result (string_bytes text.new ≡ string_bytes text.old ++ style_k) }
-{
-    text.push_str(
-        ".why section[id^=cycle] a{display:inline-block;margin-right:1em}.why section[id^=cycle] pre{white-space:pre;overflow-x:auto}.why section[id^=cycle] pre::first-line{font-weight:bold}\n@media(max-width:74.99em){.why section[id^=cycle]:target{height:40vh}}@media print{.step{display:none}.legend pre{break-inside:avoid}}\n",
+        "body{margin:1em;font:16px/1.4 sans-serif;color:#222;background:#fff}h1{font-size:1.2em}
+pre{margin:0;font:13px/1.5 monospace}.sheets{overflow-x:auto}
+.sheets pre{width:max-content;padding:0 1.5em;margin:0 0 1em;border:1px solid #bbb;line-height:1.5em;background:repeating-linear-gradient(#fff 0 4.5em,#e2f0e0 4.5em 9em);print-color-adjust:exact}
+.sheets a{color:inherit;text-decoration:none}.sheets a:hover,.sheets a:focus,.sheets span:target{background:#fd6}
+#panel{display:block;width:100%;min-width:44em;max-width:80em;height:auto}.board{overflow-x:auto}
+.hubs rect{fill:#f3f1ec;stroke:#ccc;stroke-width:.1;transform:translate(-.5px,-.5px)}
+.hubs text{font:1.4px sans-serif;transform:translate(-.4px,-.8px)}.hubs circle{fill:#777}
+.hubs a circle{fill:#222}.hubs a:hover circle,.hubs a:focus circle{fill:#d00}
+.wires path{fill:none;stroke-width:.2;stroke-opacity:.75}.wires path:hover,.wires a:focus path{stroke-width:.6;stroke-opacity:1}
+.c0{stroke:#555;border-color:#555}.c1{stroke:#c0392b;border-color:#c0392b}.c2{stroke:#2471a3;border-color:#2471a3}
+.c3{stroke:#1e8449;border-color:#1e8449}.c4{stroke:#7d3c98;border-color:#7d3c98}.c5{stroke:#ca6f1e;border-color:#ca6f1e}
+.c6{stroke:#0e7c7b;border-color:#0e7c7b}.c7{stroke:#b03a83;border-color:#b03a83}.c8{stroke:#6e4b1f;border-color:#6e4b1f}
+.c9{stroke:#5b6abf;border-color:#5b6abf}.c10{stroke:#7a8b12;border-color:#7a8b12}.c11{stroke:#e0559a;border-color:#e0559a}
+.legend pre{white-space:pre-wrap;border-left-width:6px;border-left-style:solid;padding-left:.6em;margin:0 0 .5em}
+.legend pre:target{background:#fd6}.why section{display:none}.why pre{white-space:pre-wrap;margin:.3em 0}
+.why section:target{display:block;position:fixed;left:0;right:0;bottom:0;max-height:60vh;overflow:auto;box-sizing:border-box;padding:.5em 1em;background:#fffbe8;border-top:3px solid #c90}
+.why svg{display:block;width:100%;height:auto;background:#fff}.background{marker-start:url(#background)}marker{overflow:visible}marker use{opacity:.3}
+.why path{fill:none;stroke:#d00;stroke-width:.5;stroke-linejoin:round}.why p{margin:.3em 0}.why div{columns:15em}.why div a{display:block}
+@media(min-width:75em){body:has(>.why>:target){margin-right:46vw}.why section:target{left:auto;top:0;width:44vw;max-height:none;border-top:0;border-left:3px solid #c90}}
+@page{margin:1cm}@media print{body{margin:0}.why{display:none}.sheets,.board{overflow:visible}#panel{min-width:0}.sheets pre{font-size:6.5pt;break-after:page}}
+.why section[id^=cycle] a{display:inline-block;margin-right:1em}.why section[id^=cycle] pre{white-space:pre;overflow-x:auto}.why section[id^=cycle] pre::first-line{font-weight:bold}
+@media(max-width:74.99em){.why section[id^=cycle]:target{height:40vh}}@media print{.step{display:none}.legend pre{break-inside:avoid}}
+",
     )
 }
 
@@ -122,7 +55,7 @@ pub(crate) fn write_body_open(text: &mut String) -> Result<(), AllocError>
     ensures { OnOk result (string_bytes text.new ≡ string_bytes text.old ++ body_open) }
 {
     text.push_str(
-        "</style></head><body>\n<p>Choose a printed character to see the way of each impulse that printed it, and a wire or a hub of the panel to see what came through it. The drawing of the panel is our own schematic, not the real layout of the machine.</p>\n<h1 id=\"report\">The report</h1>\n",
+        "</style></head><body>\n<p>Choose a printed character to see, for each row that its wheel received, one way by which the impulse came. Choose a wire or a hub of the panel to see the characters of which such a way leads through it. The drawing of the panel is our own schematic, not the real layout of the machine.</p>\n<h1 id=\"report\">The report</h1>\n",
     )
 }
 
@@ -192,21 +125,4 @@ pub(crate) fn write_document_close(text: &mut String) -> Result<(), AllocError>
     ensures { OnOk result (string_bytes text.new ≡ string_bytes text.old ++ document_close) }
 {
     text.push_str("</div>\n</body></html>\n")
-}
-
-#[tactic(auto, unfolding(crate::specs::Frame::style))]
-// The style.
-pub(crate) fn write_style(text: &mut String) -> Result<(), AllocError>
-    ensures { OnOk result (string_bytes text.new ≡ string_bytes text.old ++ style) }
-{
-    write_style_a(text)?;
-    write_style_b(text)?;
-    write_style_c(text)?;
-    write_style_d(text)?;
-    write_style_e(text)?;
-    write_style_f(text)?;
-    write_style_g(text)?;
-    write_style_h(text)?;
-    write_style_i(text)?;
-    write_style_k(text)
 }

@@ -1,4 +1,4 @@
-//! One page for a browser: the report, the panel, the way of each impulse and the cycles of the run.
+//! One page for a browser: the report, the panel, a way for each row that a wheel received and the cycles of the run.
 //!
 //! [`show_chart`] makes the page of a chart and a deck, [`show_panel`] that of a panel that is wired as a wiring chart says. It is one file
 //! of XHTML without scripts, and needs no network: the printed pages, the drawing of the panel, the legend or the wiring chart, for

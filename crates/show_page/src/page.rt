@@ -2,15 +2,16 @@
 
 ghost use Rattle.std.specs.Prelude.{◌≡◌, ◌≤◌, ◌++◌, OnOk};
 ghost use Rattle.std.specs.String.{string_bytes};
-ghost use Rattle.show_page.specs.Page.{cut_text, front, front_text, shown};
+ghost use Rattle.show_page.specs.Helper.{GainsFront};
+ghost use Rattle.show_page.specs.Page.{cut_text, front, shown};
 
 use crate::cycles::write_step;
 use crate::frame::{
     write_body_open, write_cut_words, write_document_open, write_panel_open, write_sheets_open,
     write_style,
 };
+use page_sections::report_sheets::write_sheets;
 use placed_lines::PlacedLine;
-use report_sheets::write_sheets;
 use std::alloc::AllocError;
 
 // The lines of the first two pages.
@@ -54,7 +55,7 @@ pub(crate) fn write_front(
     form_lines: u32,
 ) -> Result<(), AllocError>
     requires { form_lines ≤ 144 }
-    ensures { OnOk result (string_bytes text.new ≡ string_bytes text.old ++ front_text cards trace.now lines.now form_lines) }
+    ensures { OnOk result (GainsFront cards trace.now lines.now form_lines (string_bytes text.old) (string_bytes text.new)) }
 {
     write_document_open(text)?;
     write_style(text)?;

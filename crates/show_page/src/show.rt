@@ -4,7 +4,7 @@ ghost use Rattle.std.specs.Prelude.{◌≡◌, ◌≤◌, ◌++◌, IfOk, OnOk, 
 ghost use Rattle.std.specs.String.{string_bytes};
 ghost use Rattle.card_code.specs.MostCards.{most_cards};
 ghost use Rattle.panel_drawing.specs.Wires.{AreWiresOf};
-ghost use Rattle.plans.specs.Plans.{IsFor};
+ghost use Rattle.plans.specs.Plans.{ServesChart};
 ghost use Rattle.show_page.specs.Helper.{GainsBody};
 ghost use Rattle.show_page.specs.Page.{IsPage, ShowsChart, ShowsPanel, unasked, wiring_text};
 
@@ -14,18 +14,18 @@ use crate::frame::{
 };
 use crate::page::{shown, write_front};
 use card_code::Card;
-use chart_panels::{chart_wires, write_legend};
 use chart_rules::Chart;
 use hubs::Hub;
 use legend::line_setups;
 use machine::simulate;
 use markup::push_escaped;
+use page_sections::chart_panels::{chart_wires, write_legend};
+use page_sections::wheel_sections::{ToldWheel, told_wheels, write_told_sections};
+use page_sections::wire_sections::write_wire_sections;
 use panel_drawing::{PanelWire, panel_wires, write_drawing};
 use plans::Plan;
 use setups::Setup;
 use std::alloc::{AllocError, Global};
-use wheel_sections::{ToldWheel, told_wheels, write_told_sections};
-use wire_sections::write_wire_sections;
 use wiring_text::Version;
 
 // The page behind its front, of a deck of so many cards: the drawing of these wires, this legend, what is told of these wheels and of the
@@ -87,7 +87,7 @@ pub fn show_chart(
     source: &[u8],
     cards: &[Card],
 ) -> Result<String, AllocError>
-    requires plan { IsFor chart.now.lines plan.now }
+    requires plan { ServesChart chart.now.lines plan.now }
     requires few { length cards.now ≤ most_cards }
     ensures { IfOk result (λ text. ShowsChart version chart.now.lines plan.now setup.now source.now cards.now (string_bytes text)) }
 {

@@ -1,4 +1,4 @@
-pub mod Own
+pub mod Differences
 pub mod PositionWords
 pub mod RowWords
 pub mod RowHubs

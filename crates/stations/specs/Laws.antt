@@ -1,4 +1,4 @@
--- Laws of the stations and of comparing.
+-- A law of comparing.
 use Rattle.std.specs.Prelude.{◌≡◌, ℕ, ◌&&◌, Bool, true, List, [], ◌∷◌}
 use Rattle.std.specs.List.{list_any}
 use Rattle.card_code.specs.Rows.{rows}
@@ -6,13 +6,10 @@ use Rattle.card_code.specs.declared.row.Row.{Row as CardRow}
 use Rattle.hub_table.specs.Ranges.{is_within}
 use Rattle.hubs.specs.declared.hub.Hub.{Hub}
 use Rattle.hubs.specs.declared.hub.Hub.TheVariants.{CX, CA, CB}
-use Rattle.net.specs.Panel.{owner_of, reader_of}
 use Rattle.net.specs.declared.cycle.Cycle.{Cycle}
 use Rattle.net.specs.declared.cycle.Cycle.TheVariants.{Card}
-use Rattle.net.specs.declared.cycle.Point.{Point}
 use Rattle.net.specs.declared.cycle.Point.TheVariants.{Row, K}
-use Rattle.stations.specs.Comparing.{Compared, comparing_at_start, comparing_emits, comparing_sensed, comparing_number, are_unlike}
-use Rattle.stations.specs.Stations.{StationCards, stations_emits, stations_number}
+use Rattle.stations.specs.Comparing.{Compared, comparing_at_start, comparing_emits, comparing_sensed, are_unlike}
 
 -- comparing after the points of some rows of a card cycle, one after the other, each with its picture
 abbrev pub compared_after : List CardRow → (CardRow → Hub → Bool) → Compared → Compared
@@ -27,17 +24,3 @@ ComparingTellsDifferences =
     (pictures : CardRow → Hub → Bool) (p : ℕ)
     → comparing_emits (compared_after rows pictures comparing_at_start) Card K (CX p)
     ≡ (is_within p 30 && list_any (λ row. are_unlike (pictures row (CA p)) (pictures row (CB p))) rows)
-
--- The stations and comparing emit at exits of their own alone, and comparing senses entries of its own alone: pictures that
--- agree there leave it the same.
-pub record KeepsToOwn : Type 0 where
-  pub stations_emit :
-      (cards : StationCards) (cycle : Cycle) (point : Point) (hub : Hub)
-      → stations_emits cards cycle point hub ≡ true → owner_of hub ≡ stations_number
-  pub comparing_emits :
-      (compared : Compared) (cycle : Cycle) (point : Point) (hub : Hub)
-      → comparing_emits compared cycle point hub ≡ true → owner_of hub ≡ comparing_number
-  pub comparing_senses :
-      (compared : Compared) (cycle : Cycle) (point : Point) (one other : Hub → Bool)
-      → ((hub : Hub) → reader_of hub ≡ comparing_number → one hub ≡ other hub)
-      → comparing_sensed compared cycle point one ≡ comparing_sensed compared cycle point other

@@ -5,3 +5,5 @@ pub mod Words
 pub mod Laws
 pub mod Kept
 pub mod Columns
+pub mod Kinds
+pub mod OwnHubs

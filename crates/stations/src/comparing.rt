@@ -68,6 +68,7 @@ impl Comparing {
 }
 
 impl Unit for Comparing {
+    ghost use Rattle.stations.specs.OwnHubs.{comparing_keeps};
     ghost use Rattle.std.specs.Prelude.{refl};
     ghost use Rattle.std.proofs.Common.{rules};
     ghost use Rattle.net.specs.Nothing.{closes_nothing};
@@ -103,6 +104,8 @@ impl Unit for Comparing {
     fn end_cycle(&mut self, _cycle: Cycle) {
         self.sets = [(0, 0); 12];
     }
+
+    ghost keeps_to_its_own = { comparing_keeps };
 
     ghost emits_steadily = { λ compared cycle at other picture hub. Prim.search rules };
 

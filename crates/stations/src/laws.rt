@@ -1,14 +1,9 @@
 //! Laws over definitions alone.
 
-ghost use Rattle.stations.specs.Laws.{ComparingTellsDifferences, KeepsToOwn};
+ghost use Rattle.stations.specs.Laws.{ComparingTellsDifferences};
 
 /// At the closing point of a card cycle a position of comparing emits exactly where at some row one of its two entries was
 /// impulsed and the other was not.
 pub fn comparing_tells_differences()
     ensures { ComparingTellsDifferences }
-{}
-
-/// The stations and comparing emit at exits of their own alone, and comparing senses entries of its own alone.
-pub fn units_keep_to_their_own()
-    ensures { KeepsToOwn }
 {}

@@ -91,6 +91,7 @@ impl Stations {
 }
 
 impl Unit for Stations {
+    ghost use Rattle.stations.specs.OwnHubs.{stations_keep};
     ghost use Rattle.std.specs.Prelude.{refl};
     ghost use Rattle.net.specs.Nothing.{closes_nothing, senses_nothing};
     ghost use Rattle.stations.specs.Stations.{stations_emits, stations_ended, stations_number};
@@ -119,6 +120,8 @@ impl Unit for Stations {
     fn sense(&mut self, _cycle: Cycle, _point: Point, _picture: &Picture) {}
 
     fn end_cycle(&mut self, _cycle: Cycle) {}
+
+    ghost keeps_to_its_own = { stations_keep };
 
     ghost emits_steadily = { λ cards cycle at other picture hub. refl };
 

@@ -1,5 +1,4 @@
 pub mod CycleLemmas
-pub mod OwnHubs
 pub mod StorageLemmas
 pub mod WordLemmas
 pub mod RowWords

@@ -1,5 +1,6 @@
 pub mod Fields
-pub mod Laws
 pub mod Storage
 pub mod WholeCycles
 pub mod Words
+pub mod Kinds
+pub mod OwnHubs

@@ -1,6 +1,6 @@
 //! Laws of a storage unit through a cycle. Each is a function that does nothing: its contract is the law.
 
-ghost use Rattle.std.specs.Prelude.{◌≡◌, ◌&&◌, ℕ, Bool, true, false, List, ◌∷◌, map};
+ghost use Rattle.std.specs.Prelude.{◌≡◌, ◌≤◌, ◌&&◌, ℕ, Bool, true, false, List, ◌∷◌, map};
 ghost use Rattle.card_code.specs.declared.row.Row.{Row as CardRow};
 ghost use Rattle.hub_table.specs.Ranges.{is_within};
 ghost use Rattle.hubs.specs.declared.hub.Hub.{Hub};
@@ -9,8 +9,7 @@ ghost use Rattle.net.specs.WholeCycles.{after_points};
 ghost use Rattle.net.specs.declared.cycle.Cycle.{Cycle};
 ghost use Rattle.net.specs.declared.cycle.Point.{Point};
 ghost use Rattle.net.specs.declared.cycle.Point.TheVariants.{C, Row};
-ghost use Rattle.storage_units.specs.Laws.{StorageUnitsKeepToTheirOwn};
-ghost use Rattle.storage_units.specs.Storage.{StorageState, storage_emits, storage_sensed, holds};
+ghost use Rattle.storage_units.specs.Storage.{StorageState, holds, storage_at_start, storage_emits, storage_number, storage_sensed};
 ghost use Rattle.storage_units.specs.WholeCycles.{after_cycle};
 
 /// A unit that is told to read in holds, after the cycle, each row exactly in the columns whose entries were impulsed at
@@ -37,8 +36,7 @@ pub fn read_out_shows_the_start()
         ≡ (pictures C (SO storage.place) && holds storage row column) }
 {}
 
-/// A unit emits at its own exits, closes no contact and senses its own entries alone, and its number among the units is the
-/// one that it began with.
-pub fn storage_units_keep_to_their_own_hubs()
-    ensures { StorageUnitsKeepToTheirOwn }
+/// A unit begins with its number.
+pub fn storage_units_are_numbered()
+    ensures { (unit : ℕ) → 35 ≤ unit → unit ≤ 38 → storage_number (storage_at_start unit) ≡ unit }
 {}

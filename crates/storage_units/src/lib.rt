@@ -6,7 +6,7 @@ mod laws;
 mod storage;
 
 pub use laws::{
-    read_in_is_held_whole, read_out_shows_the_start, storage_units_keep_to_their_own_hubs,
+    read_in_is_held_whole, read_out_shows_the_start, storage_units_are_numbered,
     what_is_held_is_kept,
 };
-pub use storage::{STORAGE_COLUMNS, Storage};
+pub use storage::Storage;

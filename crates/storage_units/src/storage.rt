@@ -10,8 +10,8 @@ use hubs::Hub;
 use net::{Cycle, Picture, Point, RowSets, Unit};
 use std::marker::Model;
 
-/// How many columns a storage unit has.
-pub const STORAGE_COLUMNS: u8 = 16;
+// How many columns a storage unit has.
+const STORAGE_COLUMNS: u8 = 16;
 
 // The number of the first storage unit among the units, less one.
 const UNITS_BEFORE: u8 = 34;
@@ -112,6 +112,7 @@ impl Storage {
 }
 
 impl Unit for Storage {
+    ghost use Rattle.storage_units.specs.OwnHubs.{storage_keeps};
     ghost use Rattle.std.specs.Prelude.{refl};
     ghost use Rattle.net.specs.Nothing.{closes_nothing};
     ghost use Rattle.storage_units.specs.Storage.{storage_emits, storage_sensed, storage_ended, storage_number};
@@ -154,6 +155,8 @@ impl Unit for Storage {
             self.held = self.received;
         }
     }
+
+    ghost keeps_to_its_own = { storage_keeps };
 
     ghost emits_steadily = { λ unit cycle at other picture hub. refl };
 

@@ -1,18 +1,25 @@
 -- The next card of a deck, and what is told in its place.
 use Rattle.std.proofs.Common.{◌≡◌, ◌∙◌, refl, sym, ap, subst, ℕ, ◌+◌, ◌≤◌, List, [], ◌∷◌, ◌++◌, Option, Some, None, IfNone, IfSome, length, append_assoc, append-nil}
 use Rattle.std.proofs.lemmas.List.Elements.{AllZip-push}
+use Rattle.std.specs.Io.KnownBytes.{Keeps}
 use Rattle.std.specs.List.{AllZip}
 use Rattle.card_code.specs.Deck.{Deck, IsCardOf}
 use Rattle.card_code.specs.Lines.{lines_of}
 use Rattle.card_code.specs.MostCards.{most_cards}
+use Rattle.card_lines.proofs.Next.{left_of, still_known}
+use Rattle.card_lines.specs.Front.{IsPart}
 use Rattle.card_lines.specs.Reading.{GivesCard, Reading, still_to_come}
+use Rattle.card_lines.specs.declared.fault.ReadFault.{ReadFault}
+use Rattle.card_lines.specs.declared.fault.ReadFault.TheVariants as read
 use Rattle.charts.specs.Chart.{Chart}
 use Rattle.chart_rules.specs.ValidCard.{IsFirstInvalid}
 use Rattle.chart_rules.specs.declared.card.CardFault.{CardFault}
 use Rattle.field_rules.specs.Fields.{fields_of}
 use Rattle.streamed_runs.specs.Causes.{IsInvalidNext}
 use Rattle.streamed_runs.specs.HelperStanding.{HasToCome, ReadsOn}
-use Rattle.streamed_runs.specs.Reading.{HasRead}
+use Rattle.streamed_runs.specs.Reading.{HasRead, HasReadUpTo}
+use Rattle.streamed_runs.specs.declared.fault.StreamCause.{StreamCause}
+use Rattle.streamed_runs.specs.declared.fault.StreamCause.TheVariants as cause
 
 -- a card more was read
 pub reads_more : {S : Type 0} (left : S → Option (List ℕ)) (text : List ℕ) (cards : List (List ℕ)) (old new : Reading S) (card : List ℕ)
@@ -25,6 +32,8 @@ reads_more left text cards old new card gives come =
       rest = gave.rest;
       is_left = gave.left;
       is_read = record {
+        front = read.front ++ gave.front;
+        parts = read.parts ∙ ap (λ t. read.front ++ t) gave.parts ∙ sym (append_assoc read.front gave.front gave.rest);
         lines = read.lines ++ gave.line ∷ [];
         cut = read.cut ∙ ap (λ l. read.lines ++ l) gave.cut ∙ sym (append_assoc read.lines (gave.line ∷ []) (lines_of gave.rest));
         each = AllZip-push IsCardOf read.lines cards gave.line card read.each gave.punched;
@@ -51,6 +60,82 @@ pub reads_on : {S : Type 0} (left : S → Option (List ℕ)) (text : List ℕ) (
 reads_on left text cards old new None few gives none come = reads_all left text cards old few none come
 reads_on left text cards old new (Some card) few gives none come = reads_more left text cards old new card gives come
 
+-- the text still to come stays
+stays : {S : Type 0} (left : S → Option (List ℕ)) (text : List ℕ) (cards : List (List ℕ)) (old new : Reading S)
+    → Keeps (still_to_come left old) (still_to_come left new) → HasToCome left text cards old → HasToCome left text cards new
+stays left text cards old new kept come = record {
+  rest = come.rest;
+  is_left = still_known (still_to_come left old) (still_to_come left new) come.rest kept come.is_left;
+  is_read = come.is_read;
+}
+
+-- beyond the cards that were read is what is held
+up_to_held : {S : Type 0} (left : S → Option (List ℕ)) (text : List ℕ) (cards : List (List ℕ)) (reading : Reading S) (met : StreamCause)
+    → ((line : ℕ) → met ≡ cause.Card (read.Read line) → IsPart reading.held) → HasToCome left text cards reading
+    → HasReadUpTo text cards met (left reading.source)
+up_to_held left text cards reading met part come =
+    let parts = left_of reading.held come.rest (left reading.source) come.is_left in
+    record {
+      beyond = reading.held;
+      rest = parts.0;
+      is_left = parts.1;
+      is_read = subst (HasRead text cards) parts.2 come.is_read;
+      part = part;
+    }
+
+no_read : (line : ℕ) → cause.Write ≡ cause.Card (read.Read line) → ⊥
+no_read line is = cc
+
+pub up_to : {S : Type 0} (left : S → Option (List ℕ)) (text : List ℕ) (cards : List (List ℕ)) (reading : Reading S)
+    → HasToCome left text cards reading → HasReadUpTo text cards cause.Write (left reading.source)
+up_to left text cards reading come = up_to_held left text cards reading cause.Write (λ line is. absurd (no_read line is)) come
+
+-- the same of another cause, that is no failed read
+pub up_to_other : (text : List ℕ) (cards : List (List ℕ)) (one other : StreamCause) (left : Option (List ℕ))
+    → ((line : ℕ) → other ≡ cause.Card (read.Read line) → ⊥) → HasReadUpTo text cards one left → HasReadUpTo text cards other left
+up_to_other text cards one other left none up = record {
+  beyond = up.beyond;
+  rest = up.rest;
+  is_left = up.is_left;
+  is_read = up.is_read;
+  part = λ line is. absurd (none line is);
+}
+
+pub no_invalid_read : {fault : CardFault} {number : ℕ} (line : ℕ) → cause.Invalid fault number ≡ cause.Card (read.Read line) → ⊥
+no_invalid_read {fault} {number} line is = cc
+
+-- where a card is found its line is beyond the others too
+pub found_up_to : {S : Type 0} (left : S → Option (List ℕ)) (text : List ℕ) (cards : List (List ℕ)) (old new : Reading S) (found : Option (List ℕ))
+    → IfSome found (λ card. (rest : List ℕ) → still_to_come left old ≡ Some rest → GivesCard old.given rest card (still_to_come left new))
+    → IfNone found (Keeps (still_to_come left old) (still_to_come left new))
+    → HasToCome left text cards old → HasReadUpTo text cards cause.Write (left new.source)
+found_up_to left text cards old new None gives kept come = up_to left text cards new (stays left text cards old new kept come)
+found_up_to left text cards old new (Some card) gives kept come =
+    let gave = gives come.rest come.is_left in
+    let parts = left_of new.held gave.rest (left new.source) gave.left in
+    record {
+      beyond = gave.front ++ new.held;
+      rest = parts.0;
+      is_left = parts.1;
+      is_read = subst (HasRead text cards)
+          (gave.parts ∙ ap (λ t. gave.front ++ t) parts.2 ∙ sym (append_assoc gave.front new.held parts.0)) come.is_read;
+      part = λ line is. absurd (no_read line is);
+    }
+
+-- where none is, what is held, in which no whole line is where a read failed
+abbrev fault_in : StreamCause → ReadFault
+fault_in (cause.Card fault) = fault
+fault_in (cause.Invalid fault number) = read.Failed
+fault_in (cause.Misfit misfit) = read.Failed
+fault_in cause.Write = read.Failed
+fault_in cause.Memory = read.Failed
+
+pub fault_up_to : {S : Type 0} (left : S → Option (List ℕ)) (text : List ℕ) (cards : List (List ℕ)) (old new : Reading S) (fault : ReadFault)
+    → Keeps (still_to_come left old) (still_to_come left new) → ((line : ℕ) → fault ≡ read.Read line → IsPart new.held)
+    → HasToCome left text cards old → HasReadUpTo text cards (cause.Card fault) (left new.source)
+fault_up_to left text cards old new fault kept part come =
+    up_to_held left text cards new (cause.Card fault) (λ line is. part line (ap fault_in is)) (stays left text cards old new kept come)
+
 -- the card that was read is not valid
 pub invalid_next : {S : Type 0} (left : S → Option (List ℕ)) (chart : Chart) (text : List ℕ) (cards : List (List ℕ)) (new : Reading S)
     (found : Option (List ℕ)) (card : List ℕ) (fault : CardFault) (number : ℕ) → length cards ≡ number → found ≡ Some card
@@ -67,6 +152,8 @@ no_lines = refl
 
 pub read_all : (text : List ℕ) (cards : List (List ℕ)) → Deck text cards → HasRead text cards []
 read_all text cards deck = record {
+  front = text;
+  parts = sym (append-nil text);
   lines = lines_of text;
   cut = sym (append-nil (lines_of text)) ∙ ap (λ l. lines_of text ++ l) (sym no_lines);
   each = deck.each;

@@ -23,7 +23,7 @@ use Rattle.page_writer.specs.Open.{Open}
 use Rattle.page_writer.proofs.Opens.{pages_begin}
 use Rattle.placed_lines.specs.InOrder.{IsInOrder}
 use Rattle.placed_lines.specs.declared.placed_line.PlacedLine.{PlacedLine}
-use Rattle.promises.specs.Promises.{IsDeck}
+use Rattle.streamed_runs.specs.PrintPromises.Promises.{IsDeck}
 use Rattle.report.specs.ChartForm.{form_of}
 use Rattle.report.specs.Misfits.{Misfit, first_of}
 use Rattle.report.specs.Report.{Report, report_lines}

@@ -1,5 +1,5 @@
 -- How a run goes a card further, ends, and stops.
-use Rattle.std.proofs.Common.{◌≡◌, ◌∙◌, refl, sym, ap, subst, ℕ, ◌+◌, ◌-◌, ◌<◌, ◌≤◌, Bool, true, false, List, [], ◌∷◌, ◌++◌, Option, Some, None, IfSome, IfNone, length, length-append, append-nil, is_none, slice_get, arith}
+use Rattle.std.proofs.Common.{◌≡◌, ◌∙◌, refl, sym, ap, subst, inl, inr, ℕ, ◌+◌, ◌-◌, ◌<◌, ◌≤◌, Bool, true, false, List, [], ◌∷◌, ◌++◌, Option, Some, None, IfSome, IfNone, length, length-append, append-nil, is_none, slice_get, arith}
 use Rattle.std.specs.Io.{StartsWith}
 use Rattle.std.proofs.lemmas.Bool.{false≢true}
 use Rattle.std.proofs.lemmas.List.Elements.{All-append, All-cons, All-nil}
@@ -8,6 +8,7 @@ use Rattle.std.specs.Prelude.{option_to_list}
 use Rattle.card_code.specs.Deck.{Deck}
 use Rattle.card_code.specs.MostCards.{most_cards}
 use Rattle.card_lines.specs.Reading.{Reading}
+use Rattle.card_lines.specs.declared.fault.ReadFault.TheVariants as read
 use Rattle.charts.specs.Chart.{Chart}
 use Rattle.charts.specs.declared.chart.Line.{Line}
 use Rattle.chart_rules.specs.ValidCard.{IsValidCard}
@@ -28,19 +29,20 @@ use Rattle.page_writer.specs.Outgoing.{Breaks, TakesUp}
 use Rattle.page_writer.specs.Writing.{Writing}
 use Rattle.placed_lines.specs.InOrder.{FollowInOrder, IsInOrder}
 use Rattle.placed_lines.specs.declared.placed_line.PlacedLine.{PlacedLine}
-use Rattle.promises.specs.Promises.{IsDeck}
+use Rattle.streamed_runs.specs.PrintPromises.Promises.{IsDeck}
 use Rattle.report.specs.Breaks.{no_cards}
 use Rattle.report.specs.ChartForm.{form_of}
 use Rattle.report.specs.Misfits.{first_of, misfits}
 use Rattle.report.specs.Report.{Report}
+use Rattle.report.specs.Totals.{Fits}
 use Rattle.setups.specs.Wiring.{Wiring}
-use Rattle.streamed_runs.proofs.NextCards.{read_all}
+use Rattle.streamed_runs.proofs.NextCards.{up_to, up_to_other}
 use Rattle.streamed_runs.proofs.Standing.{HaveNoMisfit, fed_deck, fed_end, fed_next, feed_in_order, report_begins, run_begins, stand_before, stand_before_last}
 use Rattle.streamed_runs.proofs.Written.{breaks_more, follow, open_none, taken_none, takes_more}
 use Rattle.streamed_runs.specs.Causes.{HasCause, cards_written}
 use Rattle.streamed_runs.specs.FirstCauses.{HaveFitSoFar, IsFirstCause, IsFirstMisfit}
-use Rattle.streamed_runs.specs.HelperStanding.{Ends, HasFed, HasTaken, HasToCome, HaveBegun, HaveLast, IsOfNext, IsUnbegun, ReadsOn, Serves, Stands, Start, Stops, start_of}
-use Rattle.streamed_runs.specs.Reading.{HasRead}
+use Rattle.streamed_runs.specs.HelperStanding.{Ends, HasFed, HasTaken, HasToCome, HaveBegun, HaveLast, IsOfNext, IsUnbegun, ReadsOn, Serves, StandBeforeLast, Stands, Start, Stops, start_of}
+use Rattle.streamed_runs.specs.Reading.{HasReadUpTo}
 use Rattle.streamed_runs.specs.declared.fault.StreamCause.{StreamCause}
 use Rattle.streamed_runs.specs.declared.fault.StreamCause.TheVariants as cause
 use Rattle.streamed_runs.specs.declared.run.Run.{Run}
@@ -53,6 +55,7 @@ pub record IsNext {S : Type 0} (left : S → Option (List ℕ)) (chart : Chart) 
   pub well : reading.has_failed ≡ false
   pub room : IfSome next (λ _. (reading.given ≡ length cards + 1) × (length cards < most_cards))
   pub all : IfNone next (IsAtEnd (left reading.source))
+  pub up_to : (text : List ℕ) → start.text ≡ Some text → HasReadUpTo text cards cause.Write (left reading.source)
 
 -- the cards with the next one
 abbrev pub with_next : List (List ℕ) → Option (List ℕ) → List (List ℕ)
@@ -70,9 +73,9 @@ module _ {S : Type 0} (left : S → Option (List ℕ)) (chart : Chart) (start : 
 
   -- and were read
   next_read : (next : Option (List ℕ)) (text : List ℕ) → ReadsOn left text cards reading next
-      → (rest : List ℕ) × HasRead text (with_next cards next) rest
-  next_read None text deck = ([], subst (λ c. HasRead text c []) (sym (append-nil cards)) (read_all text cards deck))
-  next_read (Some card) text come = (come.rest, come.is_read)
+      → HasReadUpTo text cards cause.Write (left reading.source) → HasReadUpTo text (with_next cards next) cause.Write (left reading.source)
+  next_read None text deck read = subst (λ c. HasReadUpTo text c cause.Write (left reading.source)) (sym (append-nil cards)) read
+  next_read (Some card) text come read = up_to left text (cards ++ card ∷ []) reading come
 
 -- a cause of the next card is told between two cards, and no card more was read
 stops_between : (stopped : StreamCause) (cards : List (List ℕ)) → IsOfNext stopped → cards_written cards stopped ≡ length cards - 1
@@ -81,6 +84,20 @@ stops_between (cause.Invalid fault card) cards is = refl
 stops_between (cause.Misfit misfit) cards is = absurd is
 stops_between cause.Write cards is = absurd is
 stops_between cause.Memory cards is = absurd is
+
+-- no other cause is a failed read
+no_misfit_read : (misfit : Found) (line : ℕ) → cause.Misfit misfit ≡ cause.Card (read.Read line) → ⊥
+no_misfit_read misfit line is = cc
+
+no_memory_read : (line : ℕ) → cause.Memory ≡ cause.Card (read.Read line) → ⊥
+no_memory_read line is = cc
+
+no_write_read : (line : ℕ) → cause.Write ≡ cause.Card (read.Read line) → ⊥
+no_write_read line is = cc
+
+-- and none of them is met at want of memory
+not_of_memory : (stopped : StreamCause) → IsOfNext stopped → stopped ≡ cause.Memory → ⊥
+not_of_memory stopped is same = subst IsOfNext same is
 
 not_of_writing : (stopped : StreamCause) → IsOfNext stopped → stopped ≡ cause.Write → ⊥
 not_of_writing stopped is same = subst IsOfNext same is
@@ -175,6 +192,23 @@ placed_begins chart wiring serves cards machine lines (Some card) new more fed d
     report_begins chart wiring serves (cards ++ card ∷ []) [] (cards ++ card ∷ []) new (lines ++ more)
     (fed_next chart wiring cards machine lines card new more fed valid room none feed) (append-nil (cards ++ card ∷ [])) deck
 
+-- and its lines are those before its last card, or the deck has ended
+placed_before_last : (chart : Chart) (start : Start) → Serves chart start.wiring → (cards : List (List ℕ)) (machine : MachineState)
+    (lines : List PlacedLine) (next : Option (List ℕ)) (new : MachineState) (more : List PlacedLine)
+    → HasFed chart start.wiring cards machine lines → IfSome next (IsValidCard chart) → IfSome next (λ _. length cards < most_cards)
+    → (next ≡ None → (text : List ℕ) → start.text ≡ Some text → Deck text cards)
+    → HaveNoMisfit chart.lines cards next → Feeds start.wiring machine next new more
+    → StandBeforeLast chart start (with_next cards next) (lines ++ more)
+placed_before_last chart start serves cards machine lines None new more fed valid room ended none feed =
+    let ends = fed_end chart start.wiring cards machine lines new more fed none feed in
+    inr (
+      (λ text known. subst (Deck text) (sym (append-nil cards)) (ended refl text known)),
+      subst (Fits chart.lines) (sym (append-nil cards)) ends.0,
+    )
+placed_before_last chart start serves cards machine lines (Some card) new more fed valid room ended none feed =
+    inl (stand_before chart start.wiring serves (cards ++ card ∷ []) new (lines ++ more)
+    (fed_next chart start.wiring cards machine lines card new more fed valid room none feed))
+
 room_of : {S : Type 0} (reading : Reading S) (cards : List (List ℕ)) (next : Option (List ℕ))
     → IfSome next (λ _. (reading.given ≡ length cards + 1) × (length cards < most_cards)) → IfSome next (λ _. length cards < most_cards)
 room_of reading cards None room = tt
@@ -186,7 +220,7 @@ unread : {S : Type 0} (left : S → Option (List ℕ)) (text : List ℕ) (readin
 unread left text reading none known = record {
   rest = text;
   is_left = ap (λ h. prepend_known h (left reading.source)) none ∙ ap (prepend_known []) known;
-  is_read = record { lines = []; cut = refl; each = tt };
+  is_read = record { front = []; parts = refl; lines = []; cut = refl; each = tt };
 }
 
 -- before the first card
@@ -216,8 +250,11 @@ module _ {S W : Type 0} (left : S → Option (List ℕ)) (held : W → Option (L
     };
   }
 
+  first_read : (text : List ℕ) → left reading.source ≡ Some text → HasReadUpTo text [] cause.Write (left reading.source)
+  first_read text known = up_to left text [] reading (unread left text reading unbegun.nothing_held known)
+
   -- memory is refused at once
-  pub stops_at_once : Stops held has_failed chart (start_of left held wiring reading writing) cause.Memory writing
+  pub stops_at_once : Stops held has_failed chart (start_of left held wiring reading writing) cause.Memory (left reading.source) writing
   stops_at_once =
       let form = (form_of chart.lines).lines in
       let none : IsDeck chart [] = record { valid = All-nil (IsValidCard chart); long = omega arith } in
@@ -227,17 +264,19 @@ module _ {S W : Type 0} (left : S → Option (List ℕ)) (held : W → Option (L
         cards = [];
         lines = [];
         valid = none;
-        read = λ text known. let come = unread left text reading unbegun.nothing_held known in (come.rest, come.is_read, tt);
+        read = λ text known. (up_to_other text [] cause.Write cause.Memory (left reading.source) no_memory_read (first_read text known), tt);
         begins = begins;
         stands = λ between. absurd (false≢true between);
+        refused = λ same. refl;
         written = subst (λ b. HasTaken held has_failed (held writing.out.sink) b writing.out) (sym (open_none form)) first_bytes;
         first = λ text known. tt;
         begun = record {
           cards = [];
           valid = none;
-          read = λ text known. let come = unread left text reading unbegun.nothing_held known in (come.rest, come.is_read);
+          read = first_read;
           so_far = tt;
           begins = begins;
+          before_last = inl refl;
         };
         broken = λ same. cc;
       }
@@ -257,15 +296,24 @@ module _ {S W : Type 0} {left : S → Option (List ℕ)} {held : W → Option (L
   abbrev fit_so_far : HaveFitSoFar chart.lines stands.cards
   fit_so_far = fed_fit chart start.wiring stands.cards run.machine.machine stands.lines stands.fed
 
+  abbrev so_far_before : stands.lines ≡ report_before chart stands.cards (length stands.cards - 1)
+  so_far_before = stand_before chart start.wiring serves stands.cards run.machine.machine stands.lines stands.fed
+
+  abbrev so_far_begins : StartsWith (Report chart stands.cards) (Open stands.lines form)
+  so_far_begins = report_begins chart start.wiring serves stands.cards [] stands.cards run.machine.machine stands.lines stands.fed
+      (append-nil stands.cards) deck
+
   -- what is known of the cards so far, whatever stops the run
-  abbrev begun_so_far : HaveBegun chart start stands.lines
-  begun_so_far = record {
+  begun_so_far : (left_now : Option (List ℕ))
+      → ((text : List ℕ) → start.text ≡ Some text → HasReadUpTo text stands.cards cause.Write left_now)
+      → HaveBegun chart start left_now stands.lines
+  begun_so_far left_now read = record {
     cards = stands.cards;
     valid = deck;
-    read = λ text known. let come = stands.read text known in (come.rest, come.is_read);
+    read = read;
     so_far = fit_so_far;
-    begins = report_begins chart start.wiring serves stands.cards [] stands.cards run.machine.machine stands.lines stands.fed
-        (append-nil stands.cards) deck;
+    begins = so_far_begins;
+    before_last = inl so_far_before;
   }
 
   -- there are few cards
@@ -288,33 +336,38 @@ module _ {S W : Type 0} {left : S → Option (List ℕ)} {held : W → Option (L
       → ReadsOn left text before read_on next)
       → IfSome next (IsValidCard chart) → read_on.has_failed ≡ false
       → IfSome next (λ _. (read_on.given ≡ run.count + 1) × (run.count < most_cards)) → IfNone next (IsAtEnd (left read_on.source))
+      → ((text : List ℕ) (before : List (List ℕ)) → HasToCome left text before reading
+      → HasReadUpTo text before cause.Write (left read_on.source))
       → IsNext left chart start stands.cards read_on next
-  next_is read_on next reads valid well room all = record {
+  next_is read_on next reads valid well room all up_to = record {
     read = λ text known. reads text stands.cards (stands.read text known) (sym stands.counted);
     valid = valid;
     well = well;
     room = subst (λ n. IfSome next (λ _. (read_on.given ≡ n + 1) × (n < most_cards))) stands.counted room;
     all = all;
+    up_to = λ text known. up_to text stands.cards (stands.read text known);
   }
 
   -- the next card is at fault
-  pub stops_at_next : (stopped : StreamCause) → IsOfNext stopped
+  pub stops_at_next : (stopped : StreamCause) (left_now : Option (List ℕ)) → IsOfNext stopped
       → ((text : List ℕ) (before : List (List ℕ)) → HasToCome left text before reading → length before ≡ run.count → HasCause chart text before stopped)
-      → Stops held has_failed chart start stopped writing
-  stops_at_next stopped is told = record {
+      → ((text : List ℕ) (before : List (List ℕ)) → HasToCome left text before reading → HasReadUpTo text before stopped left_now)
+      → Stops held has_failed chart start stopped left_now writing
+  stops_at_next stopped left_now is told up_to = record {
     cards = stands.cards;
     lines = stands.lines;
     valid = deck;
     read = λ text known.
         let come = stands.read text known in
-        (come.rest, come.is_read, told text stands.cards come (sym stands.counted));
-    begins = begun_so_far.begins;
-    stands = λ _.
-        stand_before chart start.wiring serves stands.cards run.machine.machine stands.lines stands.fed
-        ∙ ap (report_before chart stands.cards) (sym (stops_between stopped stands.cards is));
+        (up_to text stands.cards come, told text stands.cards come (sym stands.counted));
+    begins = so_far_begins;
+    stands = λ _. so_far_before ∙ ap (report_before chart stands.cards) (sym (stops_between stopped stands.cards is));
+    refused = λ same. absurd (not_of_memory stopped is same);
     written = same_form held has_failed start.held stands.lines writing form form_is stands.written.bytes;
     first = λ text known. first_of_next chart text stands.cards stopped is fit_so_far;
-    begun = begun_so_far;
+    begun = begun_so_far left_now
+        (λ text known. up_to_other text stands.cards stopped cause.Write left_now no_write_read
+        (up_to text stands.cards (stands.read text known)));
     broken = λ same. absurd (not_of_writing stopped is same);
   }
 
@@ -325,15 +378,15 @@ module _ {S W : Type 0} {left : S → Option (List ℕ)} {held : W → Option (L
     abbrev all_deck : IsDeck chart all
     all_deck = next_deck left chart start stands.cards read_on next deck is
 
-    all_read : (text : List ℕ) → start.text ≡ Some text → (rest : List ℕ) × HasRead text all rest
-    all_read text known = next_read left chart start stands.cards read_on next text (is.read text known)
+    all_read : (text : List ℕ) → start.text ≡ Some text → HasReadUpTo text all cause.Write (left read_on.source)
+    all_read text known = next_read left chart start stands.cards read_on next text (is.read text known) (is.up_to text known)
 
     -- a total of the groups that end does not fit
     pub stops_at_misfit : (misfit : Found)
         → (HaveLast chart.lines [] run.last run.sums → Some misfit ≡ None)
         → ((card : List ℕ) (cards : List (List ℕ)) → HaveLast chart.lines (card ∷ cards) run.last run.sums
         → Some (told misfit) ≡ first_of (misfits_of_last chart.lines card cards next))
-        → Stops held has_failed chart start (cause.Misfit misfit) writing
+        → Stops held has_failed chart start (cause.Misfit misfit) (left read_on.source) writing
     stops_at_misfit misfit none tells =
         let first = misfit_of chart start.wiring serves stands.cards run.machine.machine stands.lines run.last next run.sums misfit stands.fed
         stands.sums none tells in
@@ -341,29 +394,33 @@ module _ {S W : Type 0} {left : S → Option (List ℕ)} {held : W → Option (L
           cards = all;
           lines = stands.lines;
           valid = all_deck;
-          read = λ text known. let read = all_read text known in (read.0, read.1, first.0);
+          read = λ text known.
+              (up_to_other text all cause.Write (cause.Misfit misfit) (left read_on.source) (no_misfit_read misfit) (all_read text known), first.0);
           begins = report_begins chart start.wiring serves stands.cards (option_to_list next) all run.machine.machine stands.lines stands.fed
               refl all_deck;
           stands = λ _. first.1;
+          refused = λ same. cc;
           written = same_form held has_failed start.held stands.lines writing form form_is stands.written.bytes;
           first = λ text known. first_misfit chart start.wiring text stands.cards run.machine.machine stands.lines run.last next run.sums misfit
               stands.fed stands.sums none tells (λ ends. subst (ReadsOn left text stands.cards read_on) ends (is.read text known));
-          begun = begun_so_far;
+          begun = begun_so_far (left read_on.source) is.up_to;
           broken = λ same. cc;
         }
 
     -- memory is refused
-    pub stops_for_memory : HaveNoMisfit chart.lines stands.cards next → Stops held has_failed chart start cause.Memory writing
-    stops_for_memory none = record {
-      cards = all;
+    pub stops_for_memory : Stops held has_failed chart start cause.Memory (left read_on.source) writing
+    stops_for_memory = record {
+      cards = stands.cards;
       lines = stands.lines;
-      valid = all_deck;
-      read = λ text known. let read = all_read text known in (read.0, read.1, tt);
-      begins = report_begins chart start.wiring serves stands.cards (option_to_list next) all run.machine.machine stands.lines stands.fed refl all_deck;
+      valid = deck;
+      read = λ text known.
+          (up_to_other text stands.cards cause.Write cause.Memory (left read_on.source) no_memory_read (is.up_to text known), tt);
+      begins = so_far_begins;
       stands = λ between. absurd (false≢true between);
+      refused = λ same. so_far_before;
       written = same_form held has_failed start.held stands.lines writing form form_is stands.written.bytes;
-      first = λ text known. next_fit chart.lines stands.cards next fit_so_far none;
-      begun = begun_so_far;
+      first = λ text known. fit_so_far;
+      begun = begun_so_far (left read_on.source) is.up_to;
       broken = λ same. cc;
     }
 
@@ -381,7 +438,7 @@ module _ {S W : Type 0} {left : S → Option (List ℕ)} {held : W → Option (L
       -- they can't be written
       pub stops_in_writing : HaveNoMisfit chart.lines stands.cards next → (written : Writing W)
           → Breaks held has_failed (added_all writing.form_lines writing.page writing.line more) writing.out written.out
-          → Stops held has_failed chart start cause.Write written
+          → Stops held has_failed chart start cause.Write (left read_on.source) written
       stops_in_writing none written breaks =
           let begins : StartsWith (Report chart all) (Open (stands.lines ++ more) form) =
           placed_begins chart start.wiring serves stands.cards run.machine.machine stands.lines next new more stands.fed all_deck is.valid
@@ -391,12 +448,22 @@ module _ {S W : Type 0} {left : S → Option (List ℕ)} {held : W → Option (L
             cards = all;
             lines = stands.lines ++ more;
             valid = all_deck;
-            read = λ text known. let read = all_read text known in (read.0, read.1, tt);
+            read = λ text known. (all_read text known, tt);
             begins = begins;
             stands = λ between. absurd (false≢true between);
+            refused = λ same. cc;
             written = breaks_more form stands.lines more writing written form_is in_order stands.written breaks;
             first = λ text known. so_far;
-            begun = record { cards = all; valid = all_deck; read = all_read; so_far = so_far; begins = begins };
+            begun = record {
+              cards = all;
+              valid = all_deck;
+              read = all_read;
+              so_far = so_far;
+              begins = begins;
+              before_last = placed_before_last chart start serves stands.cards run.machine.machine stands.lines next new more stands.fed is.valid
+                  (room_of read_on stands.cards next is.room)
+                  (λ ends text known. subst (ReadsOn left text stands.cards read_on) ends (is.read text known)) none feed;
+            };
             broken = λ _. breaks.told;
           }
 
@@ -445,6 +512,7 @@ module _ {S W : Type 0} {left : S → Option (List ℕ)} {held : W → Option (L
         printed = ends.1;
         counted = counted ∙ stands.counted;
         read = is.read;
+        up_to = is.up_to;
         all = is.all;
         form = same ∙ stands.form;
         written = takes_more form stands.lines more writing written form_is (in_order is gains) stands.written takes same page line;

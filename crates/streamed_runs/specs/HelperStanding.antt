@@ -1,5 +1,5 @@
 -- Helper words: how a streamed run stands between two cards, how it ends, and how it stops.
-use Rattle.std.specs.Prelude.{◌≡◌, ⊤, ℕ, Bool, true, false, List, [], ◌∷◌, ◌++◌, Option, Some, None, length}
+use Rattle.std.specs.Prelude.{◌≡◌, ◌⊎◌, ◌-◌, ⊤, ℕ, Bool, true, false, List, [], ◌∷◌, ◌++◌, Option, Some, None, length}
 use Rattle.std.specs.Io.{StartsWith}
 use Rattle.std.specs.Io.KnownBytes.{Appends, IsAtEnd}
 use Rattle.card_code.specs.Deck.{Deck}
@@ -18,7 +18,7 @@ use Rattle.page_writer.specs.Open.{Open}
 use Rattle.page_writer.specs.Outgoing.{Breaks, Outgoing, TakesUp}
 use Rattle.page_writer.specs.Writing.{Writing}
 use Rattle.placed_lines.specs.declared.placed_line.PlacedLine.{PlacedLine}
-use Rattle.promises.specs.Promises.{BeginsReport, IsDeck, PrintsReport}
+use Rattle.streamed_runs.specs.PrintPromises.Promises.{BeginsReport, IsDeck, PrintsReport}
 use Rattle.report.specs.Breaks.{no_cards}
 use Rattle.report.specs.ChartForm.{form_of}
 use Rattle.report.specs.Report.{Report}
@@ -27,7 +27,7 @@ use Rattle.setups.specs.Tapes.{IsCarriageTape}
 use Rattle.setups.specs.Wiring.{Wiring}
 use Rattle.streamed_runs.specs.Causes.{HasCause, cards_written, stops_between_cards}
 use Rattle.streamed_runs.specs.FirstCauses.{HaveFitSoFar, IsFirstCause}
-use Rattle.streamed_runs.specs.Reading.{HasRead}
+use Rattle.streamed_runs.specs.Reading.{HasRead, HasReadUpTo}
 use Rattle.streamed_runs.specs.Streams.{Streams}
 use Rattle.streamed_runs.specs.declared.fault.StreamCause.{StreamCause}
 use Rattle.streamed_runs.specs.declared.fault.StreamCause.TheVariants as cause
@@ -141,31 +141,40 @@ pub record Ends {S W : Type 0} (left : S → Option (List ℕ)) (held : W → Op
   pub printed : MachineLines start.wiring cards lines
   pub counted : count ≡ length cards
   pub read : (text : List ℕ) → start.text ≡ Some text → Deck text cards
+  pub up_to : (text : List ℕ) → start.text ≡ Some text → HasReadUpTo text cards cause.Write (left reading.source)
   pub all : IsAtEnd (left reading.source)
   pub form : writing.form_lines ≡ start.wiring.tape.lines
   pub written : TakesLines held has_failed start.held lines writing
 
+-- The lines are those before the last of some cards; or these are the whole deck, and their totals fit.
+abbrev pub StandBeforeLast : Chart → Start → List (List ℕ) → List PlacedLine → Type 0
+StandBeforeLast chart start cards lines =
+    (lines ≡ report_before chart cards (length cards - 1))
+    ⊎ (((text : List ℕ) → start.text ≡ Some text → Deck text cards) × Fits chart.lines cards)
+
 -- What is known where the sink fails: cards that were read are valid, no group that ended before the last of them has a misfit, and
 -- their report begins with the lines that were placed.
-pub record HaveBegun (chart : Chart) (start : Start) (lines : List PlacedLine) : Type 0 where
+pub record HaveBegun (chart : Chart) (start : Start) (left : Option (List ℕ)) (lines : List PlacedLine) : Type 0 where
   pub cards : List (List ℕ)
   pub valid : IsDeck chart cards
-  pub read : (text : List ℕ) → start.text ≡ Some text → (rest : List ℕ) × HasRead text cards rest
+  pub read : (text : List ℕ) → start.text ≡ Some text → HasReadUpTo text cards cause.Write left
   pub so_far : HaveFitSoFar chart.lines cards
   pub begins : StartsWith (Report chart cards) (Open lines (form_of chart.lines).lines)
+  pub before_last : StandBeforeLast chart start cards lines
 
 -- How a run stops for a cause, but for what waits to be written. The sink may then fail, and the cause is not told.
 pub record Stops {W : Type 0} (held : W → Option (List ℕ)) (has_failed : W → Bool) (chart : Chart) (start : Start) (stopped : StreamCause)
-    (writing : Writing W) : Type 0 where
+    (left : Option (List ℕ)) (writing : Writing W) : Type 0 where
   pub cards : List (List ℕ)
   pub lines : List PlacedLine
   pub valid : IsDeck chart cards
-  pub read : (text : List ℕ) → start.text ≡ Some text → (rest : List ℕ) × HasRead text cards rest × HasCause chart text cards stopped
+  pub read : (text : List ℕ) → start.text ≡ Some text → HasReadUpTo text cards stopped left × HasCause chart text cards stopped
   pub begins : StartsWith (Report chart cards) (Open lines (form_of chart.lines).lines)
   pub stands : stops_between_cards stopped ≡ true → lines ≡ report_before chart cards (cards_written cards stopped)
+  pub refused : stopped ≡ cause.Memory → lines ≡ report_before chart cards (length cards - 1)
   pub written : HasTaken held has_failed start.held (Open lines (form_of chart.lines).lines) writing.out
   pub first : (text : List ℕ) → start.text ≡ Some text → IsFirstCause chart text cards stopped
-  pub begun : HaveBegun chart start lines
+  pub begun : HaveBegun chart start left lines
   pub broken : stopped ≡ cause.Write → writing.out.has_failed ≡ true
 
 -- After a step a run stands a card further, or it has ended.

@@ -6,3 +6,4 @@ pub mod Laws
 pub mod Reading
 pub mod Runs
 pub mod Streams
+pub mod PrintPromises

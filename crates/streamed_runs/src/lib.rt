@@ -1,13 +1,14 @@
-//! Streamed runs: the cards of a deck come one by one from a source, the lines of its report go one by one to a sink, and neither is
-//! held whole.
+//! Streamed runs: the cards of a deck come one by one from a source, the lines of its report go to a sink, and neither is held whole.
 //!
 //! The order of a run is stated: for each card the next one, or the end of the deck, is read and checked; then the totals of the groups
-//! that end with the card are tried; then the machine is fed the next card, or the end; then the lines that this gives are written.
-//! Besides the machine two cards are held, and for each total the sum of its unfinished group.
+//! that end with the card are tried; then the machine is fed the next card, or the end; then the lines that this gives are taken up, and
+//! go to the sink once they are a block. Besides the machine a run holds two cards, the lines of one card, the sum of the unfinished group
+//! of each total, and two buffers: 16 KB of the deck and 8 KB of pages.
 #![tactic(auto)]
 
 mod fault;
 pub mod laws;
+pub mod promises;
 mod run;
 mod running;
 

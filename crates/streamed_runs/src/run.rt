@@ -14,6 +14,7 @@ ghost use Rattle.report.specs.Breaks.{no_cards};
 ghost use Rattle.report.specs.Misfits.{first_of};
 ghost use Rattle.streamed_runs.specs.Causes.{HasCause};
 ghost use Rattle.streamed_runs.specs.HelperStanding.{GoesOn, HasToCome, HaveLast, IsOfNext, ReadsOn, Serves, Stands, Start, Stops};
+ghost use Rattle.streamed_runs.specs.Reading.{HasReadUpTo};
 ghost use Rattle.streamed_runs.specs.declared.fault.StreamCause.TheVariants as cause;
 
 use crate::fault::StreamCause;
@@ -71,7 +72,7 @@ pub(crate) fn step<S: Source + Drop, W: Sink + Drop>(
     ensures goes_on { (start : Start) → Serves chart.now start.wiring
         → Stands S.left W.held W.has_failed chart.now start cards.old run.old pages.old
         → MatchResult result (GoesOn S.left W.held W.has_failed chart.now start cards.new run.new pages.new)
-        (λ stopped. Stops W.held W.has_failed chart.now start stopped pages.new) }
+        (λ stopped. Stops W.held W.has_failed chart.now start stopped (S.left cards.new.source) pages.new) }
     ensures counted { IfOk result (λ goes_on. goes_on ≡ true → run.new.count ≡ run.old.count + 1) }
     ensures failed { IfErr result (λ fault. (line : ℕ) → fault ≡ cause.Card (read.Read line) → S.has_failed cards.new.source ≡ true) }
     ensures source { S.borrow cards.new.source ≡ S.borrow cards.old.source }
@@ -106,6 +107,9 @@ fn next_valid<S: Source + Drop>(
     requires few { number ≤ most_cards }
     ensures read { (text : List ℕ) (before : List (List ℕ)) → HasToCome S.left text before cards.old → length before ≡ number →
         MatchResult result (λ _. ReadsOn S.left text before cards.new next.new) (HasCause chart.now text before) }
+    ensures up_to { (text : List ℕ) (before : List (List ℕ)) → HasToCome S.left text before cards.old →
+        MatchResult result (λ _. HasReadUpTo text before cause.Write (S.left cards.new.source))
+        (λ stopped. HasReadUpTo text before stopped (S.left cards.new.source)) }
     ensures valid { OnOk result (IfSome next.new (IsValidCard chart.now)) }
     ensures well { OnOk result (cards.new.has_failed ≡ false) }
     ensures one_more { OnOk result (IfSome next.new (λ _. (cards.new.given ≡ number + 1) × (number < most_cards))) }

@@ -1,13 +1,12 @@
 //! A run over a deck that comes card by card.
 
-ghost use Rattle.std.specs.Prelude.{◌≡◌, ℕ, List, Some, true, IfErr, IfOk, MatchResult, OnOk};
-ghost use Rattle.std.specs.Io.KnownBytes.{Appends, IsAtEnd};
+ghost use Rattle.std.specs.Prelude.{◌≡◌, ℕ, true, IfErr, MatchResult, OnOk};
 ghost use Rattle.card_lines.specs.declared.fault.ReadFault.TheVariants as read;
 ghost use Rattle.page_writer.specs.Outgoing.{Breaks, TakesUp};
-ghost use Rattle.promises.specs.Promises.{BeginsReport, PrintsReport};
+ghost use Rattle.streamed_runs.specs.PrintPromises.Promises.{BeginsReport, PrintsReport};
 ghost use Rattle.report.specs.ChartForm.{form_of};
 ghost use Rattle.streamed_runs.specs.HelperStanding.{Ends, IsUnbegun, PutsOut, Serves, Stops, start_of};
-ghost use Rattle.streamed_runs.specs.Runs.{HasRun, HasStopped};
+ghost use Rattle.streamed_runs.specs.Runs.{RunsToEnd, StopsShort};
 ghost use Rattle.streamed_runs.specs.declared.fault.StreamCause.TheVariants as cause;
 
 use crate::fault::{StreamCause, StreamFault};
@@ -31,7 +30,8 @@ fn run_cards<S: Source + Drop, W: Sink + Drop>(
     requires unbegun { IsUnbegun setup.now cards.old pages.old }
     ensures run { MatchResult result
         (λ count. Ends S.left W.held W.has_failed chart.now (start_of S.left W.held setup.now cards.old pages.old) cards.new count pages.new)
-        (λ stopped. Stops W.held W.has_failed chart.now (start_of S.left W.held setup.now cards.old pages.old) stopped pages.new) }
+        (λ stopped. Stops W.held W.has_failed chart.now (start_of S.left W.held setup.now cards.old pages.old) stopped
+        (S.left cards.new.source) pages.new) }
     ensures failed { IfErr result (λ fault. (line : ℕ) → fault ≡ cause.Card (read.Read line) → S.has_failed cards.new.source ≡ true) }
     ensures source { S.borrow cards.new.source ≡ S.borrow cards.old.source }
     ensures sink { W.borrow pages.new.out.sink ≡ W.borrow pages.old.out.sink }
@@ -67,11 +67,10 @@ fn run_pages<S: Source + Drop, W: Sink + Drop>(
 ) -> Result<u64, StreamFault>
     requires serves { Serves chart.now setup.now }
     requires unbegun { IsUnbegun setup.now cards.old pages.old }
-    ensures run { IfOk result (λ count. (text : List ℕ) → S.left cards.old.source ≡ Some text → (written : List ℕ)
-        × HasRun chart.now text count written × Appends (W.held pages.old.out.sink) (W.held pages.new.out.sink) written) }
-    ensures all { OnOk result (IsAtEnd (S.left cards.new.source)) }
-    ensures stopped { IfErr result (λ fault. (text : List ℕ) → S.left cards.old.source ≡ Some text → (written : List ℕ)
-        × HasStopped chart.now text fault written × Appends (W.held pages.old.out.sink) (W.held pages.new.out.sink) written) }
+    ensures run { MatchResult result
+        (RunsToEnd chart.now (S.left cards.old.source) (S.left cards.new.source) (W.held pages.old.out.sink) (W.held pages.new.out.sink))
+        (StopsShort chart.now (S.left cards.old.source) (S.left cards.new.source) (W.held pages.old.out.sink) (W.held pages.new.out.sink)) }
+    ensures flushed { OnOk result (W.is_flushed pages.new.out.sink ≡ true) }
     ensures read { IfErr result (λ fault. (line : ℕ) → fault.cause ≡ cause.Card (read.Read line) → S.has_failed cards.new.source ≡ true) }
     ensures write { IfErr result (λ fault. fault.cause ≡ cause.Write → W.has_failed pages.new.out.sink ≡ true) }
     ensures source { S.borrow cards.new.source ≡ S.borrow cards.old.source }
@@ -93,11 +92,11 @@ pub struct Streamed<S: Source + Drop, W: Sink + Drop> {
     pub source: S,
     /// The sink.
     pub sink: W,
-    /// How many cards there were, where the deck was run to its end.
+    /// How many cards there were, if the deck was run to its end.
     pub run: Result<u64, StreamFault>,
 }
 
-/// Runs a deck as [`run_stream`] does, over a source and a sink of its own, and hands both back, also where one has failed.
+/// Runs a deck as [`run_stream`] does, over a source and a sink of its own, and hands both back, also if one has failed.
 ///
 /// The fault is the one that `run_stream` tells.
 pub fn stream_deck<S: Source + Drop, W: Sink + Drop>(
@@ -110,11 +109,10 @@ pub fn stream_deck<S: Source + Drop, W: Sink + Drop>(
     requires prints { PrintsReport chart.now setup.now }
     requires begins { BeginsReport chart.now setup.now }
     requires form { setup.now.tape.lines ≡ (form_of chart.now.lines).lines }
-    ensures run { IfOk result.run (λ count. (text : List ℕ) → S.left source ≡ Some text → (written : List ℕ)
-        × HasRun chart.now text count written × Appends (W.held sink) (W.held result.sink) written) }
-    ensures all { OnOk result.run (IsAtEnd (S.left result.source)) }
-    ensures stopped { IfErr result.run (λ fault. (text : List ℕ) → S.left source ≡ Some text → (written : List ℕ)
-        × HasStopped chart.now text fault written × Appends (W.held sink) (W.held result.sink) written) }
+    ensures run { MatchResult result.run
+        (RunsToEnd chart.now (S.left source) (S.left result.source) (W.held sink) (W.held result.sink))
+        (StopsShort chart.now (S.left source) (S.left result.source) (W.held sink) (W.held result.sink)) }
+    ensures flushed { OnOk result.run (W.is_flushed result.sink ≡ true) }
     ensures read { IfErr result.run (λ fault. (line : ℕ) → fault.cause ≡ cause.Card (read.Read line) → S.has_failed result.source ≡ true) }
     ensures write { IfErr result.run (λ fault. fault.cause ≡ cause.Write → W.has_failed result.sink ≡ true) }
     ensures same_source { S.borrow result.source ≡ S.borrow source }
@@ -133,15 +131,17 @@ pub fn stream_deck<S: Source + Drop, W: Sink + Drop>(
 }
 
 /// Runs a deck through the machine of a setup that prints the reports of a chart: cards come one by one from the source, and the pages of
-/// their report go to the sink. Answers how many cards there were. Memory is taken for the machine and for the lines of one card alone.
+/// their report go to the sink, which is flushed at the end. Answers how many cards there were. Memory is taken for the machine and for the
+/// lines of one card alone.
 ///
 /// The pages are written in blocks of 8 KB; what waits for its block is written before a fault of a card or of a total is told.
 ///
 /// # Errors
 ///
-/// The first cause that is met, with the number of bytes written until then. For each card in turn: `Card` where the next one can't be
-/// read, `Invalid` where it is not valid; `Misfit` where a total of a group that ends with the card doesn't fit; `Memory` where a growth
-/// is refused; `Write` where the sink fails, also where it fails to take what waits before another fault is told.
+/// The first cause that is met, with the number of bytes written until then. For each card in turn: `Card` if the next one can't be
+/// read, `Invalid` if it is not valid; `Misfit` if a total of a group that ends with the card doesn't fit; `Memory` if a growth
+/// is refused; `Write` if the sink fails, also if it fails to take what waits before another fault is told. At `Memory` and `Write` a front
+/// of the lines before those of the last card read is written; if the sink fails at the end of the deck, a front of the report.
 pub fn run_stream<S: Source, W: Sink>(
     alloc: Global,
     chart: &Chart,
@@ -152,11 +152,10 @@ pub fn run_stream<S: Source, W: Sink>(
     requires prints { PrintsReport chart.now setup.now }
     requires begins { BeginsReport chart.now setup.now }
     requires form { setup.now.tape.lines ≡ (form_of chart.now.lines).lines }
-    ensures run { IfOk result (λ count. (text : List ℕ) → S.left source.old ≡ Some text → (written : List ℕ)
-        × HasRun chart.now text count written × Appends (W.held sink.old) (W.held sink.new) written) }
-    ensures all { OnOk result (IsAtEnd (S.left source.new)) }
-    ensures stopped { IfErr result (λ fault. (text : List ℕ) → S.left source.old ≡ Some text → (written : List ℕ)
-        × HasStopped chart.now text fault written × Appends (W.held sink.old) (W.held sink.new) written) }
+    ensures run { MatchResult result
+        (RunsToEnd chart.now (S.left source.old) (S.left source.new) (W.held sink.old) (W.held sink.new))
+        (StopsShort chart.now (S.left source.old) (S.left source.new) (W.held sink.old) (W.held sink.new)) }
+    ensures flushed { OnOk result (W.is_flushed sink.new ≡ true) }
     ensures read { IfErr result (λ fault. (line : ℕ) → fault.cause ≡ cause.Card (read.Read line) → S.has_failed source.new ≡ true) }
     ensures write { IfErr result (λ fault. fault.cause ≡ cause.Write → W.has_failed sink.new ≡ true) }
 {

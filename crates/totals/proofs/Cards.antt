@@ -2,9 +2,9 @@
 use Rattle.std.proofs.Common.{◌≡◌, ◌∙◌, refl, sym, ap, ℕ, zero, suc, ◌^◌, ◌<◌, ◌≤◌, ◌==◌, Bool, true, false, ◌&&◌, ℤ, ◌+ℤ◌, ◌-ℤ◌, pos, if◌then◌else◌, arith}
 use Rattle.std.proofs.lemmas.Bool.Decides.{nat_tests}
 use Rattle.std.proofs.lemmas.Int.{ints}
-use Rattle.counter_cycles.specs.Acts.{Held, number_after}
-use Rattle.counter_cycles.specs.Acts.Act.{Still}
-use Rattle.counter_cycles.proofs.DigitLemmas.{power-some}
+use Rattle.totals.specs.CounterCycles.Acts.{Held, number_after}
+use Rattle.totals.specs.CounterCycles.Acts.Act.{Still}
+use Rattle.totals.proofs.CounterCycles.DigitLemmas.{power-some}
 use Rattle.totals.specs.Amounts.{Amount, lower, posted, total_act}
 use Rattle.totals.specs.Amounts.Kind.{Entry}
 use Rattle.totals.specs.Laws.{CardGoesIn, ZerosStand}

@@ -4,7 +4,7 @@ use Rattle.std.specs.Int.{is_negative}
 use Rattle.std.proofs.lemmas.Bool.{false≢true}
 use Rattle.std.proofs.lemmas.Bool.Decides.{nat_tests}
 use Rattle.std.proofs.lemmas.Int.{ints}
-use Rattle.counter_cycles.specs.Acts.{number_after}
+use Rattle.totals.specs.CounterCycles.Acts.{number_after}
 use Rattle.counters.specs.Numbers.{left_number}
 use Rattle.totals.specs.Amounts.{posted}
 use Rattle.totals.specs.Standing.{Stands}

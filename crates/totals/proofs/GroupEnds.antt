@@ -3,9 +3,9 @@ use Rattle.std.proofs.Common.{◌≡◌, ◌∙◌, refl, sym, ap, ℕ, zero, su
 use Rattle.std.specs.Int.{is_negative}
 use Rattle.std.proofs.lemmas.Bool.Decides.{nat_tests}
 use Rattle.std.proofs.lemmas.Int.{ints}
-use Rattle.counter_cycles.specs.Acts.{Held, number_after}
-use Rattle.counter_cycles.specs.Acts.Act.{Still, Show}
-use Rattle.counter_cycles.proofs.DigitLemmas.{power-some}
+use Rattle.totals.specs.CounterCycles.Acts.{Held, number_after}
+use Rattle.totals.specs.CounterCycles.Acts.Act.{Still, Show}
+use Rattle.totals.proofs.CounterCycles.DigitLemmas.{power-some}
 use Rattle.net.specs.declared.cycle.Ordinal.TheVariants.{Third}
 use Rattle.totals.specs.Amounts.{Amount, HasGroups, lower, posted, act_of, total_act, state_after}
 use Rattle.totals.specs.Amounts.Kind.{Prog}

@@ -8,3 +8,4 @@ pub mod Ready
 pub mod GroupEnds
 pub mod Passing
 pub mod Examples
+pub mod CounterCycles

@@ -2,8 +2,8 @@
 use Rattle.std.proofs.Common.{◌≡◌, ◌∙◌, refl, sym, ap, ℕ, ◌^◌, ◌≤◌, ◌<◌, ◌==◌, Bool, true, false, ◌&&◌, if◌then◌else◌, arith}
 use Rattle.std.proofs.lemmas.Bool.{false≢true, and_parts}
 use Rattle.std.proofs.lemmas.Bool.Decides.{nat_tests}
-use Rattle.counter_cycles.specs.Acts.{Act, Held, held_after, IsWithinGroup}
-use Rattle.counter_cycles.specs.Acts.Act.{Still, Test, Turn, Show}
+use Rattle.totals.specs.CounterCycles.Acts.{Act, Held, held_after, IsWithinGroup}
+use Rattle.totals.specs.CounterCycles.Acts.Act.{Still, Test, Turn, Show}
 use Rattle.net.specs.declared.cycle.Ordinal.{Ordinal}
 use Rattle.net.specs.declared.cycle.Ordinal.TheVariants.{First, Second, Third}
 use Rattle.totals.specs.Amounts.{Amount, Kind, HasGroups, IsSmall, lower, posted, act_of, total_act, state_after}

@@ -3,8 +3,8 @@ use Rattle.std.proofs.Common.{◌≡◌, ◌∙◌, refl, sym, ap, ℕ, ◌+◌,
 use Rattle.std.specs.Int.{is_negative}
 use Rattle.std.proofs.lemmas.Bool.{false≢true}
 use Rattle.std.proofs.lemmas.Bool.Decides.{nat_tests}
-use Rattle.counter_cycles.specs.Acts.{Held, held_after}
-use Rattle.counter_cycles.specs.Acts.Act.{Still, Test, Turn}
+use Rattle.totals.specs.CounterCycles.Acts.{Held, held_after}
+use Rattle.totals.specs.CounterCycles.Acts.Act.{Still, Test, Turn}
 use Rattle.counters.specs.Numbers.{left_number}
 use Rattle.totals.specs.Amounts.{Amount, sign_positions}
 use Rattle.totals.specs.Laws.{ready}

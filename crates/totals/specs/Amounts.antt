@@ -2,8 +2,8 @@
 -- its level a total tests its balance, turns a negative balance into its figure, and shows and clears what it holds; the next
 -- higher total adds or subtracts the figure.
 use Rattle.std.specs.Prelude.{◌≡◌, ℕ, zero, suc, ◌+◌, ◌^◌, ◌≤◌, ◌<◌, ◌==◌, Bool, true, ◌&&◌, if◌then◌else◌}
-use Rattle.counter_cycles.specs.Acts.{Act, Held, held_after}
-use Rattle.counter_cycles.specs.Acts.Act.{Still, Test, Turn, Show, Plus, Minus}
+use Rattle.totals.specs.CounterCycles.Acts.{Act, Held, held_after}
+use Rattle.totals.specs.CounterCycles.Acts.Act.{Still, Test, Turn, Show, Plus, Minus}
 use Rattle.net.specs.declared.cycle.Ordinal.{Ordinal}
 use Rattle.net.specs.declared.cycle.Ordinal.TheVariants.{First, Second, Third}
 

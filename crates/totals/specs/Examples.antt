@@ -1,6 +1,6 @@
 -- Examples in numbers: a signed amount of two digits with totals at levels 2 and 4, each in three wheels.
 use Rattle.std.specs.Prelude.{◌≡◌, ℕ, ◌==◌, Bool, true, false, ◌||◌}
-use Rattle.counter_cycles.specs.Acts.{Held}
+use Rattle.totals.specs.CounterCycles.Acts.{Held}
 use Rattle.net.specs.declared.cycle.Ordinal.TheVariants.{Third}
 use Rattle.totals.specs.Amounts.{Amount, HasGroups, state_after}
 use Rattle.totals.specs.Amounts.Kind.{Entry, Prog}

@@ -1,8 +1,8 @@
 -- Laws of the totals of an amount.
 use Rattle.std.specs.Prelude.{◌≡◌, ℕ, ◌+◌, ◌^◌, ◌≤◌, ◌<◌, ◌==◌, ℤ, pos, Bool, true, false, unsigned_abs}
 use Rattle.std.specs.Int.{is_negative}
-use Rattle.counter_cycles.specs.Acts.{Held, IsWithinGroup}
-use Rattle.counter_cycles.specs.Acts.Act.{Show}
+use Rattle.totals.specs.CounterCycles.Acts.{Held, IsWithinGroup}
+use Rattle.totals.specs.CounterCycles.Acts.Act.{Show}
 use Rattle.net.specs.declared.cycle.Ordinal.{Ordinal}
 use Rattle.net.specs.declared.cycle.Ordinal.TheVariants.{First, Second, Third}
 use Rattle.totals.specs.Amounts.{Amount, Kind, HasGroups, IsOnCard, IsSmall, act_of, state_after}

@@ -4,3 +4,4 @@ pub mod Sums
 pub mod Standing
 pub mod Laws
 pub mod Examples
+pub mod CounterCycles

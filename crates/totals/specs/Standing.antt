@@ -1,7 +1,7 @@
 -- What the number in a counter group stands for. A ring of nines takes a carry round, so that its numbers count modulo all nines;
 -- other groups count modulo the power of ten of their positions.
 use Rattle.std.specs.Prelude.{◌≡◌, ℕ, ◌+◌, ◌-◌, ◌*◌, ◌^◌, ◌≤◌, ◌<◌, ℤ, pos, ◌+ℤ◌, Bool, true, if◌then◌else◌}
-use Rattle.counter_cycles.specs.Acts.{Held}
+use Rattle.totals.specs.CounterCycles.Acts.{Held}
 use Rattle.totals.specs.Amounts.{Amount}
 use Rattle.totals.specs.Sums.{open_sum}
 

@@ -9,6 +9,7 @@ ghost use Rattle.traces.specs.Told.{before_text, carry_text, digits_text, entere
 
 use counters::{Controls, Group};
 use net::Cycle;
+use numerals::{write_number, write_numbered};
 use std::io;
 use std::io::Write;
 use tokens::is;
@@ -19,8 +20,7 @@ fn write_digits(text: &mut Vec<u8>, digits: &[u8]) -> io::Result<()>
     ensures { OnOk result (text.new.items ≡ text.old.items ++ digits_text (reverse digits.now)) }
 {
     for place in (0..digits.len()).rev() {
-        let digit = digits[place];
-        write!(text, "{digit}")?;
+        write_number(text, digits[place])?;
     }
     Ok(())
 }
@@ -43,9 +43,8 @@ fn write_taken(text: &mut Vec<u8>, group: &Group) -> io::Result<()>
 fn write_name(text: &mut Vec<u8>, name: hubs::Group) -> io::Result<()>
     ensures { OnOk result (text.new.items ≡ text.old.items ++ group_name name) }
 {
-    let width = name.width;
-    let number = name.number;
-    write!(text, "{width}.{number}")
+    write_number(text, name.width)?;
+    write_numbered(text, ".", name.number)
 }
 
 // Whether a group is asked something.

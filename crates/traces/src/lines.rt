@@ -8,6 +8,7 @@ use crate::places::write_pilots;
 use crate::storage::write_storages;
 use machine::SteppedMachine;
 use net::Cycle;
+use numerals::write_numbered;
 use std::io;
 use std::io::Write;
 
@@ -20,16 +21,12 @@ fn write_name(text: &mut Vec<u8>, cycle: Cycle, card: u32) -> io::Result<()>
 {
     match cycle {
         Cycle::RunIn => text.write_all(b"RunIn"),
-        Cycle::Card => write!(text, "Card {card}"),
+        Cycle::Card => write_numbered(text, "Card ", card),
         Cycle::Prog(level, ordinal) => {
-            let level = level.number();
-            let ordinal = ordinal.number();
-            write!(text, "Prog {level} {ordinal}")
+            write_numbered(text, "Prog ", level.number())?;
+            write_numbered(text, " ", ordinal.number())
         }
-        Cycle::Head(heading) => {
-            let heading = heading.number();
-            write!(text, "Head {heading}")
-        }
+        Cycle::Head(heading) => write_numbered(text, "Head ", heading.number()),
     }
 }
 

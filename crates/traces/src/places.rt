@@ -4,6 +4,7 @@ ghost use Rattle.std.specs.Prelude.{◌≡◌, ◌++◌, OnOk, option_to_list};
 ghost use Rattle.std.specs.List.{flat_map};
 ghost use Rattle.traces.specs.Told.{bracketed, line_told, pilot_told, pilots_told};
 
+use numerals::write_numbered;
 use page_text::without_trailing_blanks;
 use placed_lines::PlacedLine;
 use selectors::Pilots;
@@ -24,7 +25,8 @@ fn write_pilot(text: &mut Vec<u8>, pilots: &Pilots, pilot: u8) -> io::Result<()>
     ensures { OnOk result (text.new.items ≡ text.old.items ++ pilot_told pilots.now pilot) }
 {
     if pilots.is_transferred(pilot) {
-        write!(text, "   pilot {pilot} transferred")?;
+        write_numbered(text, "   pilot ", pilot)?;
+        text.write_all(b" transferred")?;
     }
     Ok(())
 }
@@ -43,9 +45,9 @@ pub(crate) fn write_pilots(text: &mut Vec<u8>, pilots: &Pilots) -> io::Result<()
 fn write_line(text: &mut Vec<u8>, placed: &PlacedLine) -> io::Result<()>
     ensures { OnOk result (text.new.items ≡ text.old.items ++ line_told placed.now) }
 {
-    let page = placed.page;
-    let line = placed.line;
-    write!(text, "   page {page} line {line} ")?;
+    write_numbered(text, "   page ", placed.page)?;
+    write_numbered(text, " line ", placed.line)?;
+    text.write_all(b" ")?;
     write_bracketed(text, &placed.text)
 }
 

@@ -11,6 +11,7 @@ ghost use Rattle.traces.specs.Told.{bracketed, column_character, storage_told, s
 use crate::places::write_bracketed;
 use card_code::{Column, ROWS};
 use net::{Cycle, Unit};
+use numerals::write_numbered;
 use std::io;
 use std::io::Write;
 use storage_units::Storage;
@@ -61,7 +62,8 @@ fn behind_end(storage: &Storage, cycle: Cycle) -> Storage
 fn write_held(text: &mut Vec<u8>, place: u8, held: &[u8]) -> io::Result<()>
     ensures { OnOk result (text.new.items ≡ text.old.items ++ (codes "   storage " ++ decimal place ++ codes " " ++ bracketed held.now)) }
 {
-    write!(text, "   storage {place} ")?;
+    write_numbered(text, "   storage ", place)?;
+    text.write_all(b" ")?;
     write_bracketed(text, held)
 }
 

@@ -21,9 +21,11 @@ abbrev pub IsAwaitedBy : Wiring → ℕ → ℕ → Type 0
 IsAwaitedBy wiring other word =
     (place : ℕ) → (is_bit word place ≡ true) ↔ (IsUnit unit_count (place + 1) × WaitsFor wiring (place + 1) other)
 
--- For each unit, from unit 1 on, the bits of a word are the units that it waits for. No other bit is set.
+-- The bits of a word are the units that a unit waits for. No other bit is set.
+abbrev pub AwaitsUnits : Wiring → ℕ → ℕ → Type 0
+AwaitsUnits wiring unit word =
+    (place : ℕ) → (is_bit word place ≡ true) ↔ (IsUnit unit_count (place + 1) × WaitsFor wiring unit (place + 1))
+
+-- so are those of a word for each unit, from unit 1 on
 abbrev pub AreWaits : Wiring → List ℕ → Type 0
-AreWaits wiring waits =
-    (unit other : ℕ) → IsUnit unit_count (unit + 1)
-    → (is_bit (slice_index_or waits unit 0) other ≡ true)
-    ↔ (IsUnit unit_count (other + 1) × WaitsFor wiring (unit + 1) (other + 1))
+AreWaits wiring waits = (unit : ℕ) → IsUnit unit_count (unit + 1) → AwaitsUnits wiring (unit + 1) (slice_index_or waits unit 0)

@@ -8,5 +8,4 @@ mod sets;
 mod waiting;
 
 pub use bits::{has_bit, with_bit};
-pub use owners::{owner_of, reader_of};
-pub use waiting::{UNITS, waits};
+pub use waiting::{UNITS, Waits, all_waits};

@@ -5,8 +5,8 @@ ghost use Rattle.net.specs.Panel.{owner_of, reader_of, unit_of};
 
 use hubs::{Group, Hub};
 
-/// The unit that owns an exit: it emits there, or the contact that leads to it is its own. 0 for an entry.
-pub fn owner_of(hub: Hub) -> u16
+// The unit that owns an exit: it emits there, or the contact that leads to it is its own. 0 for an entry.
+pub(crate) fn owner_of(hub: Hub) -> u16
     ensures { result ≡ owner_of hub }
 {
     match hub {
@@ -25,8 +25,8 @@ pub fn owner_of(hub: Hub) -> u16
     }
 }
 
-/// The unit that senses an entry. 0 for an exit, and for the common hubs of contacts, which no unit senses.
-pub fn reader_of(hub: Hub) -> u16
+// The unit that senses an entry. 0 for an exit, and for the common hubs of contacts, which no unit senses.
+pub(crate) fn reader_of(hub: Hub) -> u16
     ensures { result ≡ reader_of hub }
 {
     match hub {

@@ -4,17 +4,38 @@ ghost use Rattle.std.specs.Prelude.{◌≡◌, ◌↔◌, ℕ, ◌+◌, ◌≤�
 ghost use Rattle.net.specs.HubSets.{is_bit};
 ghost use Rattle.net.specs.Nets.{IsNetOf};
 ghost use Rattle.setups.specs.Wiring.{Wiring};
-ghost use Rattle.waits.specs.Waits.{AreWaits, IsAwaitedBy};
+ghost use Rattle.served.specs.Orders.{unit_count};
+ghost use Rattle.served.specs.Units.{IsUnit};
+ghost use Rattle.waits.specs.Waits.{AreWaits, AwaitsUnits, IsAwaitedBy};
 
 use crate::bits::{has_bit, with_bit};
 use crate::sets::{all_contacts, exits_of, readers};
 use net::{Net, Picture};
 
-/// How many units the machine has, as the length of what [`waits`] answers. They are numbered from 1.
+/// How many units the machine has, as the length of what [`all_waits`] answers. They are numbered from 1.
 pub const UNITS: usize = served::UNITS as usize;
 
-/// For each unit, from unit 1 on, the units that it waits for: bit v - 1 stands for unit v.
-pub fn waits(net: &Net) -> [u64; UNITS]
+/// Which units a unit waits for.
+pub trait Waits {
+    // The wiring whose wires these are.
+    ghost wires: { Wiring → Self → Type 0 };
+
+    /// The units that a unit, 1 to 45, waits for: bit v - 1 stands for unit v.
+    fn waits(&self, unit: u8) -> u64
+        requires { IsUnit unit_count unit }
+        ensures { (wiring : Wiring) → wires wiring self.now → AwaitsUnits wiring unit result };
+}
+
+impl Waits for Net {
+    ghost wires = { IsNetOf };
+
+    fn waits(&self, unit: u8) -> u64 {
+        all_waits(self)[unit as usize - 1]
+    }
+}
+
+/// For each unit, from unit 1 on, the units that it waits for, as [`Waits::waits`] has them. All are found as quickly as one.
+pub fn all_waits(net: &Net) -> [u64; UNITS]
     ensures { (wiring : Wiring) → IsNetOf wiring net.now → AreWaits wiring result }
 {
     let mut waits = [0; UNITS];

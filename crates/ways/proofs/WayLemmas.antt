@@ -2,6 +2,7 @@
 use Rattle.std.proofs.Common.{◌≡◌, ◌∙◌, sym, ap, subst, refl, arith, ℕ, zero, suc, ◌+◌, ◌≤◌, Bool, true, List, [], ◌∷◌, ◌++◌, Option, Some, None, inl, inr}
 use Rattle.std.specs.Prelude.{is_some, IsSome, IfSome, IfOk, ◌↔◌, Result, Ok, Err}
 use Rattle.std.proofs.lemmas.Bool.{false≢true}
+use Rattle.std.proofs.lemmas.List.Elements.{All-contains, All-nil, All-push, All-weaker}
 use Rattle.std.proofs.lemmas.Option.{same_Some}
 use Rattle.hubs.proofs.HubLemmas.{number_of-injective, in_range}
 use Rattle.hubs.specs.Hubs.{number_of}
@@ -10,7 +11,7 @@ use Rattle.setups.specs.Wiring.{Wiring}
 use Rattle.net.specs.HubSets.{HubSet, has_hub, has_number}
 use Rattle.net.specs.Impulsed.{IsImpulsed, LeadsOn}
 use Rattle.net.specs.Impulsed.IsImpulsed.{emitting as impulsed-emitting, led_on as impulsed-led_on}
-use Rattle.ways.specs.Tables.{at, IsStepTable, LeadsAt, StartsAt}
+use Rattle.ways.specs.Tables.{at, AreUpTo, IsStepTable, IsUpTo, LeadsAt, StartsAt}
 use Rattle.ways.specs.Ways.{IsWay}
 use Rattle.ways.specs.Ways.IsWay.{emitting, led_on}
 use Rattle.ways.proofs.LeadsLemmas.{leads_between}
@@ -19,7 +20,7 @@ use Rattle.ways.proofs.LeadsLemmas.{leads_between}
 pub way_impulsed : (wiring : Wiring) (exits closed : Hub → Bool) {hub : Hub} {way : List Hub} → IsWay wiring exits closed hub way
     → IsImpulsed wiring exits closed hub
 way_impulsed wiring exits closed (emitting hub there emits) = impulsed-emitting hub there emits
-way_impulsed wiring exits closed (led_on from to way before leads) =
+way_impulsed wiring exits closed (led_on from to way before leads new) =
     impulsed-led_on from to (way_impulsed wiring exits closed before) leads
 
 -- a hub of a set has a number
@@ -115,12 +116,37 @@ module _ (wiring : Wiring) (exits : Hub → Bool) (contacts : HubSet) (steps : L
       let same : start.hub ≡ hub = number_of-injective start.hub hub to start.numbered numbered in
       emitting hub (in_range hub to numbered) (ap exits (sym same) ∙ start.emits)
 
--- a way goes on
-pub way_on : (wiring : Wiring) (exits closed : Hub → Bool) (hub : Hub) (from to : ℕ) (way : List Hub) → number_of hub ≡ Some to
-    → (leads : LeadsAt wiring closed from to) → IsWay wiring exits closed leads.exit way
-    → IsWay wiring exits closed hub (way ++ hub ∷ [])
-way_on wiring exits closed hub from to way numbered leads before =
+-- a hub stands in the table with its own number
+own-number : (steps : List ℕ) (hub : Hub) (to : ℕ) → number_of hub ≡ Some to → IsUpTo steps (at steps to) hub
+own-number steps hub to numbered n is =
+    let same : n ≡ to = same_Some _ _ (sym is ∙ numbered) in
+    let stands : at steps n ≡ at steps to = ap (at steps) same in
+    omega (arith, stands)
+
+-- a hub alone
+pub up-to-own : (steps : List ℕ) (hub : Hub) (to : ℕ) → number_of hub ≡ Some to → AreUpTo steps (at steps to) (hub ∷ [])
+up-to-own steps hub to numbered =
+    All-push (IsUpTo steps (at steps to)) [] hub (All-nil (IsUpTo steps (at steps to))) (own-number steps hub to numbered)
+
+-- a way whose hubs stand lower in the table than a hub goes on to it
+pub way_on : (wiring : Wiring) (exits closed : Hub → Bool) (steps : List ℕ) (hub : Hub) (from to : ℕ) (way : List Hub)
+    → number_of hub ≡ Some to → (leads : LeadsAt wiring closed from to) → at steps from + 1 ≡ at steps to
+    → IsWay wiring exits closed leads.exit way → AreUpTo steps (at steps from) way → IsWay wiring exits closed hub (way ++ hub ∷ [])
+way_on wiring exits closed steps hub from to way numbered leads less before low =
     led_on leads.exit hub way before (leads_between wiring closed leads.exit hub from to leads.from_numbered numbered leads)
+    (λ again.
+    let there = All-contains (IsUpTo steps (at steps from)) way hub low again to numbered in
+    omega (arith, there, less))
+
+-- the hubs of a way and the hub behind it
+pub up-to-behind : (steps : List ℕ) (hub : Hub) (from to : ℕ) (way : List Hub) → number_of hub ≡ Some to
+    → at steps from + 1 ≡ at steps to → AreUpTo steps (at steps from) way → AreUpTo steps (at steps to) (way ++ hub ∷ [])
+up-to-behind steps hub from to way numbered less low =
+    All-push (IsUpTo steps (at steps to)) way hub
+    (All-weaker (IsUpTo steps (at steps from)) (IsUpTo steps (at steps to)) higher way low) (own-number steps hub to numbered)
+  where
+    higher : (each : Hub) → IsUpTo steps (at steps from) each → IsUpTo steps (at steps to) each
+    higher each here n is = let most = here n is in omega (arith, most, less)
 
 -- a way is told, where no memory is wanting, exactly where the hub is impulsed
 pub found_as_impulsed : {Kept Failed : Type 0} (items : Kept → List Hub) (wiring : Wiring) (exits : Hub → Bool) (contacts : HubSet)

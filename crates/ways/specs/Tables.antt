@@ -1,5 +1,5 @@
 -- Tables of numbers of hubs: at the number of a hub stands how many hubs a shortest way to it has, 0 where there is none.
-use Rattle.std.specs.Prelude.{◌≡◌, ℕ, ◌+◌, ◌≤◌, ◌<◌, ◌⊎◌, Bool, true, false, List, Some, length, slice_index_or, if◌then◌else◌, nat_eq, sum_by}
+use Rattle.std.specs.Prelude.{All, ◌≡◌, ℕ, ◌+◌, ◌≤◌, ◌<◌, ◌⊎◌, Bool, true, false, List, Some, length, slice_index_or, if◌then◌else◌, nat_eq, sum_by}
 use Rattle.hubs.specs.declared.hub.Hub.{Hub}
 use Rattle.hubs.specs.Hubs.{number_of}
 use Rattle.setups.specs.Wiring.{Wiring}
@@ -30,6 +30,14 @@ pub record IsStepTable (Leads : ℕ → ℕ → Type 0) (Starts : ℕ → Type 0
   pub root : (h : ℕ) → at steps h ≡ 1 → Starts h
   pub back : (h n : ℕ) → at steps h ≡ n + 2 → (from : ℕ) × (at steps from ≡ n + 1) × Leads from h
   pub on : (from to : ℕ) → 1 ≤ at steps from → Leads from to → (1 ≤ at steps to) × (at steps to ≤ at steps from + 1)
+
+-- at the number of a hub stands no more than this
+abbrev pub IsUpTo : (steps : List ℕ) (most : ℕ) → Hub → Type 0
+IsUpTo steps most hub = (number : ℕ) → number_of hub ≡ Some number → at steps number ≤ most
+
+-- and so for each of some hubs
+abbrev pub AreUpTo : (steps : List ℕ) (most : ℕ) → List Hub → Type 0
+AreUpTo steps most hubs = All (IsUpTo steps most) hubs
 
 -- What the ways of a point are known by. Read it through AreWaysOf alone.
 pub record WayTable : Type 0 where

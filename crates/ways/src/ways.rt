@@ -4,7 +4,7 @@ ghost use Rattle.std.specs.Prelude.{◌≡◌, ◌↔◌, ◌<◌, ◌≤◌, �
 ghost use Rattle.hubs.specs.Hubs.{number_of};
 ghost use Rattle.hubs.specs.declared.hub.Hub.{Hub};
 ghost use Rattle.net.specs.HubSets.{has_hub};
-ghost use Rattle.ways.specs.Tables.{at, IsStepTable, LeadsAt, StartsAt};
+ghost use Rattle.ways.specs.Tables.{at, AreUpTo, IsStepTable, LeadsAt, StartsAt};
 ghost use Rattle.ways.specs.Ways.{IsWay};
 
 use crate::leads::leads;
@@ -60,7 +60,7 @@ impl Ways {
         }
     }
 
-    /// A way to the hub, hub by hub from an exit that emits; none where the hub isn't impulsed. The setup and the contacts
+    /// A way to the hub, hub by hub from an exit that emits, with no hub twice; none if the hub isn't impulsed. The setup and the contacts
     /// are those that the ways were found by. Fails only where no memory is left.
     pub fn way_to(
         &self,
@@ -96,6 +96,7 @@ fn way_at(
     ensures some { (exits : Hub → Bool) → IsStepTable (LeadsAt setup.now (has_hub contacts.now)) (StartsAt exits) steps.now
         → 1 ≤ at steps.now to → IfOk result IsSome }
     ensures none { at steps.now to ≡ 0 → IfOk result (λ found. found ≡ None) }
+    ensures up_to { IfOk result (λ found. IfSome found (λ way. AreUpTo steps.now (at steps.now to) way.items)) }
 {
     let Some(hub) = Hub::of_number(to as u32) else {
         return Ok(None);

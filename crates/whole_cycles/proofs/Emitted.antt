@@ -17,7 +17,7 @@ use Rattle.machine.proofs.Below.selectors.LawLemmas.{pilots_stand}
 use Rattle.machine.specs.Below.selectors.Indicate.{indicate_closes}
 use Rattle.machine.specs.Below.selectors.Pilots.{PilotStates, pilots_closes}
 use Rattle.machine.specs.Below.selectors.Splits.{splits_closes}
-use Rattle.machine.proofs.Below.stations.Own.{tells_differences}
+use Rattle.machine.proofs.Below.stations.Differences.{tells_differences}
 use Rattle.machine.specs.Below.stations.Comparing.{Compared, comparing_at_start, comparing_emits}
 use Rattle.machine.specs.Below.stations.Stations.{StationCards, stations_emits}
 use Rattle.machine.specs.Below.storage_units.Storage.{StorageState, storage_emits, storage_sensed}

@@ -6,20 +6,22 @@ ghost use Rattle.hubs.specs.HubText.{hub_text};
 ghost use Rattle.wire_chart.specs.WrittenText.{group_text, spaced, jack_text};
 
 use hubs::{Group, Hub, Jack, write_hub};
+use numerals::push_numbered;
 use std::alloc::AllocError;
 
 // A space and a number.
 pub(crate) fn write_spaced_number(text: &mut String, number: u8) -> Result<(), AllocError>
     ensures { OnOk result (string_bytes text.new ≡ string_bytes text.old ++ spaced (decimal number)) }
 {
-    write!(text, " {number}")
+    push_numbered(text, " ", number)
 }
 
 // A space and a counter group: its width, a point and its number.
 pub(crate) fn write_spaced_group(text: &mut String, group: Group) -> Result<(), AllocError>
     ensures { OnOk result (string_bytes text.new ≡ string_bytes text.old ++ spaced (group_text group)) }
 {
-    write!(text, " {}.{}", group.width, group.number)
+    push_numbered(text, " ", group.width)?;
+    push_numbered(text, ".", group.number)
 }
 
 // A space and a hub.

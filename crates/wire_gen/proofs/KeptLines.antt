@@ -1,6 +1,6 @@
 -- What is known of each line of a lawful chart and its plan.
 use Rattle.std.proofs.Common.{◌≡◌, ℕ, zero, suc, ◌+◌, ◌<◌, ◌≤◌, ◌⊎◌, inl, inr, Bool, true, false, not, ◌&&◌, ◌==◌, cond, nat_lt, nat_le, option_map, List, [], ◌∷◌, length, Option, Some, slice_get, refl, sym, ap, ◌∙◌, subst, arith}
-use Rattle.plans.specs.Plans.{Lists, IsFor}
+use Rattle.plans.specs.Plans.{Lists, ServesChart}
 use Rattle.chart_rules.specs.Below.field_rules.Fields.{field_named}
 use Rattle.chart_rules.specs.Below.print_rules.Items.{mark_shown}
 use Rattle.charts.specs.Field.{columns_of, decimals_of, is_amount, sign_column}
@@ -77,7 +77,7 @@ narrow-field lines line level wheel name field few listed is at =
     grind (arith, nat_tests, wide)
 
 module _ (chart : Chart) (plan : Lists) (lawful : IsLawful chart) (rise : NumbersRise chart.lines chart.end)
-    (is_for : IsFor chart.lines plan) (line : Line) (listed : Contains chart.lines line) where
+    (is_for : ServesChart chart.lines plan) (line : Line) (listed : Contains chart.lines line) where
   kept : (each : Rule) (statement : Statement) → line.statement ≡ statement
       → (earlier : List Line) × (breaks each chart.lines earlier statement ≡ false)
   kept each statement is =
@@ -271,12 +271,12 @@ module _ (chart : Chart) (plan : Lists) (lawful : IsLawful chart) (rise : Number
   good other is = tt
 
 -- what is known of each line of a lawful chart, with a plan for it
-pub good-lines : (chart : Chart) (plan : Lists) → IsLawful chart → NumbersRise chart.lines chart.end → IsFor chart.lines plan
+pub good-lines : (chart : Chart) (plan : Lists) → IsLawful chart → NumbersRise chart.lines chart.end → ServesChart chart.lines plan
     → (place : ℕ) (line : Line) → slice_get chart.lines place ≡ Some line → IsGood chart.lines plan line.number line.statement
 good-lines chart plan lawful rise is_for place line at =
     good chart plan lawful rise is_for line (listed-at chart.lines place line at) line.statement refl
 
 -- the same of a line by its being listed
-pub good-line : (chart : Chart) (plan : Lists) → IsLawful chart → NumbersRise chart.lines chart.end → IsFor chart.lines plan
+pub good-line : (chart : Chart) (plan : Lists) → IsLawful chart → NumbersRise chart.lines chart.end → ServesChart chart.lines plan
     → (line : Line) → Contains chart.lines line → IsGood chart.lines plan line.number line.statement
 good-line chart plan lawful rise is_for line listed = good chart plan lawful rise is_for line listed line.statement refl

@@ -8,7 +8,7 @@ use Rattle.chart_rules.specs.Below.field_rules.Fields.{field_named}
 use Rattle.setups.specs.Below.hubs.declared.hub.Group.{Group}
 use Rattle.plans.proofs.CounterGroups.{width-cases}
 use Rattle.plans.specs.Counters.{IsEnoughFor}
-use Rattle.plans.specs.Plans.{Lists, IsFor}
+use Rattle.plans.specs.Plans.{Lists, ServesChart}
 use Rattle.plans.specs.declared.counter.TotalCounter.{TotalCounter}
 use Rattle.plans.specs.declared.counter.TotalCounter.TheVariants as of
 use Rattle.total_wires.specs.HelperCounters.{IsCounterOnPanel, IsOnPanel, positions_of}
@@ -34,7 +34,7 @@ on-panel group has =
     }
 
 -- the groups of a counter that is enough for a total of the chart are on the panel
-counter-on_panel : (lines : List Line) (plan : Lists) (number need : ℕ) (counter : TotalCounter) → IsFor lines plan
+counter-on_panel : (lines : List Line) (plan : Lists) (number need : ℕ) (counter : TotalCounter) → ServesChart lines plan
     → counter_for lines plan number ≡ Some counter → IsEnoughFor need counter → IsCounterOnPanel counter
 counter-on_panel lines plan number need (of.Single own) is_for there enough =
     on-panel (panel_group own)
@@ -60,7 +60,7 @@ enough-positions need (of.Coupled lower upper) enough =
     omega (arith, most, lower_width, upper_width)
 
 -- the total on a line of a chart has a counter of its plan, with at least its digits
-pub counter-for : (lines : List Line) (plan : Lists) (end : ℕ) → NumbersRise lines end → IsFor lines plan
+pub counter-for : (lines : List Line) (plan : Lists) (end : ℕ) → NumbersRise lines end → ServesChart lines plan
     → (name : List ℕ) (level number : ℕ) (total : HasTotal lines name level number) → HasCounterFor lines plan number total.digits
 counter-for lines plan end rise is_for name level number total =
     let (counter, there) = counter-given lines plan name level number is_for total in

@@ -1,7 +1,7 @@
 //! The wires of one line of a chart.
 
 ghost use Rattle.std.specs.Prelude.{Contains, IfOk};
-ghost use Rattle.plans.specs.Plans.{IsFor};
+ghost use Rattle.plans.specs.Plans.{ServesChart};
 ghost use Rattle.wire_gen.specs.OfLine.{IsSetupOfLine};
 
 use crate::lines::wire_line;
@@ -20,7 +20,7 @@ pub fn line_setup(
     plan: &Plan,
     line: &Line,
 ) -> Result<Setup, AllocError>
-    requires plan { IsFor chart.now.lines plan.now }
+    requires plan { ServesChart chart.now.lines plan.now }
     requires listed { Contains chart.now.lines line.now }
     ensures { IfOk result (IsSetupOfLine chart.now.lines plan.now line.now) }
 {

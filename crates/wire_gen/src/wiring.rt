@@ -1,7 +1,7 @@
 //! Wiring a setup for a chart and its plan.
 
 ghost use Rattle.std.specs.Prelude.{IfOk};
-ghost use Rattle.plans.specs.Plans.{IsFor};
+ghost use Rattle.plans.specs.Plans.{ServesChart};
 ghost use Rattle.line_wires.specs.Below.wiring_table.WiredFor.{WiredFor};
 
 use crate::lines::wire_lines;
@@ -14,7 +14,7 @@ use std::alloc::{AllocError, Global};
 /// The setup that is wired for a chart by its plan: exactly the wires, jacks and tape that they ask for. Its only refusal is
 /// memory.
 pub fn wire(alloc: Global, chart: &Chart, plan: &Plan) -> Result<Setup, AllocError>
-    requires { IsFor chart.now.lines plan.now }
+    requires { ServesChart chart.now.lines plan.now }
     ensures { IfOk result (WiredFor chart.now.lines plan.now) }
 {
     // What is known of the lines of every chart is told with them.

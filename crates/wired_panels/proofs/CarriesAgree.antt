@@ -12,7 +12,7 @@ use Rattle.whole_cycles.specs.Below.hubs.declared.hub.Group.{Group}
 use Rattle.whole_cycles.specs.Below.hubs.declared.hub.Hub.{Hub}
 use Rattle.whole_cycles.specs.Below.hubs.declared.hub.Hub.TheVariants.{CI, CO}
 use Rattle.wiring_table.specs.Below.plans.Counters.{ServesAsPair, single_group}
-use Rattle.wiring_table.specs.Below.plans.Plans.{Lists, IsFor}
+use Rattle.wiring_table.specs.Below.plans.Plans.{Lists, ServesChart}
 use Rattle.wiring_table.specs.Below.plans.declared.counter.TotalCounter.TheVariants as of
 use Rattle.wiring_table.specs.Below.setups.Wiring.{CanJoin, HasWire, Wiring}
 use Rattle.wired_panels.proofs.Chains.{ToCarry, carry_kept, from_itself, from_lower, from_upper, to_carry}
@@ -53,7 +53,7 @@ data OfPair (lower upper : CounterGroup) : Group → Hub → Type 0 where
   goes_up : OfPair lower upper (panel_group upper) (CO (panel_group lower))
   goes_round : OfPair lower upper (panel_group lower) (CO (panel_group upper))
 
-module _ (lines : List Line) (plan : Lists) (planned : IsFor lines plan) where
+module _ (lines : List Line) (plan : Lists) (planned : ServesChart lines plan) where
   -- the groups of a pair have 8 positions, and differ
   pair_serves : (number : ℕ) (lower upper : CounterGroup) → counter_for lines plan number ≡ Some (of.Coupled lower upper)
       → (need : ℕ) × ServesAsPair need lower upper
@@ -264,7 +264,7 @@ module _ (lines : List Line) (plan : Lists) (planned : IsFor lines plan) where
           subst (λ h. keeps_carry exit h ≡ true) (sym at)
           (carry_alone number group (to_carry lines plan number (subst (LineWire lines plan number statement exit) at wire)))
 
-pub can-join : (lines : List Line) (plan : Lists) (wiring : Wiring) → IsFor lines plan
+pub can-join : (lines : List Line) (plan : Lists) (wiring : Wiring) → ServesChart lines plan
     → ((exit entry : Hub) → HasWire wiring exit entry → ChartWire lines plan exit entry)
     → (exit entry : Hub) → ChartWire lines plan exit entry → CanJoin wiring exit entry
 can-join lines plan wiring planned all exit entry wire = record {

@@ -1,6 +1,6 @@
 -- Cycles as the control hubs of counter groups tell them apart, and wires from the lines of totals.
 use Rattle.std.proofs.Common.{◌≡◌, ◌∙◌, refl, sym, ap, subst, ℕ, ◌<◌, Bool, true, false, List, Option, Some}
-use Rattle.wiring_table.specs.Below.plans.Plans.{Lists, IsFor}
+use Rattle.wiring_table.specs.Below.plans.Plans.{Lists, ServesChart}
 use Rattle.wiring_table.proofs.Below.field_rules.Places.{is_same_name-equal}
 use Rattle.wiring_table.specs.Below.charts.Chart.{Chart, NumbersRise}
 use Rattle.wiring_table.specs.Below.charts.Levels.{level_number as chart_level}
@@ -104,7 +104,7 @@ pub record IsUnder (lines : List Line) (name : List ℕ) (low level : ℕ) : Typ
 -- a total goes up to the total whose group it enters
 pub goes_under :
     (chart : Chart) (plan : Lists) (name its_name : List ℕ) (low level : ℕ) (group : Group) → NumbersRise chart.lines chart.end
-    → IsFor chart.lines plan → IsGroupOf chart.lines plan name level group → (up : GoesUp chart.lines plan its_name low group)
+    → ServesChart chart.lines plan → IsGroupOf chart.lines plan name level group → (up : GoesUp chart.lines plan its_name low group)
     → (same : IsSameTotal its_name name up.next.higher level) × (under : IsUnder chart.lines name low level)
     × (under.total.digits ≡ up.lower_total.digits)
 goes_under chart plan name its_name low level group rise planned own up =

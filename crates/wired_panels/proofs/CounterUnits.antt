@@ -3,7 +3,7 @@ use Rattle.std.proofs.Common.{◌≡◌, ◌∙◌, refl, sym, ap, subst, ℕ, s
 use Rattle.std.proofs.lemmas.Bool.Decides.{nat_tests}
 use Rattle.std.specs.Prelude.{slice_index_or}
 use Rattle.wiring_table.proofs.Below.plans.CounterGroups.{width-cases}
-use Rattle.wiring_table.specs.Below.plans.Plans.{Lists, IsFor}
+use Rattle.wiring_table.specs.Below.plans.Plans.{Lists, ServesChart}
 use Rattle.wiring_table.specs.Below.capacity.Capacities.{HasGroup, standard, groups_of}
 use Rattle.wiring_table.specs.Below.charts.declared.chart.Line.{Line}
 use Rattle.whole_cycles.specs.Below.counters.Counters.{Counter, counter_number}
@@ -119,6 +119,6 @@ counter_there groups group ordered there =
     (omega (arith, unit_of-last group, many)) in
     (counter, listed, one_unit counter.name group number there)
 
-pub planned_unit : (lines : List Line) (plan : Lists) (number : ℕ) (group : Group) → IsFor lines plan
+pub planned_unit : (lines : List Line) (plan : Lists) (number : ℕ) (group : Group) → ServesChart lines plan
     → ServesTotal lines plan number group → 3 ≤ unit_of group
 planned_unit lines plan number group planned serves = unit_there group (serves-there lines plan planned number group serves)

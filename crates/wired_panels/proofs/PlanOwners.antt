@@ -1,7 +1,7 @@
 -- A counter group serves one total, one group has the balance of a total, and each signed amount with a total has a pilot.
 use Rattle.std.proofs.Common.{◌≡◌, ◌∙◌, refl, sym, ap, ℕ, ◌≤◌, true, List, Some, None, is_some, position, arith}
 use Rattle.wiring_table.specs.Below.wanted.Pilots.{shows}
-use Rattle.wiring_table.specs.Below.plans.Plans.{Lists, IsFor}
+use Rattle.wiring_table.specs.Below.plans.Plans.{Lists, ServesChart}
 use Rattle.wiring_table.proofs.Below.field_rules.Places.{is_same_name-equal}
 use Rattle.wiring_table.specs.Below.chart_rules.Rules.{IsLawful}
 use Rattle.wiring_table.specs.Below.charts.Chart.{Chart, NumbersRise}
@@ -31,7 +31,7 @@ level_some level.Major = omega arith
 level_some level.Final = omega arith
 
 -- each amount with a sign rule and a total has a pilot
-pub has_pilot : (lines : List Line) (plan : Lists) (name : List ℕ) (its_level number : ℕ) (rule : SignRule) → IsFor lines plan
+pub has_pilot : (lines : List Line) (plan : Lists) (name : List ℕ) (its_level number : ℕ) (rule : SignRule) → ServesChart lines plan
     → HasTotal lines name its_level number → IsSigned lines name rule → (pilot : ℕ) × (pilot_for plan name ≡ Some pilot)
 has_pilot lines plan name its_level number rule planned total signed =
     let given = pilot-given lines plan planned total.line name signed.field total.listed
@@ -49,7 +49,7 @@ pub record IsSameTotal (one other : List ℕ) (one_level other_level : ℕ) : Ty
   pub level : one_level ≡ other_level
 
 pub one_owner : (chart : Chart) (plan : Lists) (one other : List ℕ) (level other_level : ℕ) (group : Group)
-    → NumbersRise chart.lines chart.end → IsFor chart.lines plan → IsGroupOf chart.lines plan one level group
+    → NumbersRise chart.lines chart.end → ServesChart chart.lines plan → IsGroupOf chart.lines plan one level group
     → IsGroupOf chart.lines plan other other_level group → IsSameTotal one other level other_level
 one_owner chart plan one other its_level other_level group rise planned a b =
     let number = serves-own chart.lines plan planned a.number b.number group a.served b.served in

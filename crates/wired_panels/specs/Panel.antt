@@ -1,6 +1,6 @@
 -- A panel that is wired for a chart, and the ways of impulses in it.
 use Rattle.std.specs.Prelude.{◌≡◌, Bool, true, List, Some}
-use Rattle.wiring_table.specs.Below.plans.Plans.{Lists, IsFor}
+use Rattle.wiring_table.specs.Below.plans.Plans.{Lists, ServesChart}
 use Rattle.wiring_table.specs.Below.chart_rules.Rules.{IsLawful}
 use Rattle.wiring_table.specs.Below.charts.Chart.{Chart}
 use Rattle.wiring_table.specs.Below.charts.declared.chart.Line.{Line}
@@ -13,7 +13,7 @@ use Rattle.wiring_table.specs.WiredFor.{WiredFor}
 -- A setup is wired for a chart that breaks no rule, by a plan of it.
 pub record IsPanel (chart : Chart) (plan : Lists) (wiring : Wiring) : Type 0 where
   pub lawful : IsLawful chart
-  pub planned : IsFor chart.lines plan
+  pub planned : ServesChart chart.lines plan
   pub wired : WiredFor chart.lines plan wiring
 
 -- The ways of an impulse to an entry: straight from an emitting exit, or from one through one closed contact.

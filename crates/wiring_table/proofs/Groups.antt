@@ -14,7 +14,7 @@ use Rattle.report.proofs.Below.field_rules.Places.{is_same_name-equal}
 use Rattle.report.specs.Below.field_rules.Fields.{field_named}
 use Rattle.setups.specs.Below.hubs.declared.hub.Group.{Group}
 use Rattle.plans.specs.Counters.{HasCounter, IsEnoughFor, IsGroupOf, SharesGroup, single_group}
-use Rattle.plans.specs.Plans.{Lists, IsFor}
+use Rattle.plans.specs.Plans.{Lists, ServesChart}
 use Rattle.plans.specs.declared.counter.TotalCounter.{TotalCounter}
 use Rattle.plans.specs.declared.counter.TotalCounter.TheVariants as of
 use Rattle.plans.specs.Below.wanted.ChartTotals.{need_of, line_total, totals_of}
@@ -110,7 +110,7 @@ shared one (of.Coupled lower upper) group has (inl its_has) = inl (in-counter on
 shared one (of.Coupled lower upper) group has (inr its_has) = inr (in-counter one upper group has its_has)
 
 -- each total has a counter
-pub counter-given : (lines : List Line) (plan : Lists) (name : List ℕ) (level number : ℕ) → IsFor lines plan
+pub counter-given : (lines : List Line) (plan : Lists) (name : List ℕ) (level number : ℕ) → ServesChart lines plan
     → HasTotal lines name level number → (counter : TotalCounter) × (counter_for lines plan number ≡ Some counter)
 counter-given lines plan name level number planned total =
     let made : Total = record { level = total.its_level; line = total.line.number; need = need_of (field_named lines total.its_name) total.digits } in
@@ -126,7 +126,7 @@ counter-given lines plan name level number planned total =
     slice_get-get_or plan.counters place no_counter (omega (arith, within, planned.counters.many)) in
     (counter, ap (option_and_then (slice_get plan.counters)) at ∙ there)
 
-module _ (lines : List Line) (plan : Lists) (planned : IsFor lines plan) where
+module _ (lines : List Line) (plan : Lists) (planned : ServesChart lines plan) where
   -- one counter group serves one line
   pub serves-own : (one other : ℕ) (group : Group) → ServesTotal lines plan one group → ServesTotal lines plan other group → one ≡ other
   serves-own one other group serves serves_too =

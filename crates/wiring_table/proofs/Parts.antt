@@ -20,7 +20,7 @@ use Rattle.report.proofs.Below.field_rules.Places.{is_same_name-equal, is_same_n
 use Rattle.report.specs.Below.field_rules.Fields.{field_named, fields_of}
 use Rattle.plans.proofs.Numbers.{HasNumber, both-stand, number-given, number-there}
 use Rattle.plans.specs.PartNumbers.{AreNumbers, number_for, numbers_at}
-use Rattle.plans.specs.Plans.{Lists, IsFor}
+use Rattle.plans.specs.Plans.{Lists, ServesChart}
 use Rattle.plans.specs.Below.wanted.Pilots.{prints_name, pilots_of, shows, wants_pilot}
 use Rattle.plans.specs.Below.wanted.Positions.{compared_field, field_used, indicated_field, is_same_position, positions_for}
 use Rattle.plans.specs.Below.wanted.Units.{has_inside_sign, is_inside, is_of_kind, is_split_amount, is_total_text}
@@ -58,13 +58,13 @@ line-given lines test list numbers last line are is listed passes =
     (grind (arith, nat_tests))
 
 -- the indicate positions of a level have their numbers
-at-level : (lines : List Line) (plan : Lists) → IsFor lines plan → (level : ControlLevel)
+at-level : (lines : List Line) (plan : Lists) → ServesChart lines plan → (level : ControlLevel)
     → AreNumbers 30 (length (indicate_at plan.parts level)) (numbers_at plan.numbers level)
 at-level lines plan planned control.Minor = planned.numbers.minor
 at-level lines plan planned control.Intermediate = planned.numbers.intermediate
 at-level lines plan planned control.Major = planned.numbers.major
 
-module _ (lines : List Line) (plan : Lists) (planned : IsFor lines plan) where
+module _ (lines : List Line) (plan : Lists) (planned : ServesChart lines plan) where
   -- no part serves two
   pub unit-own : (one other unit : ℕ) → unit_for plan one ≡ Some unit → unit_for plan other ≡ Some unit → one ≡ other
   unit-own one other unit is is_other =

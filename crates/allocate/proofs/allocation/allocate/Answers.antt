@@ -1,4 +1,4 @@
-use Rattle.std.proofs.Common.{◌∙◌, ap}
+use Rattle.std.proofs.Common.{◌∙◌, ap, sym}
 use Rattle.allocate.proofs.Fitting.{HasGroupsFor-fits, IsWithinMachine-fits, Serves-fits}
 use Rattle.plans.specs.PartNumbers.{in_order}
 use Rattle.allocate.proofs.allocation.allocate.Goals as goal
@@ -10,9 +10,12 @@ pub in_order-requires : goal.in_order-requires
 in_order-requires c =
     rw c.into_parts.ensures (IsWithinMachine-fits c.in_ok-wanted.wanted c.args.profile.now c.in_default.ensures.none c.pilots-pilots.ensures.standard)
 
-pub returns-clause-serves : goal.returns-clause-serves
-returns-clause-serves c =
-    rw (← c.in_ok-wanted.ensures)
-    (Serves-fits c.in_ok-wanted.wanted c.args.profile.now c.in_ok-in_order.field-0 c.in_default.ensures.none c.pilots-pilots.ensures.standard
-    (rw c.in_ok-in_order.ensures.counters (rw c.totals.ensures.value at c.in_ok-counters.ensures.own))
-    (c.in_ok-in_order.ensures.parts ∙ c.into_parts.ensures) (c.in_ok-in_order.ensures.numbers ∙ ap in_order c.into_parts.ensures))
+pub returns-clause-is_for : goal.returns-clause-is_for
+returns-clause-is_for c = record {
+  serves =
+      rw (← c.in_ok-wanted.ensures)
+      (Serves-fits c.in_ok-wanted.wanted c.args.profile.now c.in_ok-in_order.field-0 c.in_default.ensures.none c.pilots-pilots.ensures.standard
+      (rw c.in_ok-in_order.ensures.counters (rw c.totals.ensures.value at c.in_ok-counters.ensures.own))
+      (c.in_ok-in_order.ensures.parts ∙ c.into_parts.ensures) (c.in_ok-in_order.ensures.numbers ∙ ap in_order c.into_parts.ensures));
+  numbers = c.in_ok-in_order.ensures.numbers ∙ ap in_order (sym c.in_ok-in_order.ensures.parts);
+}

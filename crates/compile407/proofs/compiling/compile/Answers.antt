@@ -10,7 +10,7 @@ use Rattle.compile407.specs.ChartFaults.{HasChartFault}
 use Rattle.compile407.specs.Compilation.{Compilation}
 use Rattle.faults.specs.declared.chart.ChartFault.{ChartFault}
 use Rattle.faults.specs.declared.chart.ChartFault.TheVariants as chart
-use Rattle.streamed_runs.specs.Below.promises.Promises.{BeginsReport, PrintsReport}
+use Rattle.streamed_runs.specs.PrintPromises.Promises.{BeginsReport, PrintsReport}
 use Rattle.compile407.proofs.CapacityTold.{capacity_told}
 use Rattle.compile407.proofs.Headline.{sound_read, wired_setups_begin_reports, wired_setups_print_reports}
 use Rattle.compile407.proofs.compiling.compile.Goals as goal
@@ -23,7 +23,7 @@ of-requires c =
       fits = subst (FitsMachine (wanted_of c.in_ok-chart.chart.lines)) c.standard.ensures c.in_ok-plan.ensures.fits;
       planned = subst (λ machine. IsPlanOf (wanted_of c.in_ok-chart.chart.lines) machine c.in_ok-plan.plan) c.standard.ensures
           c.in_ok-plan.ensures.plan;
-      serves = c.in_ok-plan.ensures.serves;
+      serves = c.in_ok-plan.ensures.is_for.serves;
       wired = c.in_ok-setup.ensures;
     }
 
@@ -33,7 +33,7 @@ returns-clause-prints c =
     let sound = sound_read c.args.bytes.now c.in_ok-raw.raw c.in_ok-chart.chart c.in_ok-raw.ensures.read c.in_ok-chart.ensures.same
     c.lines-lines.ensures.lawful c.lines-lines.ensures.rising in
     subst P (sym c.of.ensures)
-    (wired_setups_print_reports c.in_ok-chart.chart c.in_ok-plan.plan c.in_ok-setup.setup sound c.in_ok-plan.ensures.serves
+    (wired_setups_print_reports c.in_ok-chart.chart c.in_ok-plan.plan c.in_ok-setup.setup sound c.in_ok-plan.ensures.is_for.serves
     c.in_ok-setup.ensures)
 
 pub returns-clause-begins : goal.returns-clause-begins
@@ -42,7 +42,7 @@ returns-clause-begins c =
     let sound = sound_read c.args.bytes.now c.in_ok-raw.raw c.in_ok-chart.chart c.in_ok-raw.ensures.read c.in_ok-chart.ensures.same
     c.lines-lines.ensures.lawful c.lines-lines.ensures.rising in
     subst B (sym c.of.ensures)
-    (wired_setups_begin_reports c.in_ok-chart.chart c.in_ok-plan.plan c.in_ok-setup.setup sound c.in_ok-plan.ensures.serves
+    (wired_setups_begin_reports c.in_ok-chart.chart c.in_ok-plan.plan c.in_ok-setup.setup sound c.in_ok-plan.ensures.is_for.serves
     c.in_ok-setup.ensures)
 
 pub returns-in_err-plan-clause-refused : goal.returns-in_err-plan-clause-refused

@@ -1,6 +1,6 @@
 use Rattle.std.proofs.Common.{◌∙◌, ap, sym, subst}
 use Rattle.chart_text.specs.Below.charts.Chart.{Chart}
-use Rattle.streamed_runs.specs.Below.promises.Promises.{BeginsReport, PrintsReport}
+use Rattle.streamed_runs.specs.PrintPromises.Promises.{BeginsReport, PrintsReport}
 use Rattle.misfits.specs.Below.report.ChartForm.{form_of}
 use Rattle.setups.specs.Wiring.{Wiring}
 use Rattle.compile407.proofs.Headline.{wired_setups_begin_reports, wired_setups_print_reports}

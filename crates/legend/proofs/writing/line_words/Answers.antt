@@ -4,7 +4,7 @@ use Rattle.legend.proofs.writing.line_words.Goals as goal
 
 pub returns : goal.returns
 returns c =
-    c.in_ok-write.ensures.bytes
+    c.in_ok-write_place.ensures
     ∙ ap (λ (x : List ℕ). x ++ place_words c.args.number)
     (c.in_ok-write_plain.ensures ∙ ap (λ (x : List ℕ). x ++ map plain c.line_numbered.result.now) c.new-words.ensures.bytes
     ∙ ap (map plain) c.line_numbered.ensures)

@@ -1,7 +1,7 @@
 use Rattle.std.proofs.Common.{subst}
 use Rattle.plans.specs.Below.charts.Chart.{Chart}
 use Rattle.match_calls.proofs.Finding.{found_text}
-use Rattle.match_texts.specs.MatchText.{IsMatchText}
+use Rattle.match_calls.specs.MatchTexts.MatchText.{IsMatchText}
 use Rattle.std.specs.String.{string_bytes}
 use Rattle.match_calls.proofs.found.find.Goals as goal
 

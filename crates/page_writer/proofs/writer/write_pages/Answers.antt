@@ -12,8 +12,8 @@ add_all-requires g c =
     (subst (λ l. FollowInOrder c.args.form_lines 1 l c.args.lines.now) (sym c.new-pages.ensures.line)
     (from_first c.args.form_lines c.args.lines.now c.requires.order)))
 
-pub returns : goal.returns
-returns g c =
+pub returns-clause-bytes : goal.returns-clause-bytes
+returns-clause-bytes g c =
     let written = whole_pages (λ sink. g.S.Sink.held sink.now) (λ sink. g.S.Sink.has_failed sink.now) c.args.form_lines c.args.lines.now
     c.new-pages.result c.add_all.new.self c.end-ended.new.self c.add_all.result c.end-ended.result c.requires.order
     c.new-pages.ensures.none_wait c.new-pages.ensures.none_written c.new-pages.ensures.form c.new-pages.ensures.page c.new-pages.ensures.line

@@ -1,8 +1,10 @@
 use Rattle.panel_plans.specs.Renumbered.{TakesShown, with_numbers}
+use Rattle.panel_plans.specs.NamingWires.{ShowsPartsOf}
 use Rattle.panel_plans.specs.Wired.{IsWiredBy}
 use Rattle.panel_plans.proofs.Planned.{all-shown}
 use Rattle.panel_plans.proofs.Steps.{if-ok}
 use Rattle.plans.specs.Plans.{Lists}
+use Rattle.setups.specs.Wiring.{Wiring}
 use Rattle.plans.specs.declared.part_numbers.PartKind.TheVariants as kind
 use Rattle.panel_plans.proofs.parts.shown_numbers.Goals as goal
 
@@ -11,8 +13,8 @@ returns c =
     let lines = c.args.chart.now.lines in
     let setup = c.args.setup.now in
     if-ok c.with_pilots.result
-    (λ told. (its : Lists) → IsWiredBy lines setup its → TakesShown lines setup kind.Pilot c.in_ok-positions.positions told)
-    (λ numbers. (its : Lists) → IsWiredBy lines setup its → IsWiredBy lines setup (with_numbers its numbers))
+    (λ told. (other : Wiring) (its : Lists) → ShowsPartsOf lines setup other its → TakesShown lines setup kind.Pilot c.in_ok-positions.positions told)
+    (λ numbers. (other : Wiring) (its : Lists) → ShowsPartsOf lines setup other its → IsWiredBy lines other (with_numbers its numbers))
     (λ numbers told.
     all-shown c.in_ok-units.ensures c.in_ok-splits.ensures c.in_ok-minor.ensures c.in_ok-intermediate.ensures
     c.in_ok-major.ensures c.in_ok-positions.ensures told)

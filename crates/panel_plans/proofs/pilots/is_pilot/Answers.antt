@@ -1,15 +1,18 @@
 use Rattle.std.proofs.Common.{subst, sym, ◌≡◌}
 use Rattle.hubs.specs.declared.hub.Hub.TheVariants.{FR, PIX}
+use Rattle.charts.specs.Field.{column_of_rule}
+use Rattle.panel_plans.specs.NamingWires.NamesPart.{picked_up}
 use Rattle.panel_plans.proofs.PilotsTold.{picked-up}
 use Rattle.setups.specs.Wiring.{HasWire}
 use Rattle.panel_plans.proofs.pilots.is_pilot.Goals as goal
 
 pub returns-then-picks_up-clause-no : goal.returns-then-picks_up-clause-no
-returns-then-picks_up-clause-no c = λ its wired served told. c.is_told.ensures.no its told.line wired told.listed served told.tells
+returns-then-picks_up-clause-no c = λ other its shows served told. c.is_told.ensures.no other its told.line shows told.listed served told.tells
 
 pub returns-else-picks_up-clause-no : goal.returns-else-picks_up-clause-no
-returns-else-picks_up-clause-no c = λ its wired served told.
+returns-else-picks_up-clause-no c = λ other its shows served told.
     c.picks_up.ensures.1
     (subst (λ n. HasWire c.args.setup.now (FR n) (PIX c.args.pilot)) (sym c.column_of.ensures)
-    (picked-up c.args.chart.now c.args.setup.now c.lines-lines.ensures.lawful c.lines-lines.ensures.rising its wired c.args.amount.now.field.name
-    c.args.amount.now.field c.args.amount.now.rule c.args.pilot c.requires.named c.requires.ruled served))
+    ((shows.alike _ _ (picked_up (column_of_rule c.args.amount.now.rule) c.args.pilot)).1
+    (picked-up c.args.chart.now other c.lines-lines.ensures.lawful c.lines-lines.ensures.rising its shows.wired c.args.amount.now.field.name
+    c.args.amount.now.field c.args.amount.now.rule c.args.pilot c.requires.named c.requires.ruled served)))

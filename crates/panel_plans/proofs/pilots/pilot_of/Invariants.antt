@@ -1,11 +1,12 @@
 use Rattle.std.proofs.Common.{ℕ, ◌≡◌, ◌+◌, ◌<◌, Some}
 use Rattle.panel_plans.specs.PilotWires.{IsTold}
-use Rattle.panel_plans.specs.Wired.{IsWiredBy}
+use Rattle.panel_plans.specs.NamingWires.{ShowsPartsOf}
 use Rattle.plans.specs.Plans.{Lists}
+use Rattle.setups.specs.Wiring.{Wiring}
 use Rattle.wiring_table.specs.Parts.{pilot_for}
 use Rattle.panel_plans.proofs.pilots.pilot_of.Given as goal
 
 abbrev pub invariant-loop-place : goal.invariant-loop-place
 invariant-loop-place l =
-    (p : ℕ) → p < l.place → (its : Lists) → IsWiredBy l.chart.lines l.setup its → IsTold l.chart.lines l.amount.field.name
+    (p : ℕ) → p < l.place → (other : Wiring) (its : Lists) → ShowsPartsOf l.chart.lines l.setup other its → IsTold l.chart.lines l.amount.field.name
     → ¬ (pilot_for its l.amount.field.name ≡ Some (p + 1))

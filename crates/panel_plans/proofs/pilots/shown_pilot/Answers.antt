@@ -1,8 +1,9 @@
 use Rattle.std.proofs.Common.{IfSome, None, Option, Some, subst, sym, ◌∙◌, ◌≡◌}
 use Rattle.panel_plans.specs.PilotWires.{IsTold}
-use Rattle.panel_plans.specs.Wired.{IsWiredBy}
+use Rattle.panel_plans.specs.NamingWires.{ShowsPartsOf}
 use Rattle.panel_plans.proofs.PilotsTold.{none-for, same-name, signed-of, told-of, pilot-there, wanting}
 use Rattle.plans.specs.Plans.{Lists}
+use Rattle.setups.specs.Wiring.{Wiring}
 use Rattle.wiring_table.specs.Parts.{pilot_for}
 use Rattle.panel_plans.proofs.pilots.shown_pilot.Goals as goal
 
@@ -14,7 +15,7 @@ pub returns-in-Some-clause-shown : goal.returns-in-Some-clause-shown
 returns-in-Some-clause-shown c =
     let lines = c.args.chart.now.lines in
     subst
-    (λ n. IfSome c.pilot_of.result (λ pilot. (its : Lists) → IsWiredBy lines c.args.setup.now its → pilot_for its n ≡ Some pilot))
+    (λ n. IfSome c.pilot_of.result (λ pilot. (other : Wiring) (its : Lists) → ShowsPartsOf lines c.args.setup.now other its → pilot_for its n ≡ Some pilot))
     (same-name lines c.args.name c.in-Some.amount.field c.in-Some.ensures.some.0) c.pilot_of.ensures.shown
 
 pub returns-in-Some-clause-none : goal.returns-in-Some-clause-none
@@ -23,6 +24,6 @@ returns-in-Some-clause-none c = λ there.
     c.pilot_of.result c.pilot_of.ensures.none
 
 pub returns-in-None-clause-none : goal.returns-in-None-clause-none
-returns-in-None-clause-none c = λ there its wired.
+returns-in-None-clause-none c = λ there other its shows.
     let w = wanting c.args.chart.now c.lines-lines.ensures.lawful c.args.name there in
     c.in-None.ensures.none w.field w.rule w.named w.ruled

@@ -4,6 +4,6 @@ use Rattle.panel_plans.specs.Wired.{IsWiredBy}
 use Rattle.panel_plans.proofs.plan.shown_plan.Goals as goal
 
 pub returns-clause-numbers : goal.returns-clause-numbers
-returns-clause-numbers c = λ its wired.
-    subst (λ n. IsWiredBy c.args.chart.now.lines c.args.setup.now (with_numbers its n)) (sym c.of-2.ensures.numbers)
-    (c.in_ok-numbers.ensures its wired)
+returns-clause-numbers c = λ other its shows.
+    subst (λ n. IsWiredBy c.args.chart.now.lines other (with_numbers its n)) (sym c.of-2.ensures.numbers)
+    (c.in_ok-numbers.ensures other its shows)

@@ -2,8 +2,9 @@ use Rattle.std.proofs.Common.{refl, subst, sym, ◌∙◌, ◌≡◌}
 use Rattle.charts.specs.declared.level.ControlLevel.{ControlLevel}
 use Rattle.charts.specs.declared.level.ControlLevel.TheVariants as control
 use Rattle.panel_plans.specs.Renumbered.{with_kind}
-use Rattle.panel_plans.specs.WheelParts.{AreLed}
+use Rattle.panel_plans.specs.WheelParts.{AreLed, indicated_wheels}
 use Rattle.panel_plans.specs.declared.wheel_parts.WheelPart.TheVariants as by_wheel
+use Rattle.panel_plans.proofs.Alike.{are-led, back}
 use Rattle.panel_plans.proofs.Steps.{if-ok}
 use Rattle.panel_plans.proofs.Told.{none-by, shown-by}
 use Rattle.panel_plans.proofs.WheelParts.{indicates-led}
@@ -22,10 +23,11 @@ returns-clause-shown c =
     if-ok c.led_numbers.result _ _
     (λ shown found.
     shown-by c.args.chart.now.lines c.args.setup.now (kind.Indicate c.args.level) (λ list. list.items) (λ (its : Lists). (numbers_at its.numbers c.args.level)) shown (λ its. still its c.args.level)
-    (λ its wired.
+    (λ other its shows.
     found (numbers_at its.numbers c.args.level)
     (subst (λ wheels. AreLed c.args.setup.now (by_wheel.Indicated c.args.level) 30 wheels (numbers_at its.numbers c.args.level)) (sym (c.as_slice.ensures.value ∙ c.in_ok-wheels.ensures))
-    (indicates-led c.args.chart.now c.args.setup.now c.lines-lines.ensures.lawful c.lines-lines.ensures.rising its wired c.args.level))))
+    (are-led (back shows.alike) (by_wheel.Indicated c.args.level) 30 (indicated_wheels c.args.chart.now.lines c.args.level) (numbers_at its.numbers c.args.level)
+    (indicates-led c.args.chart.now other c.lines-lines.ensures.lawful c.lines-lines.ensures.rising its shows.wired c.args.level)))))
     c.led_numbers.ensures.found
 
 pub returns-clause-none : goal.returns-clause-none
@@ -33,8 +35,9 @@ returns-clause-none c =
     if-ok c.led_numbers.result _ _
     (λ shown found.
     none-by c.args.chart.now.lines c.args.setup.now (kind.Indicate c.args.level) (λ list. list.items) (λ (its : Lists). (numbers_at its.numbers c.args.level)) shown
-    (λ its wired.
+    (λ other its shows.
     found (numbers_at its.numbers c.args.level)
     (subst (λ wheels. AreLed c.args.setup.now (by_wheel.Indicated c.args.level) 30 wheels (numbers_at its.numbers c.args.level)) (sym (c.as_slice.ensures.value ∙ c.in_ok-wheels.ensures))
-    (indicates-led c.args.chart.now c.args.setup.now c.lines-lines.ensures.lawful c.lines-lines.ensures.rising its wired c.args.level))))
+    (are-led (back shows.alike) (by_wheel.Indicated c.args.level) 30 (indicated_wheels c.args.chart.now.lines c.args.level) (numbers_at its.numbers c.args.level)
+    (indicates-led c.args.chart.now other c.lines-lines.ensures.lawful c.lines-lines.ensures.rising its shows.wired c.args.level)))))
     c.led_numbers.ensures.found

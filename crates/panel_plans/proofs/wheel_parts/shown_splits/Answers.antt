@@ -1,6 +1,7 @@
 use Rattle.std.proofs.Common.{refl, subst, sym, ◌∙◌, ◌≡◌}
-use Rattle.panel_plans.specs.WheelParts.{AreLed}
+use Rattle.panel_plans.specs.WheelParts.{AreLed, split_wheels}
 use Rattle.panel_plans.specs.declared.wheel_parts.WheelPart.TheVariants as by_wheel
+use Rattle.panel_plans.proofs.Alike.{are-led, back}
 use Rattle.panel_plans.proofs.Steps.{if-ok}
 use Rattle.panel_plans.proofs.Told.{none-by, shown-by}
 use Rattle.panel_plans.proofs.WheelParts.{splits-led}
@@ -13,10 +14,11 @@ returns-clause-shown c =
     if-ok c.led_numbers.result _ _
     (λ shown found.
     shown-by c.args.chart.now.lines c.args.setup.now kind.Split (λ list. list.items) (λ (its : Lists). its.numbers.splits) shown (λ its. refl)
-    (λ its wired.
+    (λ other its shows.
     found its.numbers.splits
     (subst (λ wheels. AreLed c.args.setup.now by_wheel.Split 16 wheels its.numbers.splits) (sym (c.as_slice.ensures.value ∙ c.in_ok-wheels.ensures))
-    (splits-led c.args.chart.now c.args.setup.now c.lines-lines.ensures.lawful c.lines-lines.ensures.rising its wired))))
+    (are-led (back shows.alike) by_wheel.Split 16 (split_wheels c.args.chart.now.lines) its.numbers.splits
+    (splits-led c.args.chart.now other c.lines-lines.ensures.lawful c.lines-lines.ensures.rising its shows.wired)))))
     c.led_numbers.ensures.found
 
 pub returns-clause-none : goal.returns-clause-none
@@ -24,8 +26,9 @@ returns-clause-none c =
     if-ok c.led_numbers.result _ _
     (λ shown found.
     none-by c.args.chart.now.lines c.args.setup.now kind.Split (λ list. list.items) (λ (its : Lists). its.numbers.splits) shown
-    (λ its wired.
+    (λ other its shows.
     found its.numbers.splits
     (subst (λ wheels. AreLed c.args.setup.now by_wheel.Split 16 wheels its.numbers.splits) (sym (c.as_slice.ensures.value ∙ c.in_ok-wheels.ensures))
-    (splits-led c.args.chart.now c.args.setup.now c.lines-lines.ensures.lawful c.lines-lines.ensures.rising its wired))))
+    (are-led (back shows.alike) by_wheel.Split 16 (split_wheels c.args.chart.now.lines) its.numbers.splits
+    (splits-led c.args.chart.now other c.lines-lines.ensures.lawful c.lines-lines.ensures.rising its shows.wired)))))
     c.led_numbers.ensures.found

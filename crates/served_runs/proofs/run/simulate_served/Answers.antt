@@ -30,7 +30,7 @@ loop-cycle-init c =
 pub serve_cycle-requires-clause-panel : goal.serve_cycle-requires-clause-panel
 serve_cycle-requires-clause-panel c = (
   c.args.setup.now,
-  record { net = c.in_ok-net.ensures; waits = c.waits-waits.ensures c.args.setup.now c.in_ok-net.ensures },
+  record { net = c.in_ok-net.ensures; waits = c.all_waits-waits.ensures c.args.setup.now c.in_ok-net.ensures },
 )
 
 pub serve_cycle-requires-clause-rounds : goal.serve_cycle-requires-clause-rounds
@@ -42,8 +42,8 @@ serve_cycle-requires-clause-seen c = omega (arith, c.loop-cycle.invariant.seen, 
 pub loop-cycle-smaller : goal.loop-cycle-smaller
 loop-cycle-smaller c =
     let wiring = c.args.setup.now in
-    let is_panel : IsPanelOf wiring (record { net = c.in_ok-net.net; waits = c.waits-waits.result }) =
-    record { net = c.in_ok-net.ensures; waits = c.waits-waits.ensures wiring c.in_ok-net.ensures } in
+    let is_panel : IsPanelOf wiring (record { net = c.in_ok-net.net; waits = c.all_waits-waits.result }) =
+    record { net = c.in_ok-net.ensures; waits = c.all_waits-waits.ensures wiring c.in_ok-net.ensures } in
     let now : InRun = record { machine = c.loop-cycle.units; hopper = c.loop-cycle.hopper.now } in
     let ready : InRun = record { machine = c.make_ready-hopper.new.self; hopper = c.make_ready-hopper.result.now } in
     (goes_on wiring c.args.service.now c.in-Some.cycle now ready c.serve_cycle.result.0 c.loop-cycle.counts c.serve_cycle.result.1
@@ -53,8 +53,8 @@ loop-cycle-smaller c =
 pub loop-cycle-preserved : goal.loop-cycle-preserved
 loop-cycle-preserved c =
     let wiring = c.args.setup.now in
-    let is_panel : IsPanelOf wiring (record { net = c.in_ok-net.net; waits = c.waits-waits.result }) =
-    record { net = c.in_ok-net.ensures; waits = c.waits-waits.ensures wiring c.in_ok-net.ensures } in
+    let is_panel : IsPanelOf wiring (record { net = c.in_ok-net.net; waits = c.all_waits-waits.result }) =
+    record { net = c.in_ok-net.ensures; waits = c.all_waits-waits.ensures wiring c.in_ok-net.ensures } in
     let now : InRun = record { machine = c.loop-cycle.units; hopper = c.loop-cycle.hopper.now } in
     let ready : InRun = record { machine = c.make_ready-hopper.new.self; hopper = c.make_ready-hopper.result.now } in
     let due = sym c.cycle_due.ensures ∙ c.in-Some.is in

@@ -4,10 +4,10 @@ use Rattle.std.specs.String.{string_bytes}
 use Rattle.explanations.specs.PlacedInRun.{PrintsLine}
 use Rattle.placed_lines.specs.declared.placed_line.PlacedLine.{PlacedLine}
 use Rattle.setups.specs.Tapes.{CarriageTape}
-use Rattle.wheel_sections.specs.Told.{AreTold, printed_places}
-use Rattle.wheel_sections.specs.declared.told.ToldWheel.{ToldWheel}
-use Rattle.show_page.specs.Helper.{GainsBody}
-use Rattle.show_page.specs.Page.{front_text, shown}
+use Rattle.page_sections.specs.WheelSections.Told.{AreTold, printed_places}
+use Rattle.page_sections.specs.declared.wheel_sections.told.ToldWheel.{ToldWheel}
+use Rattle.show_page.specs.Helper.{GainsBody, GainsFront}
+use Rattle.show_page.specs.Page.{shown}
 use Rattle.show_page.proofs.Parts.{page_whole, shown_prints}
 use Rattle.show_page.proofs.show.page.Goals as goal
 
@@ -36,10 +36,10 @@ returns c =
     (subst (λ (l : List PlacedLine). AreTold c.args.setup.now c.args.asked.now c.args.cards.now (printed_places l) told) same
     c.in_ok-told.ensures)
     c.new-text.ensures.bytes
-    (c.in_ok-write_front.ensures
-    ∙ ap (λ (t : List ℕ). none ++ front_text cards t c.shown-lines.result.now c.from-form_lines.result) c.deref-2.ensures.value
-    ∙ ap (λ (l : List PlacedLine). none ++ front_text cards trace l c.from-form_lines.result) same
-    ∙ ap (λ (n : ℕ). none ++ front_text cards trace (shown cards printed) n) long)
+    (subst (λ (n : ℕ). GainsFront cards trace (shown cards printed) n none one) long
+    (subst (λ (l : List PlacedLine). GainsFront cards trace l c.from-form_lines.result none one) same
+    (subst (λ (t : List ℕ). GainsFront cards t c.shown-lines.result.now c.from-form_lines.result none one) c.deref-2.ensures.value
+    c.in_ok-write_front.ensures)))
     (subst (λ (l : List ToldWheel). GainsBody cards trace c.args.wires.now c.args.legend.now l one new) c.deref-4.ensures.value
     (subst (λ (t : List ℕ). GainsBody cards t c.args.wires.now c.args.legend.now c.deref-4.result.now one new) c.deref-3.ensures.value
     c.in_ok-write_body.ensures))

@@ -1,6 +1,7 @@
-use Rattle.std.proofs.Common.{subst, sym, ◌≤◌}
+use Rattle.std.proofs.Common.{subst, sym, ◌≤◌, ◌+◌}
 use Rattle.card_code.specs.MostCards.{most_cards}
-use Rattle.streamed_runs.proofs.NextCards.{invalid_next, reads_on}
+use Rattle.streamed_runs.proofs.NextCards.{fault_up_to, found_up_to, invalid_next, no_invalid_read, reads_on, up_to_other}
+use Rattle.streamed_runs.specs.declared.fault.StreamCause.TheVariants as cause
 use Rattle.streamed_runs.proofs.run.next_valid.Goals as goal
 
 pub returns-in-Err-valid_card-clause-read : goal.returns-in-Err-valid_card-clause-read
@@ -15,3 +16,18 @@ pub returns-clause-read : goal.returns-clause-read
 returns-clause-read g c = λ text before come counted.
     reads_on g.S.Source.left text before c.args.cards.now c.next_card.new.self c.in-Ok.found
     (subst (λ n. n ≤ most_cards) (sym counted) c.requires.few) c.in-Ok.ensures.card c.in-Ok.ensures.none come
+
+pub returns-in-Err-clause-up_to : goal.returns-in-Err-clause-up_to
+returns-in-Err-clause-up_to g c = λ text before come.
+    rw c.into.ensures
+    (fault_up_to g.S.Source.left text before c.args.cards.now c.next_card.new.self c.in-Err.fault c.in-Err.ensures.kept
+    (c.in-Err.ensures.part c.requires.well) come)
+
+pub returns-in-Err-valid_card-clause-up_to : goal.returns-in-Err-valid_card-clause-up_to
+returns-in-Err-valid_card-clause-up_to g c = λ text before come.
+    up_to_other text before cause.Write (cause.Invalid c.in-Err-valid_card.fault (c.args.number + 1)) _ no_invalid_read
+    (found_up_to g.S.Source.left text before c.args.cards.now c.next_card.new.self c.in-Ok.found c.in-Ok.ensures.card c.in-Ok.ensures.kept come)
+
+pub returns-clause-up_to : goal.returns-clause-up_to
+returns-clause-up_to g c = λ text before come.
+    found_up_to g.S.Source.left text before c.args.cards.now c.next_card.new.self c.in-Ok.found c.in-Ok.ensures.card c.in-Ok.ensures.kept come

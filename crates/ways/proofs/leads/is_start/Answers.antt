@@ -1,4 +1,4 @@
-use Rattle.std.proofs.Common.{◌≤◌, ◌-◌, arith, true, sym, ◌∙◌, ap}
+use Rattle.std.proofs.Common.{◌≤◌, ◌-◌, arith, sym, ◌∙◌, ap}
 use Rattle.std.proofs.lemmas.Bool.{false≢true}
 use Rattle.bit_sets.specs.Bits.{has_place}
 use Rattle.ways.proofs.LeadsLemmas.{starts_has, starts_in_range, starts_numbered}

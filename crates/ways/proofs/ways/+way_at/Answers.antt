@@ -2,7 +2,7 @@ use Rattle.std.proofs.Common.{◌≡◌, ◌≢◌, ◌≤◌, ◌∙◌, ap, re
 use Rattle.hubs.proofs.HubLemmas.{number_of-injective}
 use Rattle.hubs.specs.declared.hub.Hub.{Hub}
 use Rattle.net.specs.HubSets.{has_hub}
-use Rattle.ways.proofs.WayLemmas.{stands_behind, stands_hub, way_on, way_start}
+use Rattle.ways.proofs.WayLemmas.{stands_behind, stands_hub, up-to-behind, up-to-own, way_on, way_start}
 use Rattle.ways.proofs.ways.+way_at.Goals as goal
 
 more : (n : ℕ) → n ≢ 0 → n ≢ 1 → 2 ≤ n
@@ -32,5 +32,18 @@ returns-clause-way m c exits hub table numbered =
     let items : c.push-2.new.self.items ≡ c.in-Some-2.way.items ++ hub ∷ [] =
     c.in_ok-push-2.ensures.items ∙ ap (λ (h : Hub). c.in-Some-2.way.items ++ h ∷ []) same in
     let leads = c.in-Some-before.ensures.before.1 in
-    rw items (way_on c.args.setup.now exits (has_hub c.args.contacts.now) hub c.in-Some-before.from c.args.to c.in-Some-2.way.items numbered
-    leads (rw c.in-Some-2.is at (c.in_ok-way.ensures.way exits leads.exit table leads.from_numbered)))
+    rw items (way_on c.args.setup.now exits (has_hub c.args.contacts.now) c.args.steps.now hub c.in-Some-before.from c.args.to
+    c.in-Some-2.way.items numbered leads c.in-Some-before.ensures.before.0
+    (rw c.in-Some-2.is at (c.in_ok-way.ensures.way exits leads.exit table leads.from_numbered)) (rw c.in-Some-2.is at c.in_ok-way.ensures.up_to))
+
+pub returns-then-steps-to-eq1-clause-up_to : goal.returns-then-steps-to-eq1-clause-up_to
+returns-then-steps-to-eq1-clause-up_to m c =
+    let items : c.push.new.self.items ≡ c.in-Some.hub ∷ [] =
+    c.in_ok-push.ensures.items ∙ ap (λ (l : List Hub). l ++ c.in-Some.hub ∷ []) c.new-way.ensures.items in
+    rw items (up-to-own c.args.steps.now c.in-Some.hub c.args.to c.in-Some.ensures.numbered)
+
+pub returns-clause-up_to : goal.returns-clause-up_to
+returns-clause-up_to m c =
+    rw c.in_ok-push-2.ensures.items
+    (up-to-behind c.args.steps.now c.in-Some.hub c.in-Some-before.from c.args.to c.in-Some-2.way.items c.in-Some.ensures.numbered
+    c.in-Some-before.ensures.before.0 (rw c.in-Some-2.is at c.in_ok-way.ensures.up_to))

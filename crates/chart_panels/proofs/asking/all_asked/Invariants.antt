@@ -1,7 +1,0 @@
-use Rattle.std.specs.Prelude.{take}
-use Rattle.chart_panels.specs.Asking.{AreAsked}
-use Rattle.chart_panels.proofs.asking.all_asked.Given as goal
-
--- the wires so far have their lines
-abbrev pub invariant-loop-pair : goal.invariant-loop-pair
-invariant-loop-pair l = AreAsked l.chart.lines l.plan (take l.pair-index l.pairs) l.wires.items

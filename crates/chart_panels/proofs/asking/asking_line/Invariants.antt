@@ -1,6 +1,0 @@
-use Rattle.chart_panels.specs.Asking.{NoneBefore}
-use Rattle.chart_panels.proofs.asking.asking_line.Given as goal
-
--- none of the lines so far asks
-abbrev pub invariant-loop-line : goal.invariant-loop-line
-invariant-loop-line l = NoneBefore l.chart.lines l.plan l.exit l.entry l.line-index

@@ -1,0 +1,6 @@
+pub mod Cards
+pub mod Lines
+pub mod Sums
+pub mod Steps
+pub mod Whole
+pub mod Silent

@@ -1,0 +1,40 @@
+-- How a check of a deck ends that has something to tell. The deck is known where its reader tells its bytes beforehand, and what is
+-- written where the writer tells what it holds.
+use Rattle.std.specs.Prelude.{◌≡◌, ◌≢◌, ◌⊎◌, ℕ, ◌+◌, ◌≤◌, List, [], ◌∷◌, Option, IfSome, length, take, codes}
+use Rattle.std.specs.Io.KnownBytes.{Appends}
+use Rattle.card_code.specs.Lines.{lines_of}
+use Rattle.card_code.specs.MostCards.{most_cards}
+use Rattle.charts.specs.Chart.{Chart}
+use Rattle.check_calls.specs.DeckChecks.Listings.{HasListed, IsListing, lines_told}
+use Rattle.faults.specs.declared.fault.Fault.{Fault}
+use Rattle.faults.specs.declared.fault.Fault.TheVariants as fault
+
+-- Why the reading of a deck ended after so many lines, with this text still to come: the reader failed at the next line, or there is a next
+-- line after 999,999.
+pub data CutsOff (count : ℕ) (rest : List ℕ) (told : Fault) : Type 0 where
+  unread : told ≡ fault.Unread (count + 1) → CutsOff count rest told
+  too_many : count ≡ most_cards → lines_of rest ≢ [] → told ≡ fault.Whole 3 → CutsOff count rest told
+
+-- The reading ended before the end of the deck, and so much was listed.
+pub record IsCutOff (chart : Chart) (text : List ℕ) (listed : List Fault) (told : Fault) : Type 0 where
+  pub count : ℕ
+  pub rest : List ℕ
+  pub has_listed : HasListed chart text count rest listed
+  pub cuts : CutsOff count rest told
+
+-- What a check had to write: lines of the listing, up to some line of the deck or to its end, or `ok` where nothing is told of it.
+pub data IsToWrite (chart : Chart) (text answer : List ℕ) : Type 0 where
+  front : (count : ℕ) (rest : List ℕ) (told : List Fault) → HasListed chart text count rest told → answer ≡ lines_told told
+      → IsToWrite chart text answer
+  whole : (told : List Fault) → IsListing chart text told → answer ≡ lines_told told → IsToWrite chart text answer
+  fine : IsListing chart text [] → answer ≡ codes "ok\n" → IsToWrite chart text answer
+
+-- How a check ends that has something to tell. The whole deck is listed, and the first fault of the listing is told; the deck was not read to its
+-- end, and why is told; or the output can't be written or memory is wanting, and the front of what was to be written stands.
+pub data EndsCheck (chart : Chart) (deck old new : Option (List ℕ)) (told : Fault) : Type 0 where
+  listed : (later : List Fault) → IfSome deck (λ text. IsListing chart text (told ∷ later)) → Appends old new (lines_told (told ∷ later))
+      → EndsCheck chart deck old new told
+  cut_off : (listed : List Fault) → IfSome deck (λ text. IsCutOff chart text listed told) → Appends old new (lines_told listed)
+      → EndsCheck chart deck old new told
+  unwritten : (answer : List ℕ) (count : ℕ) → IfSome deck (λ text. IsToWrite chart text answer) → count ≤ length answer
+      → Appends old new (take count answer) → (told ≡ fault.Memory) ⊎ (told ≡ fault.Write) → EndsCheck chart deck old new told

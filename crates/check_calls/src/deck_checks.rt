@@ -1,0 +1,21 @@
+//! All cards of a deck that a chart can't be run with, in one pass over the deck.
+//!
+//! [`check_cards`] reads a deck line by line from any reader and writes a line for each bad card, as a run would tell it were this card the
+//! first bad one. It goes on behind a bad line, and holds one line, one card and the sums of the chart's totals, however long the deck is.
+//!
+//! ```text
+//! check_cards(rt.alloc(), &chart, file, &mut rt.stdout())?;
+//! ```
+//!
+//! The crate stands on `card_code`, which says what lines and cards are, on `chart_rules` for the cards that are valid, on `misfits` for
+//! the totals, and on `faults` for what is told.
+
+mod card;
+mod checking;
+mod laws;
+mod line;
+mod listing;
+mod standing;
+
+pub use checking::check_cards;
+pub use laws::decks_without_faults_fit;

@@ -1,0 +1,4 @@
+pub mod Ending
+pub mod InText
+pub mod Standing
+pub mod Upcoming

@@ -1,9 +1,0 @@
-use Rattle.line_places.proofs.HeadingLines.{headings-placed}
-use Rattle.line_places.proofs.Placements.{ready-within}
-use Rattle.line_places.proofs.laws.headings_are_placed.Goals as goal
-
-pub returns-clause-on_a_new_page : goal.returns-clause-on_a_new_page
-returns-clause-on_a_new_page c = headings-placed
-
-pub returns-clause-within_a_page : goal.returns-clause-within_a_page
-returns-clause-within_a_page c = ready-within

@@ -1,5 +1,0 @@
-pub mod Below
-pub mod Placing
-pub mod CarriageCycles
-pub mod FormFacts
-pub mod Laws

@@ -1,0 +1,35 @@
+use Rattle.std.proofs.Common.{IfOk, subst}
+use Rattle.charts.specs.Chart.{Chart}
+use Rattle.matching.specs.Answers.{IsMatched, IsMatchingOf}
+use Rattle.matching.proofs.Told.{wired-of}
+use Rattle.panel_plans.specs.Wired.{IsWiredBy}
+use Rattle.plans.specs.Plans.{Lists}
+use Rattle.match_calls.proofs.MatchReports.Onward.{if-ok}
+use Rattle.match_calls.proofs.match_reports.match_compiled.Goals as goal
+
+pub returns-clause-prints : goal.returns-clause-prints
+returns-clause-prints c =
+    if-ok c.match_setup.result _ _
+    (λ matching told is.
+    let here = subst (λ (chart : Chart). IsMatchingOf chart.lines c.args.setup.now matching) c.chart-chart.ensures.value told in
+    let wired = wired-of c.args.compiled.now.chart.lines c.args.setup.now matching here is in
+    c.wired_setups_print_reports.ensures c.args.compiled.now.chart wired.0 c.args.setup.now c.chart-chart.ensures.compiled.sound
+    wired.1.planned wired.1.wired)
+    c.match_setup.ensures.told
+
+pub returns-clause-begins : goal.returns-clause-begins
+returns-clause-begins c =
+    if-ok c.match_setup.result _ _
+    (λ matching told is.
+    let here = subst (λ (chart : Chart). IsMatchingOf chart.lines c.args.setup.now matching) c.chart-chart.ensures.value told in
+    let wired = wired-of c.args.compiled.now.chart.lines c.args.setup.now matching here is in
+    c.wired_setups_begin_reports.ensures c.args.compiled.now.chart wired.0 c.args.setup.now c.chart-chart.ensures.compiled.sound
+    wired.1.planned wired.1.wired)
+    c.match_setup.ensures.told
+
+pub returns-clause-found : goal.returns-clause-found
+returns-clause-found c =
+    subst
+    (λ (chart : Chart). IfOk c.match_setup.result
+    (λ matching. (its : Lists) → IsWiredBy chart.lines c.args.setup.now its → IsMatched matching))
+    c.chart-chart.ensures.value c.match_setup.ensures.found

@@ -1,0 +1,22 @@
+-- How much is missing and too much, by what is found of a setup.
+use Rattle.std.specs.Prelude.{◌≡◌, ℕ, ◌+◌}
+use Rattle.differences.specs.Differences.{HasSize}
+use Rattle.match_calls.specs.MatchTexts.Forms.{forms}
+use Rattle.match_calls.specs.declared.match_texts.counts.Counts.{Counts}
+use Rattle.matching.specs.declared.answer.Matching.{Matching}
+use Rattle.matching.specs.declared.answer.Matching.TheVariants.{Differs, Matched}
+use Rattle.setups.specs.Wiring.{Wiring}
+
+-- the wires, jacks and stops of two differences, and one more of each where their forms differ
+pub record CountsDifferences (missing extra : Wiring) (counts : Counts) : Type 0 where
+  pub missing_parts : ℕ
+  pub extra_parts : ℕ
+  pub missing_size : HasSize missing missing_parts
+  pub extra_size : HasSize extra extra_parts
+  pub all_missing : counts.missing ≡ missing_parts + forms missing.tape extra.tape
+  pub all_extra : counts.extra ≡ extra_parts + forms missing.tape extra.tape
+
+-- nothing of a setup that is wired for the chart
+abbrev pub AreCountsOf : Matching → Counts → Type 0
+AreCountsOf (Matched plan) counts = (counts.missing ≡ 0) × (counts.extra ≡ 0)
+AreCountsOf (Differs plan missing extra) counts = CountsDifferences missing extra counts

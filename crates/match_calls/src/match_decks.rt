@@ -1,0 +1,9 @@
+//! Two panels over one deck: the first line that they print differently, and the first wheel of it.
+
+mod lines;
+mod running;
+mod wheels;
+
+pub use lines::Place;
+pub use running::deck_difference;
+pub use wheels::Difference;

@@ -1,0 +1,39 @@
+//! Whether the machine prints a chart's reports, wired as a setup is.
+//!
+//! [`match_compiled`] finds whether the setup is wired for the chart by some plan of it. Where it is, the pages that the machine prints are
+//! the chart's reports, of every deck that can be run: not of some decks that were tried.
+
+ghost use Rattle.std.specs.Prelude.{IfOk};
+ghost use Rattle.matching.specs.Answers.{IsMatched, IsMatchingOf};
+ghost use Rattle.panel_plans.specs.Wired.{IsWiredBy};
+ghost use Rattle.plans.specs.Plans.{Lists};
+ghost use Rattle.streamed_runs.specs.PrintPromises.Promises.{BeginsReport, PrintsReport};
+
+use compile407::{Compiled, wired_setups_begin_reports, wired_setups_print_reports};
+pub use matching::Matching;
+use matching::match_setup;
+use setups::Setup;
+use std::alloc::{AllocError, Global};
+
+/// What is found of a setup beside a compiled chart. Where it is `Matched`, the setup is wired for the chart by the plan that is told: then
+/// for every deck of at most 999,999 valid cards whose totals fit the pages that the machine prints are byte by byte the chart's report, and
+/// for any other deck of at most 999,999 valid cards what it prints before the first card at which a total doesn't fit is the report up to
+/// there. Where the setup is wired for the chart by some plan of it, it is `Matched`. Where it `Differs`, exactly what is missing and what
+/// is too much by the plan that is told is told too. Its only refusal is memory.
+pub fn match_compiled(
+    alloc: Global,
+    compiled: &Compiled,
+    setup: &Setup,
+) -> Result<Matching, AllocError>
+    ensures told { IfOk result (IsMatchingOf compiled.now.chart.lines setup.now) }
+    ensures found { IfOk result (λ matching. (its : Lists) → IsWiredBy compiled.now.chart.lines setup.now its → IsMatched matching) }
+    ensures prints { IfOk result (λ matching. IsMatched matching → PrintsReport compiled.now.chart setup.now) }
+    ensures begins { IfOk result (λ matching. IsMatched matching → BeginsReport compiled.now.chart setup.now) }
+{
+    // What is known of every setup that is wired for a chart by a plan of it.
+    wired_setups_print_reports();
+    wired_setups_begin_reports();
+    let chart = compiled.chart();
+    let plan = compiled.plan();
+    match_setup(alloc, chart, plan, setup)
+}

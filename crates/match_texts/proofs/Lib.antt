@@ -1,2 +1,0 @@
-mod Lacking
-mod Whole

@@ -1,0 +1,33 @@
+-- Helper words of the code.
+use Rattle.std.specs.Prelude.{◌≡◌, ℕ, List, ◌++◌, String}
+use Rattle.std.specs.String.{string_bytes}
+use Rattle.std.specs.declared.alloc.Global.{Global}
+use Rattle.placed_lines.specs.declared.placed_line.PlacedLine.{PlacedLine}
+use Rattle.setups.specs.Wiring.{Wiring}
+use Rattle.explanations.specs.PlacedInRun.{IsFound}
+use Rattle.explanations.specs.Rows.{AreRowWays}
+use Rattle.explanations.specs.Explanations.{IsExplanation}
+use Rattle.explanations.specs.declared.explanation.LineWays.{LineWays}
+use Rattle.explanation_text.specs.Text.{IsTextOf}
+use Rattle.page_sections.specs.WheelSections.Told.{AreTold, WheelPlace}
+use Rattle.page_sections.specs.declared.wheel_sections.told.ToldWheel.{ToldWheel}
+
+-- the ways are those of the printed line, in the run over the deck
+pub record AreWaysOfLine (wiring : Wiring) (deck : List (List ℕ)) (placed : PlacedLine) (line : LineWays) : Type 0 where
+  pub found : IsFound wiring deck line.found
+  pub page : line.found.kept.line.page ≡ placed.page
+  pub line_is : line.found.kept.line.line ≡ placed.line
+  pub ways : AreRowWays wiring line.found.kept.points 12 line.ways.items
+
+-- what is told is of the wheel of the line
+pub record IsToldOf (wiring : Wiring) (asked : List (String Global × Wiring)) (deck : List (List ℕ)) (placed : PlacedLine) (wheel : ℕ)
+    (told : ToldWheel) : Type 0 where
+  pub right : IsExplanation wiring deck placed.page placed.line wheel told.why
+  pub worded : IsTextOf asked told.why (string_bytes told.words)
+
+-- a list gains what is told of the wheels at these places
+pub record GainsTold (wiring : Wiring) (asked : List (String Global × Wiring)) (deck : List (List ℕ)) (places : List WheelPlace)
+    (old new : List ToldWheel) : Type 0 where
+  pub told : List ToldWheel
+  pub are : AreTold wiring asked deck places told
+  pub gained : new ≡ old ++ told

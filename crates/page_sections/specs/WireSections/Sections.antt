@@ -1,0 +1,116 @@
+-- The elements of wires and of hubs. That of a wire has its name and the line of the chart that asks for it, that of a hub its name and its
+-- wires, with their lines. Both have links to the printed characters of which an impulse came through, and a picture, the panel with the wire
+-- or the wires over it.
+use Rattle.std.specs.Prelude.{◌≡◌, ℕ, ◌==◌, List, [], ◌∷◌, ◌++◌, codes, decimal, if◌then◌else◌}
+use Rattle.std.specs.List.{flat_map}
+use Rattle.hubs.specs.declared.hub.Hub.{Hub}
+use Rattle.markup.specs.Escapes.{escaped}
+use Rattle.markup.specs.Pieces.{numbered_words}
+use Rattle.panel_drawing.specs.Drawing.{AreHubs, ends_at, has_wire_at, picture_open, way_curve, wire_name}
+use Rattle.hubs.specs.HubText.{hub_text}
+use Rattle.panel_drawing.specs.declared.drawing.PanelWire.{PanelWire}
+use Rattle.page_sections.specs.ReportSheets.Sheets.{link_text}
+use Rattle.page_sections.specs.WheelSections.Sections.{section_close}
+use Rattle.page_sections.specs.declared.wheel_sections.told.ToldWheel.{ToldWheel}
+use Rattle.page_sections.specs.WireSections.Passing.{came_through}
+use Rattle.page_sections.specs.declared.wire_sections.passing.Part.{Part}
+use Rattle.page_sections.specs.declared.wire_sections.passing.Part.TheVariants as part
+
+-- where a character is printed, and the character
+abbrev pub place_words : (page line wheel : ℕ) → List ℕ
+place_words page line wheel =
+    codes "page " ++ decimal page ++ codes " line " ++ decimal line ++ codes " wheel " ++ decimal wheel ++ codes ": "
+
+-- a link to a printed character
+abbrev pub character_link : (page line wheel character : ℕ) → List ℕ
+character_link page line wheel character =
+    link_text page line wheel ++ place_words page line wheel ++ escaped (character ∷ []) ++ codes "</a>\n"
+
+abbrev pub told_link : ToldWheel → List ℕ
+told_link told = character_link told.why.line.page told.why.line.line told.why.wheel told.why.character
+
+-- the links to the characters of which an impulse came through a wire or a hub, in their order
+abbrev pub through_link : Part → ToldWheel → List ℕ
+through_link place told = if came_through place told then told_link told else []
+
+abbrev pub through_links : Part → List ToldWheel → List ℕ
+through_links place told = flat_map (through_link place) told
+
+-- what is said of what came through, by these links
+abbrev pub some_text : List ℕ → List ℕ
+some_text links =
+    codes "<p>A way that is told of each of these printed characters leads through it:</p>\n<div>" ++ links ++ codes "</div>\n"
+
+abbrev pub through_text : List ℕ → List ℕ
+through_text [] = codes "<p>No way that is told leads through it.</p>\n"
+through_text (sign ∷ links) = some_text (sign ∷ links)
+
+-- the line of the chart that asks for a wire, where one does
+abbrev pub line_open : ℕ → List ℕ
+line_open line = codes ", for which <a href=\"#line" ++ decimal line ++ codes "\">"
+
+abbrev pub line_words : ℕ → List ℕ
+line_words line = codes "line " ++ decimal line ++ codes " of the chart</a> asks"
+
+abbrev pub line_link : ℕ → List ℕ
+line_link line = line_open line ++ line_words line
+
+abbrev pub asking_text : ℕ → List ℕ
+asking_text line = if line == 0 then [] else line_link line
+
+-- a wire over the panel
+abbrev pub path_text : PanelWire → List ℕ
+path_text wire = codes "<path d=\"" ++ way_curve (wire.exit ∷ wire.entry ∷ []) ++ codes "\"/>"
+
+-- the front of the element of a wire by its number
+abbrev pub wire_open : ℕ → List ℕ
+wire_open number = codes "<section id=\"wire" ++ decimal number ++ codes "\"><a href=\"#panel\">back</a>\n<p>The wire "
+
+-- the first sentence: its name, and who asks for it
+abbrev pub wire_head : ℕ → PanelWire → List ℕ
+wire_head number wire = wire_open number ++ wire_name wire ++ asking_text wire.line ++ codes ".</p>\n"
+
+-- the element of a wire, and those of all wires; the first wire has number 1
+abbrev pub wire_section : List ToldWheel → ℕ → PanelWire → List ℕ
+wire_section told number wire =
+    wire_head number wire ++ through_text (through_links (part.Wire wire) told) ++ picture_open ++ path_text wire ++ section_close
+
+abbrev pub wire_sections_text : List PanelWire → List ToldWheel → List ℕ
+wire_sections_text wires told = numbered_words (wire_section told) 1 wires
+
+-- a link to a wire by its number, and the line that asks for it
+abbrev pub wire_link_open : ℕ → List ℕ
+wire_link_open number = codes "<p><a href=\"#wire" ++ decimal number ++ codes "\">"
+
+abbrev pub wire_link : ℕ → PanelWire → List ℕ
+wire_link number wire = wire_link_open number ++ wire_name wire ++ codes "</a>" ++ asking_text wire.line ++ codes "</p>\n"
+
+-- the link to a wire, where it has an end at a hub
+abbrev pub link_at : (hub : ℕ) → ℕ → PanelWire → List ℕ
+link_at hub number wire = if ends_at hub wire then wire_link number wire else []
+
+-- the same wire over the panel
+abbrev pub path_at : (hub : ℕ) → PanelWire → List ℕ
+path_at hub wire = if ends_at hub wire then path_text wire else []
+
+-- the front of the element of a hub
+abbrev pub hub_open : ℕ → List ℕ
+hub_open number = codes "<section id=\"hub" ++ decimal number ++ codes "\"><a href=\"#panel\">back</a>\n<p>The hub "
+
+abbrev pub hub_head : ℕ → Hub → List ℕ
+hub_head number hub = hub_open number ++ hub_text hub ++ codes ". Its wires:</p>\n"
+
+-- the element of a hub by its number, where a wire has an end there
+abbrev pub hub_element : List PanelWire → List ToldWheel → ℕ → Hub → List ℕ
+hub_element wires told number hub =
+    hub_head number hub ++ numbered_words (link_at number) 1 wires ++ through_text (through_links (part.Hub number) told) ++ picture_open
+    ++ flat_map (path_at number) wires ++ section_close
+
+abbrev pub hub_section : List PanelWire → List ToldWheel → ℕ → Hub → List ℕ
+hub_section wires told number hub = if has_wire_at number wires then hub_element wires told number hub else []
+
+-- The elements of wires, and behind them those of the hubs at which they have their ends.
+pub record AreWireSections (wires : List PanelWire) (told : List ToldWheel) (text : List ℕ) : Type 0 where
+  pub hubs : List Hub
+  pub all : AreHubs hubs
+  pub spelled : text ≡ wire_sections_text wires told ++ numbered_words (hub_section wires told) 1 hubs

@@ -1,0 +1,137 @@
+//! What is told of the printed characters of lines.
+
+ghost use Rattle.std.specs.Prelude.{◌≡◌, ◌≤◌, ◌<◌, ◌+◌, [], All, IfOk, OnOk, length};
+ghost use Rattle.std.specs.List.{flat_map, range_with_len};
+ghost use Rattle.card_code.specs.MostCards.{most_cards};
+ghost use Rattle.explanations.specs.Pages.{IsFoundLine};
+ghost use Rattle.explanations.specs.PlacedInRun.{PrintsLine};
+ghost use Rattle.page_sections.specs.WheelSections.Helper.{AreWaysOfLine, GainsTold, IsToldOf};
+ghost use Rattle.page_sections.specs.WheelSections.Told.{AreTold, printed_by, printed_on, printed_places};
+
+use card_code::Card;
+use explanation_text::wheel_text;
+use explanations::{Explanation, FoundLine, LineWays, find_lines};
+use placed_lines::PlacedLine;
+use setups::Setup;
+use std::alloc::{AllocError, Global};
+
+/// What is told of a wheel that printed a character.
+#[derive(Drop)]
+pub struct ToldWheel {
+    /// Why it printed the character; the explanation has the line and the wheel.
+    pub why: Explanation,
+    /// The words of the explanation.
+    pub words: String,
+}
+
+// What is told of a wheel of a line.
+fn tell_wheel(
+    alloc: Global,
+    setup: &Setup,
+    asked: &[(String, Setup)],
+    cards: &[Card],
+    placed: &PlacedLine,
+    line: &LineWays,
+    wheel: u8,
+) -> Result<ToldWheel, AllocError>
+    requires ways { AreWaysOfLine setup.now cards.now placed.now line.now }
+    requires range { (1 ≤ wheel) × (wheel ≤ 120) }
+    ensures { IfOk result (λ told. IsToldOf setup.now asked.now cards.now placed.now wheel told) }
+{
+    let _cards = cards;
+    let _placed = placed;
+    let why = line.wheel(alloc, setup, wheel)?;
+    let words = wheel_text(alloc, setup, asked, line, &why)?;
+    Ok(ToldWheel { why, words })
+}
+
+// What is told of a wheel of a line, where it printed a character.
+fn push_wheel(
+    alloc: Global,
+    told: &mut Vec<ToldWheel>,
+    setup: &Setup,
+    asked: &[(String, Setup)],
+    cards: &[Card],
+    placed: &PlacedLine,
+    line: &LineWays,
+    wheel: u8,
+) -> Result<(), AllocError>
+    requires ways { AreWaysOfLine setup.now cards.now placed.now line.now }
+    requires range { (1 ≤ wheel) × (wheel ≤ 120) }
+    ensures { OnOk result (GainsTold setup.now asked.now cards.now (printed_by placed.now wheel) told.old.items told.new.items) }
+{
+    let character = placed.text[wheel as usize - 1];
+    if character == b' ' {
+        return Ok(());
+    }
+    let one = tell_wheel(alloc, setup, asked, cards, placed, line, wheel)?;
+    told.push(one)?;
+    Ok(())
+}
+
+// What is told of the wheels of a line.
+fn push_wheels(
+    alloc: Global,
+    told: &mut Vec<ToldWheel>,
+    setup: &Setup,
+    asked: &[(String, Setup)],
+    cards: &[Card],
+    placed: &PlacedLine,
+    line: &LineWays,
+) -> Result<(), AllocError>
+    requires ways { AreWaysOfLine setup.now cards.now placed.now line.now }
+    ensures { OnOk result (GainsTold setup.now asked.now cards.now (printed_on placed.now) told.old.items told.new.items) }
+{
+    for passed in 0..120 {
+        push_wheel(alloc, told, setup, asked, cards, placed, line, passed + 1)?;
+    }
+    Ok(())
+}
+
+// What is told of a line, by the cycle that placed it.
+fn push_line(
+    alloc: Global,
+    told: &mut Vec<ToldWheel>,
+    setup: &Setup,
+    asked: &[(String, Setup)],
+    cards: &[Card],
+    placed: &PlacedLine,
+    found: &FoundLine,
+) -> Result<(), AllocError>
+    requires { IsFoundLine setup.now cards.now placed.now found.now }
+    ensures { OnOk result (GainsTold setup.now asked.now cards.now (printed_on placed.now) told.old.items told.new.items) }
+{
+    let line = LineWays::of(alloc, setup, *found)?;
+    push_wheels(alloc, told, setup, asked, cards, placed, &line)
+}
+
+/// What is told of the printed characters of lines that a setup of the panel prints of a deck of at most 999,999 cards: for each its
+/// explanation and the words of it, in the order of the lines and of their wheels. `asked` names who asks for wires, as for
+/// [`explanation_text::explain_text`]. Where the lines are the first ones of the run, the deck is run once, up to the last of them. Fails
+/// only where no memory is left.
+pub fn told_wheels(
+    alloc: Global,
+    setup: &Setup,
+    asked: &[(String, Setup)],
+    cards: &[Card],
+    lines: &[PlacedLine],
+) -> Result<Vec<ToldWheel>, AllocError>
+    requires few { length cards.now ≤ most_cards }
+    requires printed { All (PrintsLine setup.now cards.now) lines.now }
+    ensures { IfOk result (λ told. AreTold setup.now asked.now cards.now (printed_places lines.now) told.items) }
+{
+    let found = find_lines(alloc, setup, cards, lines)?;
+    let mut told = Vec::new(alloc);
+    for place in 0..lines.len() {
+        push_line(
+            alloc,
+            &mut told,
+            setup,
+            asked,
+            cards,
+            &lines[place],
+            &found[place],
+        )?;
+    }
+    Ok(told)
+}

@@ -1,0 +1,100 @@
+//! What came through a wire or a hub.
+
+ghost use Rattle.std.specs.Prelude.{◌≡◌, ◌++◌, OnOk};
+ghost use Rattle.std.specs.String.{string_bytes};
+ghost use Rattle.page_sections.specs.WireSections.Sections.{character_link, place_words, some_text, through_link, through_links, through_text, told_link};
+
+use crate::report_sheets::write_wheel_link;
+use crate::wheel_sections::ToldWheel;
+use crate::wire_sections::passing::{Part, came_through};
+use markup::push_escaped;
+use numerals::{push_between, push_numbered};
+use std::alloc::{AllocError, Global};
+
+// Where a character is printed.
+fn write_place(text: &mut String, page: u64, line: u32, wheel: u8) -> Result<(), AllocError>
+    ensures { OnOk result (string_bytes text.new ≡ string_bytes text.old ++ place_words page line wheel) }
+{
+    push_numbered(text, "page ", page)?;
+    push_numbered(text, " line ", line)?;
+    push_between(text, " wheel ", wheel, ": ")
+}
+
+// The link to a printed character.
+fn write_character(
+    text: &mut String,
+    page: u64,
+    line: u32,
+    wheel: u8,
+    character: u8,
+) -> Result<(), AllocError>
+    ensures { OnOk result (string_bytes text.new ≡ string_bytes text.old ++ character_link page line wheel character) }
+{
+    write_wheel_link(text, page, line, wheel)?;
+    write_place(text, page, line, wheel)?;
+    push_escaped(text, &[character])?;
+    text.push_str("</a>\n")
+}
+
+// The link to the character of a wheel that is told of.
+fn write_told_link(text: &mut String, told: &ToldWheel) -> Result<(), AllocError>
+    ensures { OnOk result (string_bytes text.new ≡ string_bytes text.old ++ told_link told.now) }
+{
+    let why = &told.why;
+    write_character(text, why.line.page, why.line.line, why.wheel, why.character)
+}
+
+// The link to the character of a wheel, where an impulse of it came through a part of the panel.
+fn write_link(text: &mut String, part: Part, told: &ToldWheel) -> Result<(), AllocError>
+    ensures { OnOk result (string_bytes text.new ≡ string_bytes text.old ++ through_link part told.now) }
+{
+    if !came_through(part, told) {
+        return Ok(());
+    }
+    write_told_link(text, told)
+}
+
+// The links to the characters of which an impulse came through a part of the panel.
+fn write_links(text: &mut String, part: Part, told: &[ToldWheel]) -> Result<(), AllocError>
+    ensures { OnOk result (string_bytes text.new ≡ string_bytes text.old ++ through_links part told.now) }
+{
+    for one in told {
+        write_link(text, part, one)?;
+    }
+    Ok(())
+}
+
+// What is said where there are links.
+fn write_some(text: &mut String, links: &str) -> Result<(), AllocError>
+    ensures { OnOk result (string_bytes text.new ≡ string_bytes text.old ++ some_text links.now) }
+{
+    text.push_str(
+        "<p>A way that is told of each of these printed characters leads through it:</p>\n<div>",
+    )?;
+    text.push_str(links)?;
+    text.push_str("</div>\n")
+}
+
+// What is said of what came through, by the links to it.
+fn write_said(text: &mut String, links: &str) -> Result<(), AllocError>
+    ensures { OnOk result (string_bytes text.new ≡ string_bytes text.old ++ through_text links.now) }
+{
+    if links.is_empty() {
+        return text.push_str("<p>No way that is told leads through it.</p>\n");
+    }
+    write_some(text, links)
+}
+
+// What came through a part of the panel.
+pub(crate) fn write_through(
+    alloc: Global,
+    text: &mut String,
+    part: Part,
+    told: &[ToldWheel],
+) -> Result<(), AllocError>
+    ensures { OnOk result (string_bytes text.new ≡ string_bytes text.old ++ through_text (through_links part told.now)) }
+{
+    let mut links = String::new(alloc);
+    write_links(&mut links, part, told)?;
+    write_said(text, &links)
+}

@@ -1,0 +1,4 @@
+pub mod Placing
+pub mod CarriageCycles
+pub mod FormFacts
+pub mod Laws

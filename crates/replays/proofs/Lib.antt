@@ -1,4 +1,0 @@
-mod Ending
-mod InText
-mod Standing
-mod Upcoming

@@ -1,2 +1,0 @@
-mod Refusing
-mod Printing

@@ -1,8 +1,0 @@
-use Rattle.std.specs.String.{string_bytes}
-use Rattle.panel_drawing.specs.Helper.{GainsHubs}
-use Rattle.wire_sections.specs.Sections.{hub_section}
-use Rattle.wire_sections.proofs.hub_sections.write_hubs.Given as goal
-
--- the hubs so far are written
-abbrev pub invariant-loop-passed : goal.invariant-loop-passed
-invariant-loop-passed l = GainsHubs (hub_section l.wires l.told) l.passed (string_bytes l.initial.text) (string_bytes l.text)
