@@ -107,8 +107,8 @@ module _ (chart : Chart) (deck : List ℕ) (listed : List Fault) (listing : IsLi
         (misfit next last.one tells)
 
 pub checks_tell_first_what_stops_runs : ChecksTellFirstWhatStopsRuns
-checks_tell_first_what_stops_runs chart deck fault written told listed stopped at_deck named listing =
-    by fault.cause stopped.has_cause stopped.is_first at_deck named
+checks_tell_first_what_stops_runs chart deck left met written told listed stopped at_deck named listing =
+    by met stopped.has_cause stopped.is_first at_deck named
   where
     cards : List (List ℕ)
     cards = stopped.cards
@@ -121,8 +121,8 @@ checks_tell_first_what_stops_runs chart deck fault written told listed stopped a
     by (cause.Invalid fault number) has fit at named =
         at_invalid chart deck listed listing cards stopped.valid.valid fault number told named has fit
     by (cause.Misfit found) has first at named =
-        at_misfit chart deck listed listing cards stopped.valid.valid stopped.rest first.card first.others first.next told stopped.is_read first.fit
-        first.are first.ended
+        at_misfit chart deck listed listing cards stopped.valid.valid (stopped.is_read.beyond ++ stopped.is_read.rest) first.card first.others
+        first.next told stopped.is_read.is_read first.fit first.are first.ended
         (ap (λ f. option_to_list (option_map misfit_told f)) first.is_first ∙ ap (λ f. f ∷ []) (sym named))
     by cause.Write has first at named = absurd (false≢true at)
     by cause.Memory has first at named = absurd (false≢true at)

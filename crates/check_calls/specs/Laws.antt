@@ -1,12 +1,11 @@
 -- A law of a check and a run over one deck.
-use Rattle.std.specs.Prelude.{◌≡◌, ℕ, Bool, true, false, List, Some, slice_get}
+use Rattle.std.specs.Prelude.{◌≡◌, ℕ, Bool, true, false, List, Option, Some, slice_get}
 use Rattle.commands.specs.Streamed.{IsToldOf}
 use Rattle.compile407.specs.Below.charts.Chart.{Chart}
 use Rattle.compile407.specs.Below.streamed_runs.Below.card_lines.declared.fault.ReadFault.TheVariants as read
 use Rattle.compile407.specs.Below.streamed_runs.Runs.{HasStopped}
 use Rattle.compile407.specs.Below.streamed_runs.declared.fault.StreamCause.{StreamCause}
 use Rattle.compile407.specs.Below.streamed_runs.declared.fault.StreamCause.TheVariants as cause
-use Rattle.compile407.specs.Below.streamed_runs.declared.fault.StreamFault.{StreamFault}
 use Rattle.check_calls.specs.DeckChecks.Listings.{IsListing}
 use Rattle.faults.specs.declared.fault.Fault.{Fault}
 
@@ -22,7 +21,7 @@ stops_at_deck other = false
 -- Where the deck stopped a run, what is told of the cause is the first of what a check lists of the deck.
 abbrev pub ChecksTellFirstWhatStopsRuns : Type 0
 ChecksTellFirstWhatStopsRuns =
-    (chart : Chart) (text : List ℕ) (fault : StreamFault) (written : List ℕ) (told : Fault) (listed : List Fault)
-    → HasStopped chart text fault written → stops_at_deck fault.cause ≡ true → IsToldOf fault.cause told
+    (chart : Chart) (text : List ℕ) (left : Option (List ℕ)) (met : StreamCause) (written : List ℕ) (told : Fault) (listed : List Fault)
+    → HasStopped chart text left met written → stops_at_deck met ≡ true → IsToldOf met told
     → IsListing chart text listed
     → slice_get listed 0 ≡ Some told
