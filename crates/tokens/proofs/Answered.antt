@@ -1,5 +1,5 @@
 -- What the answers of the readers say of lines and tokens, in words of the grammar.
-use Rattle.std.proofs.Common.{◌≡◌, ℕ, List, Option, Some, None, option_map, Result, Ok, Err, IfOk, IfSome, IfNone, refl, sym, ◌∙◌}
+use Rattle.std.proofs.Common.{◌≡◌, ℕ, List, Option, Some, None, IfSome, IfNone, sym, ◌∙◌}
 use Rattle.std.proofs.lemmas.Option.{same_Some}
 use Rattle.tokens.specs.Tokens.{HasTokens}
 use Rattle.tokens.specs.Dividing.{tokens_of}
@@ -50,48 +50,3 @@ no_number_to_by greatest token None same = λ number is.
 pub one_number : (token : List ℕ) (one other : ℕ) → IsNumber token one → IsNumber token other → one ≡ other
 one_number token one other is also = same_Some one other
     (sym (number_read token one is) ∙ number_read token other also)
-
--- a token that is no number is not read
-pub number_unread : (token : List ℕ) → ((number : ℕ) → ¬ IsNumber token number) → number_of token ≡ None
-number_unread token none = by (number_of token) refl
-  where
-    by : (read : Option ℕ) → number_of token ≡ read → read ≡ None
-    by None is = refl
-    by (Some n) is = absurd (none n (number_is token n is))
-
-pub number_to_unread : (greatest : ℕ) (token : List ℕ) → ((number : ℕ) → ¬ IsNumberTo greatest token number)
-    → number_to greatest token ≡ None
-number_to_unread greatest token none = by (number_to greatest token) refl
-  where
-    by : (read : Option ℕ) → number_to greatest token ≡ read → read ≡ None
-    by None is = refl
-    by (Some n) is = absurd (none n (number_to_is greatest token n is))
-
--- a line that has no tokens is not read
-pub tokens_unread : (line : List ℕ) → ((tokens : List (List ℕ)) → ¬ HasTokens line tokens) → tokens_of line ≡ None
-tokens_unread line none = by (tokens_of line) refl
-  where
-    by : (read : Option (List (List ℕ))) → tokens_of line ≡ read → read ≡ None
-    by None is = refl
-    by (Some tokens) is = absurd (none tokens (has_what_is_read line tokens is))
-
--- The relations have one answer: what is told by them is what is read.
-pub number_answered : (token : List ℕ) (answer : Option ℕ)
-    → IfSome answer (λ number. IsNumber token number) → IfNone answer ((number : ℕ) → ¬ IsNumber token number)
-    → answer ≡ number_of token
-number_answered token (Some n) is none = sym (number_read token n is)
-number_answered token None is none = sym (number_unread token none)
-
-pub number_to_answered : (greatest : ℕ) (token : List ℕ) (answer : Option ℕ)
-    → IfSome answer (λ number. IsNumberTo greatest token number) → IfNone answer ((number : ℕ) → ¬ IsNumberTo greatest token number)
-    → answer ≡ number_to greatest token
-number_to_answered greatest token (Some n) is none = sym (number_to_read greatest token n is)
-number_to_answered greatest token None is none = sym (number_to_unread greatest token none)
-
-pub tokens_answered : {V E : Type 0} (said : V → List (List ℕ)) (line : List ℕ) (answer : Result (Option V) E)
-    → IfOk answer (λ tokens. IfSome tokens (λ v. HasTokens line (said v)))
-    → IfOk answer (λ tokens. IfNone tokens ((others : List (List ℕ)) → ¬ HasTokens line others))
-    → IfOk answer (λ tokens. option_map said tokens ≡ tokens_of line)
-tokens_answered said line (Ok (Some v)) has none = sym (read_what_it_has has)
-tokens_answered said line (Ok None) has none = sym (tokens_unread line none)
-tokens_answered said line (Err fault) has none = tt

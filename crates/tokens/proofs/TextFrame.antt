@@ -67,11 +67,7 @@ title_by name version line = (come, gone)
         ap (are_title name version) (read_what_it_has has)
         ∙ and_from (bytes_eq name name) (bytes_eq version version) own_name own_version
 
--- The tests of a frame have one answer: what is told by the relation is what is read.
-pub larger_answered : (most_lines most_bytes : ℕ) (lines : List (List ℕ)) (answer : Bool)
-    → IsTrue answer ↔ IsLarger most_lines most_bytes lines → answer ≡ is_larger most_lines most_bytes lines
-larger_answered most_lines most_bytes lines answer tells = told_alike answer _ tells (larger_by most_lines most_bytes lines)
-
+-- The test of a title has one answer: what is told by the relation is what is read.
 pub title_answered : (name version line : List ℕ) (answer : Bool)
     → IsTrue answer ↔ IsTitleLine name version line → answer ≡ is_title_line name version line
 title_answered name version line answer tells = told_alike answer _ tells (title_by name version line)

@@ -3,6 +3,7 @@
 ghost use Rattle.std.specs.Prelude.{◌≡◌, ◌↔◌, ℕ, List, [], ◌∷◌, IsTrue, IfSome, IfNone};
 ghost use Rattle.card_code.specs.Lines.{lines_of};
 ghost use Rattle.tokens.specs.Frame.{IsLarger, IsEmptyLine, IsEndLine, IsTitleLine};
+ghost use Rattle.tokens.specs.FrameReading.{is_larger, is_title_line};
 ghost use Rattle.tokens.specs.Tokens.{HasTokens};
 
 use crate::line::{first_token, without_spaces};
@@ -24,7 +25,8 @@ pub enum Content<S> {
 
 /// Whether a text has more lines than a format has at most, or a line of more bytes than there are at most in one.
 pub fn is_larger(text: &[u8], most_lines: usize, most_bytes: usize) -> bool
-    ensures { IsTrue result ↔ IsLarger most_lines most_bytes (lines_of text.now) }
+    ensures value { result ≡ is_larger most_lines most_bytes (lines_of text.now) }
+    ensures larger { IsTrue result ↔ IsLarger most_lines most_bytes (lines_of text.now) }
 {
     let mut lines = 0;
     let mut rest = text;
@@ -40,7 +42,8 @@ pub fn is_larger(text: &[u8], most_lines: usize, most_bytes: usize) -> bool
 
 /// Whether a line is a format's name and its version alone. Spaces may stand before, between and after them.
 pub fn is_title_line(line: &[u8], name: &[u8], version: &[u8]) -> bool
-    ensures { IsTrue result ↔ IsTitleLine name.now version.now line.now }
+    ensures value { result ≡ is_title_line name.now version.now line.now }
+    ensures title { IsTrue result ↔ IsTitleLine name.now version.now line.now }
 {
     match after_word(line, name) {
         Some(after) => is_lone_word(after, version),

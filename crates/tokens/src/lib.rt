@@ -12,9 +12,9 @@
 //! `specs/` has the grammar apart from any scanner: `HasTokens`, `IsNumber` and `IsNumberTo` are relations,
 //! and what a reader answers is exactly what is related. `Frame` has what the text formats share: the size of a text, its first
 //! line, its empty lines, its END, the line at a number, and what stands after END. That a line has one list of tokens at most, and
-//! a token is one number at most, is a law of them. The files `Dividing`, `Steps`, `NumberReading`, `FrameReading` and `HelperLines` are
-//! words of the code of this crate and of those that read by it. No contract that a caller sees speaks of them, but for `is_space` of
-//! `Dividing`, by which a crate above says with which word a text begins.
+//! a token is one number at most, is a law of them. The files `Dividing`, `Steps`, `NumberReading` and `FrameReading`
+//! have the same as functions: the clauses named `value` say by them what is read, for the crates that read forms by it, and `is_space`
+//! of `Dividing` says with which word a text begins. `HelperLines` has the content of a line by its tokens.
 #![tactic(auto)]
 
 mod frame;

@@ -1,6 +1,6 @@
 //! Dividing a line into its tokens.
 
-ghost use Rattle.std.specs.Prelude.{◌≡◌, ◌≢◌, ◌+◌, ◌<◌, ◌≤◌, ℕ, List, ◌==◌, not, length, slice_index, IfOk, IfSome, IfNone};
+ghost use Rattle.std.specs.Prelude.{◌≡◌, ◌≢◌, ◌+◌, ◌<◌, ◌≤◌, ℕ, List, ◌==◌, not, length, slice_index, option_map, IfOk, IfSome, IfNone};
 ghost use Rattle.std.specs.List.{prefix_len};
 ghost use Rattle.tokens.specs.Tokens.{HasTokens, is_plain, is_inside};
 ghost use Rattle.tokens.specs.Texts.{texts};
@@ -19,6 +19,7 @@ use std::alloc::{AllocError, Global};
 ///
 /// `AllocError` only where memory was refused; the tokens so far are freed then.
 pub fn split_line<'a>(alloc: Global, line: &'a [u8]) -> Result<Option<Vec<&'a [u8]>>, AllocError>
+    ensures value { IfOk result (λ tokens. option_map (λ v. texts v.items) tokens ≡ tokens_of line.now) }
     ensures divided { IfOk result (λ tokens. IfSome tokens (λ v. HasTokens line.now (texts v.items))) }
     ensures not_divided { IfOk result (λ tokens. IfNone tokens ((others : List (List ℕ)) → ¬ HasTokens line.now others)) }
 {

@@ -19,6 +19,7 @@ fn read_digit(byte: u8) -> Option<u16>
 /// The number that a token is, 0 to 999: `0`, or 1 to 3 digits of which the first is no 0. `None` for any
 /// other token.
 pub fn read_number(token: &[u8]) -> Option<u16>
+    ensures value { result ≡ number_of token.now }
     ensures number { IfSome result (λ number. IsNumber token.now number) }
     ensures no_number { IfNone result ((number : ℕ) → ¬ IsNumber token.now number) }
     ensures small { IfSome result (λ number. number < 1000) }
@@ -45,6 +46,7 @@ fn read_digits(token: &[u8]) -> Option<u16>
 
 /// The number that a token is, where it is one of 1 to the greatest. `None` for any other token.
 pub fn read_number_to(greatest: u8, token: &[u8]) -> Option<u8>
+    ensures value { result ≡ number_to greatest token.now }
     ensures number { IfSome result (λ number. IsNumberTo greatest token.now number) }
     ensures no_number { IfNone result ((number : ℕ) → ¬ IsNumberTo greatest token.now number) }
 {

@@ -8,6 +8,5 @@ mod line;
 mod name;
 mod panel;
 mod read;
-mod scanner;
 
 pub use read::read_setup;

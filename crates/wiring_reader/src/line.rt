@@ -11,11 +11,10 @@ ghost use Rattle.wiring_text.specs.Statements.{may_be_wired};
 ghost use Rattle.wiring_text.specs.declared.statement.Statement.TheVariants.{Wire};
 
 use crate::name::{read_group, read_hub_name};
-use crate::scanner::{read_number, read_number_to, split_line};
 use hub_table::{Letters, Numbers};
 use hubs::Jack;
 use std::alloc::{AllocError, Global};
-use tokens::{Content, is};
+use tokens::{Content, is, read_number, read_number_to, split_line};
 use wiring_text::{FormNumbers, HubName, Statement, Version};
 
 /// The numbers of a line `FORM` with three numbers, or `None` for any other line.

@@ -4,8 +4,8 @@ ghost use Rattle.std.specs.Prelude.{◌≡◌, ◌≢◌, ◌<◌, ◌∷◌, �
 ghost use Rattle.std.specs.List.{slice_split};
 ghost use Rattle.wiring_reader.specs.Reading.{is_point, letters_spelled, numbers_from_three, pieces_after, numbers_spelled, name_spelled};
 
-use crate::scanner::read_number;
 use hub_table::{Letters, Numbers};
+use tokens::read_number;
 use wiring_text::HubName;
 
 /// The hub name that a token is: letters of the hub table, and as many numbers as hubs of these letters have, a point before

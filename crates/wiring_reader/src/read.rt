@@ -10,11 +10,10 @@ ghost use Rattle.wiring_text.specs.WiringFaults.{HasWiringFault};
 
 use crate::line::{read_form, read_line};
 use crate::panel::put;
-use crate::scanner::{is_larger, is_title_line};
 use card_code::next_line;
 use setups::{Setup, SetupFault, Tape};
 use std::alloc::Global;
-use tokens::Content;
+use tokens::{Content, is_larger, is_title_line};
 use wiring_text::{FormNumbers, Statement, Version, WiringFault};
 
 /// How many lines a wiring chart has at most.

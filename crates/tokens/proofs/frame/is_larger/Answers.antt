@@ -1,4 +1,4 @@
-use Rattle.std.proofs.Common.{refl}
+use Rattle.std.proofs.Common.{refl, sym}
 use Rattle.tokens.proofs.TextFrame.{larger_by}
 use Rattle.tokens.proofs.TextSize.{larger_here}
 use Rattle.tokens.proofs.frame.is_larger.Goals as goal
@@ -7,4 +7,4 @@ pub returns-then-lines-most_lines : goal.returns-then-lines-most_lines
 returns-then-lines-most_lines c =
     let large = larger_here c.args.most_lines c.args.most_bytes _ _ _ _ _ c.in-Some.ensures.first c.loop-line.invariant.1
     c.then-lines-most_lines.either in
-    (λ _. (larger_by c.args.most_lines c.args.most_bytes _).0 large, λ _. refl)
+    record { value = sym large; larger = (λ _. (larger_by c.args.most_lines c.args.most_bytes _).0 large, λ _. refl) }

@@ -6,7 +6,7 @@ use Rattle.tokens.proofs.line.split_line.Goals as goal
 pub returns : goal.returns
 returns c =
     let same = led_by-all _ c.loop-rest.rest.now c.args.line.now (sym c.loop-rest-test.ensures) c.loop-rest.invariant.same in
-    record { divided = divided_by c.args.line.now _ same; not_divided = tt }
+    record { value = same; divided = divided_by c.args.line.now _ same; not_divided = tt }
 
 pub returns-in_default-clause-not_divided : goal.returns-in_default-clause-not_divided
 returns-in_default-clause-not_divided c =
