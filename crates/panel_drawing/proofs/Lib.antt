@@ -1,4 +1,2 @@
-mod Ordered
 mod Places
-mod WireLists
 pub mod Written

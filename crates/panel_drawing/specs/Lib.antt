@@ -1,4 +1,3 @@
 pub mod Blocks
 pub mod Drawing
 pub mod Helper
-pub mod Wires

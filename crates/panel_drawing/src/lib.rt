@@ -1,16 +1,14 @@
 //! The control panel as a drawing: our own schematic, not the machine's real layout.
 //!
 //! Each kind of hub is a labelled block, each hub a dot, and the exits stand above the entries. [`hub_place`] gives the place of a hub:
-//! no two hubs share one ([`hubs_have_places_of_their_own`]). [`panel_wires`] lists the wires of a setup, each once, [`write_drawing`]
-//! writes the drawing as SVG, with a curve for each wire of a list. [`write_picture_open`] begins a picture that shows the drawing once
-//! more, and [`write_way`] writes the way of an impulse over it.
+//! no two hubs share one ([`hubs_have_places_of_their_own`]). [`write_drawing`] writes the drawing as SVG, with a curve for each wire of a
+//! list. [`write_picture_open`] begins a picture that shows the drawing once more, and [`write_way`] writes the way of an impulse over it.
 //! `specs/Drawing.antt` says what is written.
 #![tactic(auto)]
 
 mod blocks;
 mod drawing;
 mod laws;
-mod wires;
 
 pub use blocks::{Block, Place, hub_place};
 pub use drawing::{
@@ -21,4 +19,3 @@ pub use laws::{
     blocks_have_all_hubs, exits_stand_above_entries, hubs_have_places_of_their_own,
     places_are_on_the_drawing,
 };
-pub use wires::panel_wires;

@@ -1,7 +1,9 @@
 pub mod CarryJoins
 pub mod CarryWires
+pub mod Ordered
 pub mod RowLemmas
 pub mod SameTapes
 pub mod StopLemmas
 pub mod WiredLemmas
+pub mod WireLists
 pub mod WiringLemmas

@@ -8,6 +8,7 @@ mod fault;
 mod laws;
 mod setup;
 mod tape;
+mod wires;
 
 pub use fault::SetupFault;
 pub use hubs::{Group, Hub, Jack};

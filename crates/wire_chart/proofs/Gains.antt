@@ -1,13 +1,11 @@
 -- Lines that a text gains one after another.
-use Rattle.std.proofs.Common.{◌≡◌, ◌≢◌, Bool, true, false, Result, Ok, Err, eqb, true≢false, ◌⊎◌, inl, inr, ℕ, ◌+◌, ◌<◌, List, [], ◌∷◌, ◌++◌, refl, sym, ap, ◌∙◌, subst, arith, append-nil, append_assoc}
+use Rattle.std.proofs.Common.{◌≡◌, ◌⊎◌, inl, inr, ℕ, List, [], ◌∷◌, ◌++◌, sym, ap, ◌∙◌, subst, append-nil, append_assoc}
 use Rattle.std.specs.List.{Contains, flat_map}
 use Rattle.std.proofs.lemmas.List.Elements.{Contains-append_left, Contains-append_right, Contains-append_cases}
 use Rattle.std.proofs.lemmas.Grind.{flat_map-append}
-use Rattle.std.proofs.lemmas.Bool.{eqb-true, eq-eqb}
-use Rattle.std.specs.Result.{OnOk}
 use Rattle.wire_chart.specs.WrittenText.{ended}
 use Rattle.wire_chart.specs.Writing.{GainsLines}
-use Rattle.wire_chart.proofs.Ordered.{pairs_none, pairs_one, pairs_append, contains_none, contains_one, contains_first}
+use Rattle.setups.proofs.Ordered.{pairs_none, pairs_one, pairs_append, contains_none, contains_one, contains_first}
 
 -- no line
 pub gains_none : {A : Type 0} (Is : A → Type 0) (Before : A → A → Type 0) (line_of : A → List ℕ) (old new : List ℕ)
@@ -68,16 +66,3 @@ gains_same One Is Before line_of old new gains there back = record {
   in_order = gains.in_order;
   gained = gains.gained;
 }
-
--- what follows where a call gave no error
-pub on_ok : {T E : Type 0} (r : Result T E) (P Q : Type 0) → (P → Q) → OnOk r P → OnOk r Q
-on_ok (Ok x) P Q f p = f p
-on_ok (Err e) P Q f p = tt
-
--- a number below the next one
-pub below_or_at : (n m : ℕ) → n < m + 1 → (n < m) ⊎ (n ≡ m)
-below_or_at n m h = decide_at (eqb n m) refl
-  where
-    decide_at : (b : Bool) → eqb n m ≡ b → (n < m) ⊎ (n ≡ m)
-    decide_at true e = inr (eqb-true n m e)
-    decide_at false e = let apart : n ≢ m = λ same. true≢false (sym (eq-eqb n m same) ∙ e) in inl (omega arith)

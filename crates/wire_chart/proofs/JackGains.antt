@@ -9,7 +9,8 @@ use Rattle.hubs.specs.declared.jack.Jack.{Jack}
 use Rattle.hubs.specs.declared.jack.Jack.TheVariants as jacks
 use Rattle.wire_chart.specs.WrittenText.{ended, jack_line, IsJackBefore}
 use Rattle.wire_chart.specs.Writing.{GainsJacks, IsJackAt, IsJackBelow}
-use Rattle.wire_chart.proofs.Gains.{gains_none, gains_one, gains_more, gains_same, below_or_at}
+use Rattle.setups.proofs.WireLists.{below_or_at}
+use Rattle.wire_chart.proofs.Gains.{gains_none, gains_one, gains_more, gains_same}
 
 -- a plugged jack is one of the panel
 pub plugged_in_range : (wiring : Wiring) (jack : Jack) → HasJack wiring jack → is_jack_in_range jack ≡ true

@@ -9,7 +9,7 @@ use Rattle.setups.specs.Wiring.{Wiring, HasWire}
 use Rattle.wire_chart.specs.WrittenText.{carry_form, wire_form}
 use Rattle.wire_chart.specs.declared.form.WireForm.TheVariants.{Couple}
 use Rattle.wiring_text.specs.declared.statement.Version.TheVariants.{Second}
-use Rattle.wire_chart.proofs.Gains.{below_or_at}
+use Rattle.setups.proofs.WireLists.{below_or_at}
 
 -- no wire from the exit to an entry of a lower number couples groups
 abbrev pub NoneTo : Wiring → Hub → ℕ → Type 0

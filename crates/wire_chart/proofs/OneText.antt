@@ -5,7 +5,8 @@ use Rattle.setups.specs.Tapes.{CarriageTape, SameTape}
 use Rattle.setups.specs.Wiring.{IsSameSetup, Wiring}
 use Rattle.hubs.specs.declared.hub.Hub.{Hub}
 use Rattle.hubs.specs.declared.jack.Jack.{Jack}
-use Rattle.wire_chart.specs.WrittenText.{ArePartsOf, IsWritten, IsWrittenIn, IsStopBefore, IsJackBefore, IsHubBefore, IsLineBefore, IsWireBefore, JoinsGroups, ended, form_line, form_place, parts_text, title_line}
+use Rattle.setups.specs.Wires.{IsHubBefore, IsWireBefore}
+use Rattle.wire_chart.specs.WrittenText.{ArePartsOf, IsWritten, IsWrittenIn, IsStopBefore, IsJackBefore, IsLineBefore, JoinsGroups, ended, form_line, form_place, parts_text, title_line}
 use Rattle.wire_chart.proofs.Ordered.{IsOneWay, same_list}
 use Rattle.wiring_text.specs.declared.statement.Version.{Version}
 use Rattle.wiring_text.specs.declared.statement.Version.TheVariants.{First, Second}

@@ -17,7 +17,8 @@ use Rattle.wiring_text.specs.WiringText.{IsSetupOf, ReadsAs}
 use Rattle.wire_chart.specs.WrittenText.{ArePartsOf, IsWrittenIn, title_line, form_line, IsStopBefore, IsJackBefore, IsLineBefore}
 use Rattle.wiring_text.specs.declared.statement.Statement.{Statement}
 use Rattle.wiring_text.specs.declared.statement.Statement.TheVariants.{Stop, Plug, Wire}
-use Rattle.wire_chart.proofs.Ordered.{pairs_none, pairs_append, contains_none, contains_mapped, contains_unmapped, pairs_mapped}
+use Rattle.setups.proofs.Ordered.{pairs_none, pairs_append, contains_none}
+use Rattle.wire_chart.proofs.Ordered.{contains_mapped, contains_unmapped, pairs_mapped}
 use Rattle.wire_chart.proofs.OneText.{stops_one_way, jacks_one_way, lines_one_way}
 use Rattle.wire_chart.proofs.WrittenSaid.{stop_fits, wire_fits}
 use Rattle.wire_chart.proofs.Ordered.{IsOneWay, all_mapped}

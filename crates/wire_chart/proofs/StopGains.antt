@@ -3,7 +3,8 @@ use Rattle.std.proofs.Common.{◌≡◌, inl, inr, ℕ, ◌+◌, ◌<◌, ◌≤
 use Rattle.setups.specs.Tapes.{CarriageTape, IsCarriageTape, IsStop, IsStopOf, has_stop}
 use Rattle.wire_chart.specs.WrittenText.{ended, stop_line, IsStopBefore}
 use Rattle.wire_chart.specs.Writing.{GainsStops, IsStopAt, IsStopAbove, IsStopIn, IsStopBelow}
-use Rattle.wire_chart.proofs.Gains.{gains_none, gains_one, gains_more, gains_same, below_or_at}
+use Rattle.setups.proofs.WireLists.{below_or_at}
+use Rattle.wire_chart.proofs.Gains.{gains_none, gains_one, gains_more, gains_same}
 
 -- a stop by its channel and its line
 stop_is : (stop : ℕ × ℕ) (channel line : ℕ) → stop.0 ≡ channel → stop.1 ≡ line → stop ≡ (channel, line)

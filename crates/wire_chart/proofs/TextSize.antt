@@ -17,7 +17,8 @@ use Rattle.hubs.specs.declared.hub.Group.{Group}
 use Rattle.hubs.specs.declared.hub.Hub.{Hub}
 use Rattle.hubs.specs.declared.jack.Jack.{Jack}
 use Rattle.wiring_text.specs.WiringText.{IsTooLarge}
-use Rattle.wire_chart.specs.WrittenText.{ArePartsOf, carry_form, form_place, title_line, wire_form, form_line, stop_line, jack_line, wire_line, IsStopBefore, IsJackBefore, IsHubBefore, IsLineBefore}
+use Rattle.setups.specs.Wires.{IsHubBefore}
+use Rattle.wire_chart.specs.WrittenText.{ArePartsOf, carry_form, form_place, title_line, wire_form, form_line, stop_line, jack_line, wire_line, IsStopBefore, IsJackBefore, IsLineBefore}
 use Rattle.wiring_text.specs.declared.statement.Statement.TheVariants.{Plug}
 use Rattle.wire_chart.proofs.HubRanges.{exit_number, entry_number}
 use Rattle.wire_chart.proofs.JackGains.{place_within}

@@ -15,7 +15,7 @@ use Rattle.wire_chart.specs.WrittenText.{IsWrittenIn, stop_line, wire_line}
 use Rattle.wiring_text.specs.declared.statement.Statement.{Statement}
 use Rattle.wiring_text.specs.declared.statement.Statement.TheVariants.{Stop, Wire}
 use Rattle.wire_chart.proofs.JackGains.{plugged_in_range}
-use Rattle.wire_chart.proofs.Ordered.{contains_first, contains_more}
+use Rattle.setups.proofs.Ordered.{contains_first, contains_more}
 use Rattle.wire_chart.proofs.WrittenBytes.{is_inner}
 use Rattle.wire_chart.proofs.WrittenSaid.{IsSaidLine, stop_said, wire_said}
 use Rattle.wiring_text.specs.declared.statement.Version.{Version}

@@ -1,11 +1,10 @@
 -- Writing a setup part by part: what a text gains by lines, one for each thing that is so. These are steps between the code
 -- and WrittenText, which says what a whole text is.
-use Rattle.std.specs.Prelude.{◌≡◌, ◌↔◌, ℕ, ◌<◌, List, ◌++◌, AllPairs, Contains, Some}
+use Rattle.std.specs.Prelude.{◌≡◌, ◌↔◌, ℕ, ◌<◌, List, ◌++◌, AllPairs, Contains}
 use Rattle.std.specs.List.{flat_map}
-use Rattle.hubs.specs.Hubs.{number_of}
 use Rattle.hubs.specs.Jacks.{jack_place}
 use Rattle.setups.specs.Tapes.{CarriageTape, IsStopOf}
-use Rattle.setups.specs.Wiring.{Wiring, HasJack, IsWireOf}
+use Rattle.setups.specs.Wiring.{Wiring, HasJack}
 use Rattle.hubs.specs.declared.hub.Hub.{Hub}
 use Rattle.hubs.specs.declared.jack.Jack.{Jack}
 use Rattle.wire_chart.specs.declared.form.WireForm.{WireForm}
@@ -69,35 +68,6 @@ pub record IsJackBelow (wiring : Wiring) (place : ℕ) (jack : Jack) : Type 0 wh
   pub there : HasJack wiring jack
   pub place_below : jack_place jack < place
 
--- the hub's number is this one, and among the numbers
-pub record IsListedAt (numbers : List ℕ) (number : ℕ) (hub : Hub) : Type 0 where
-  pub numbered : number_of hub ≡ Some number
-  pub listed : Contains numbers number
-
--- a wire from this exit to the entry of this number, if it is among the entries
-pub record IsWireTo (exit : Hub) (entries : List ℕ) (number : ℕ) (wire : Hub × Hub) : Type 0 where
-  pub exit_is : wire.0 ≡ exit
-  pub entry : IsListedAt entries number wire.1
-
--- a wire from this exit to one of the entries, of a lower number than this one
-pub record IsWireToBelow (exit : Hub) (entries : List ℕ) (number : ℕ) (wire : Hub × Hub) : Type 0 where
-  pub exit_is : wire.0 ≡ exit
-  pub to : ℕ
-  pub entry : IsListedAt entries to wire.1
-  pub below : to < number
-
--- a wire from this exit to one of the entries
-pub record IsWireToAny (exit : Hub) (entries : List ℕ) (wire : Hub × Hub) : Type 0 where
-  pub exit_is : wire.0 ≡ exit
-  pub to : ℕ
-  pub entry : IsListedAt entries to wire.1
-
--- a wire of the setup from the exit of this number
-pub record IsWireFrom (wiring : Wiring) (number : ℕ) (wire : Hub × Hub) : Type 0 where
-  pub there : IsWireOf wiring wire
-  pub numbered : number_of wire.0 ≡ Some number
-
--- a wire of the setup from an exit of a lower number
-pub record IsWireFromBelow (wiring : Wiring) (number : ℕ) (wire : Hub × Hub) : Type 0 where
-  pub there : IsWireOf wiring wire
-  pub below : there.number < number
+-- this wire
+abbrev pub IsWire : Hub × Hub → Hub × Hub → Type 0
+IsWire one wire = wire ≡ one

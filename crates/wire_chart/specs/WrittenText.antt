@@ -5,9 +5,10 @@ use Rattle.std.specs.Prelude.{◌≡◌, ◌↔◌, ◌⊎◌, ℕ, ◌<◌, tru
 use Rattle.std.specs.List.{flat_map}
 use Rattle.hubs.specs.Carries.{is_one_group}
 use Rattle.hubs.specs.HubText.{hub_text, pointed}
-use Rattle.hubs.specs.Hubs.{carry_into, carry_out_of, number_of}
+use Rattle.hubs.specs.Hubs.{carry_into, carry_out_of}
 use Rattle.hubs.specs.Jacks.{jack_place}
 use Rattle.setups.specs.Tapes.{CarriageTape, has_stop}
+use Rattle.setups.specs.Wires.{IsWireBefore}
 use Rattle.setups.specs.Wiring.{Wiring, HasWire, HasJack}
 use Rattle.hubs.specs.declared.hub.Group.{Group}
 use Rattle.hubs.specs.declared.hub.Hub.{Hub}
@@ -89,18 +90,6 @@ IsStopBefore one other = (one.0 < other.0) ⊎ ((one.0 ≡ other.0) × (one.1 < 
 -- one jack stands before another
 abbrev pub IsJackBefore : Jack → Jack → Type 0
 IsJackBefore one other = jack_place one < jack_place other
-
--- one hub stands before another in the hub table
-pub record IsHubBefore (one other : Hub) : Type 0 where
-  pub number : ℕ
-  pub other_number : ℕ
-  pub numbered : number_of one ≡ Some number
-  pub other_numbered : number_of other ≡ Some other_number
-  pub before : number < other_number
-
--- one wire stands before another of the same form: by its exit, then by its entry
-abbrev pub IsWireBefore : Hub × Hub → Hub × Hub → Type 0
-IsWireBefore one other = IsHubBefore one.0 other.0 ⊎ ((one.0 ≡ other.0) × IsHubBefore one.1 other.1)
 
 -- the order of the forms: rings, wires that couple groups, all others
 abbrev pub form_place : WireForm → ℕ

@@ -1,17 +1,16 @@
 //! Writing a setup as a wiring chart.
 
-ghost use Rattle.std.specs.Prelude.{◌≡◌, ◌≢◌, ◌↔◌, ◌++◌, ◌<◌, ◌≤◌, true, false, All, Contains, Some, None, IfOk, IsTrue, OnOk, codes};
+ghost use Rattle.std.specs.Prelude.{◌≡◌, ◌++◌, AllPairs, Contains, Some, IfOk, OnOk, codes};
 ghost use Rattle.std.specs.String.{string_bytes};
-ghost use Rattle.hubs.specs.Hubs.{carry_out_of};
 ghost use Rattle.hubs.specs.declared.hub.Hub.{Hub};
 ghost use Rattle.hubs.specs.declared.hub.Hub.TheVariants.{CI, CO};
 ghost use Rattle.setups.specs.Tapes.{IsCarriageTape, IsStopOf};
+ghost use Rattle.setups.specs.Wires.{IsWireBefore};
 ghost use Rattle.setups.specs.Wiring.{HasJack, IsWireOf};
-ghost use Rattle.wire_chart.specs.declared.form.WireForm.TheVariants.{Plain};
 ghost use Rattle.wiring_text.specs.declared.statement.Version.TheVariants.{Second};
 ghost use Rattle.wiring_text.specs.WiringText.{ReadsAs};
 ghost use Rattle.wire_chart.specs.WrittenText.{IsWritten, IsWrittenIn, carry_line, ended, form_line, stop_line, jack_line, plain_line, title_line, wire_line};
-ghost use Rattle.wire_chart.specs.Writing.{GainsAllWires, GainsStops, GainsJacks, GainsWires, IsStopAt, IsStopIn, IsJackAt, IsWireTo, IsWireToAny, IsWireFrom};
+ghost use Rattle.wire_chart.specs.Writing.{GainsAllWires, GainsStops, GainsJacks, GainsWires, IsStopAt, IsStopIn, IsJackAt, IsWire};
 
 use crate::form::{WireForm, is_same_form, wire_form};
 use crate::version::version_of;
@@ -163,101 +162,44 @@ pub(crate) fn write_all_wires(
 ) -> Result<(), AllocError>
     ensures { OnOk result (GainsAllWires version (IsWireOf setup.now) (string_bytes text.old) (string_bytes text.new)) }
 {
-    write_wires(text, version, WireForm::Ring, setup)?;
-    write_wires(text, version, WireForm::Couple, setup)?;
-    write_wires(text, version, WireForm::Plain, setup)
+    let wires = setup.wires(*text.allocator())?;
+    let wires = wires.as_slice();
+    write_wires(text, version, WireForm::Ring, wires)?;
+    write_wires(text, version, WireForm::Couple, wires)?;
+    write_wires(text, version, WireForm::Plain, wires)
 }
 
-// The wires of a form, by the number of the exit and then that of the entry. No wire leads from a hub that is no exit.
+// The wires of a form, in their order.
 fn write_wires(
     text: &mut String,
     version: Version,
     form: WireForm,
-    setup: &Setup,
+    wires: &[(Hub, Hub)],
 ) -> Result<(), AllocError>
-    ensures { OnOk result (GainsWires version form (IsWireOf setup.now) (string_bytes text.old) (string_bytes text.new)) }
+    requires ordered { AllPairs IsWireBefore wires.now }
+    ensures { OnOk result (GainsWires version form (Contains wires.now) (string_bytes text.old) (string_bytes text.new)) }
 {
-    for number in 1..1937 {
-        write_wires_from(text, version, form, setup, number)?;
+    for wire in wires {
+        write_wire(text, version, form, *wire)?;
     }
     Ok(())
 }
 
-// The wires of a form from the hub of a number, by the number of the entry.
-fn write_wires_from(
+// A wire, if it is of the form.
+fn write_wire(
     text: &mut String,
     version: Version,
     form: WireForm,
-    setup: &Setup,
-    number: u32,
+    wire: (Hub, Hub),
 ) -> Result<(), AllocError>
-    ensures { OnOk result (GainsWires version form (IsWireFrom setup.now number) (string_bytes text.old) (string_bytes text.new)) }
+    ensures { OnOk result (GainsWires version form (IsWire wire) (string_bytes text.old) (string_bytes text.new)) }
 {
-    let Some(exit) = Hub::of_number(number) else {
-        return Ok(());
-    };
-    if !may_leave(form, exit) {
-        return Ok(());
+    let (exit, entry) = wire;
+    if is_same_form(wire_form(version, exit, entry), form) {
+        write_wire_line(text, version, exit, entry)
+    } else {
+        Ok(())
     }
-    let entries = setup.entries_of(exit);
-    if entries.is_empty() {
-        return Ok(());
-    }
-    write_wires_to(text, version, form, exit, entries)
-}
-
-// Whether a wire of a form may leave a hub.
-fn may_leave(form: WireForm, exit: Hub) -> bool
-    ensures { result ≡ false → (carry_out_of exit ≡ None) × (form ≢ Plain) }
-{
-    is_same_form(form, WireForm::Plain) || carry_out_of(exit).is_some()
-}
-
-// The wires of a form from an exit to the entries of these numbers.
-fn write_wires_to(
-    text: &mut String,
-    version: Version,
-    form: WireForm,
-    exit: Hub,
-    entries: &[u16],
-) -> Result<(), AllocError>
-    requires entries { All (λ number. (1041 ≤ number) × (number ≤ 1936)) entries.now }
-    ensures { OnOk result (GainsWires version form (IsWireToAny exit entries.now) (string_bytes text.old) (string_bytes text.new)) }
-{
-    for number in 1041..1937 {
-        write_wire_to(text, version, form, exit, entries, number)?;
-    }
-    Ok(())
-}
-
-// The wire from an exit to the entry of a number, if that is among the entries and the wire is of the form.
-fn write_wire_to(
-    text: &mut String,
-    version: Version,
-    form: WireForm,
-    exit: Hub,
-    entries: &[u16],
-    number: u16,
-) -> Result<(), AllocError>
-    ensures { OnOk result
-        (GainsWires version form (IsWireTo exit entries.now number) (string_bytes text.old) (string_bytes text.new)) }
-{
-    if !is_listed(entries, number) {
-        return Ok(());
-    }
-    match Hub::of_number(u32::from(number)) {
-        Some(entry) if is_same_form(wire_form(version, exit, entry), form) => {
-            write_wire_line(text, version, exit, entry)
-        }
-        _ => Ok(()),
-    }
-}
-
-// Whether a number is among the numbers.
-fn is_listed(numbers: &[u16], number: u16) -> bool
-    ensures { IsTrue result ↔ Contains numbers.now number }
-{
-    numbers.contains(&number)
 }
 
 // The line of a wire.

@@ -4,4 +4,4 @@ use Rattle.wire_chart.proofs.version.version_of_text.Goals as goal
 
 pub returns-in-Some : goal.returns-in-Some
 returns-in-Some c =
-    second_read c.args.text.now c.in-Some.first.now _ c.in-Some.ensures.first (c.if-is_title_line.ensures.0 refl)
+    second_read c.args.text.now c.in-Some.first.now _ c.in-Some.ensures.first (c.if-is_title_line.ensures.title.0 refl)

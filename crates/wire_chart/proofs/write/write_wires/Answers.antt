@@ -1,16 +1,20 @@
 use Rattle.std.specs.String.{string_bytes}
-use Rattle.wire_chart.proofs.WireGains.{no_exits, exit_more, all_exits}
+use Rattle.hubs.specs.declared.hub.Hub.{Hub}
+use Rattle.hubs.specs.declared.hub.Hub.TheVariants.{FR}
+use Rattle.wire_chart.proofs.WireGains.{no_wire, wire_next, wires_last}
 use Rattle.wire_chart.proofs.write.write_wires.Goals as goal
 
-pub loop-number-init : goal.loop-number-init
-loop-number-init c = no_exits c.args.version c.args.form c.args.setup.now (string_bytes c.args.text.now)
+pub loop-wire-init : goal.loop-wire-init
+loop-wire-init c = no_wire c.args.version c.args.form (string_bytes c.args.text.now)
 
-pub loop-number-preserved : goal.loop-number-preserved
-loop-number-preserved c =
-    exit_more c.args.version c.args.form c.args.setup.now c.loop-number.number (string_bytes c.args.text.now) (string_bytes c.loop-number.text)
-    (string_bytes c.write_wires_from.new.text) c.loop-number.invariant c.in_ok-write_wires_from.ensures
+pub loop-wire-preserved : goal.loop-wire-preserved
+loop-wire-preserved c =
+    let d : Hub × Hub = (FR 0, FR 0) in
+    wire_next c.args.version c.args.form c.args.wires.now c.loop-wire.wire-index d (string_bytes c.args.text.now)
+    (string_bytes c.loop-wire.text) (string_bytes c.write_wire.new.text) c.requires.ordered c.loop-wire-test.true
+    c.loop-wire.invariant c.in_ok-write_wire.ensures
 
 pub returns : goal.returns
 returns c =
-    all_exits c.args.version c.args.form c.args.setup.now c.loop-number.number (string_bytes c.args.text.now) (string_bytes c.loop-number.text)
-    c.loop-number-test.false c.loop-number.invariant
+    wires_last c.args.version c.args.form c.args.wires.now c.loop-wire.wire-index (string_bytes c.args.text.now)
+    (string_bytes c.loop-wire.text) c.loop-wire-test.false c.loop-wire.invariant

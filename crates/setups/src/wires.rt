@@ -1,25 +1,23 @@
 //! The wires of a setup, one by one.
 
 ghost use Rattle.std.specs.Prelude.{◌≡◌, ◌≤◌, ◌↔◌, true, All, Contains, IfOk, IsTrue, OnOk};
-ghost use Rattle.hubs.specs.Hubs.{is_hub_in_range};
-ghost use Rattle.setups.specs.Wiring.{HasWire};
-ghost use Rattle.wire_chart.specs.Writing.{IsWireFrom, IsWireTo, IsWireToAny};
-ghost use Rattle.panel_drawing.specs.Wires.{AreWiresOf, GainsWires};
+ghost use Rattle.setups.specs.Wires.{AreWiresOf, GainsWires, IsWireFrom, IsWireTo, IsWireToAny};
 
+use crate::setup::Setup;
 use hubs::Hub;
-use setups::Setup;
 use std::alloc::{AllocError, Global};
 
-/// The wires of a setup, each once, as exit and entry, by the number of the exit and then that of the entry. Fails only where no memory is
-/// left.
-pub fn panel_wires(alloc: Global, setup: &Setup) -> Result<Vec<(Hub, Hub)>, AllocError>
-    ensures { IfOk result (λ wires. AreWiresOf setup.now wires.items) }
-{
-    let mut wires = Vec::new(alloc);
-    for number in 1..1937 {
-        list_from(&mut wires, setup, number)?;
+impl Setup {
+    /// The wires, each once, as exit and entry, by the number of the exit and then that of the entry. Fails only where no memory is left.
+    pub fn wires(&self, alloc: Global) -> Result<Vec<(Hub, Hub)>, AllocError>
+        ensures { IfOk result (λ wires. AreWiresOf self.now wires.items) }
+    {
+        let mut wires = Vec::new(alloc);
+        for number in 1..1937 {
+            list_from(&mut wires, self, number)?;
+        }
+        Ok(wires)
     }
-    Ok(wires)
 }
 
 // The wires from the hub of a number.

@@ -1,8 +1,9 @@
 -- Lists whose elements stand in order, and what they contain.
-use Rattle.std.proofs.Common.{◌≡◌, inl, inr, List, [], ◌∷◌, ◌++◌, refl, sym, arith, suc}
+use Rattle.std.proofs.Common.{◌≡◌, ◌<◌, inl, inr, ℕ, List, [], ◌∷◌, ◌++◌, refl, subst, sym, arith, zero, suc, get_or, length, take}
 use Rattle.std.specs.List.{All, AllPairs, Contains}
 use Rattle.std.proofs.lemmas.List.Elements.{All-append, Contains-append_right, Contains-push_cases, All-nil, All-cons}
 use Rattle.std.proofs.lemmas.List.Kept.{AllPairs-cons}
+use Rattle.hub_table.proofs.KindLemmas.{first_or_other}
 
 -- what the first of a list in order stands before
 pub pairs_head : {X : Type 0} (R : X → X → Type 0) (x : X) (xs : List X) → AllPairs R (x ∷ xs) → All (R x) xs
@@ -47,3 +48,15 @@ pairs_append R (x ∷ xs) ys one other across =
     (All-append (R x) xs ys (pairs_head R x xs one)
     (all_from_each (R x) ys (λ y has. across x y (contains_first x xs) has)))
     (pairs_append R xs ys (pairs_tail R x xs one) other (λ a b has also. across a b (contains_more x xs a has) also))
+
+-- what stands before a place of a list in order
+pub pairs_before : {X : Type 0} (R : X → X → Type 0) (xs : List X) (place : ℕ) (d x : X) → AllPairs R xs → place < length xs
+    → Contains (take place xs) x → R x (get_or xs place d)
+pairs_before R [] place d x ordered within has = absurd (omega (arith, within))
+pairs_before R (y ∷ xs) zero d x ordered within has = absurd (contains_none x has)
+pairs_before R (y ∷ xs) (suc place) d x ordered within has =
+    let less : place < length xs = omega (arith, within) in
+    elim (first_or_other y (take place xs) x has) [
+      | inl e ↦ subst (λ z. R z (get_or xs place d)) (sym e) (pairs_head R y xs ordered place d less)
+      | inr h ↦ pairs_before R xs place d x (pairs_tail R y xs ordered) less h
+    ]

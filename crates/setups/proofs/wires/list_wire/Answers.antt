@@ -1,7 +1,7 @@
 use Rattle.std.proofs.Common.{refl}
 use Rattle.std.proofs.lemmas.Bool.{false≢true}
-use Rattle.panel_drawing.proofs.WireLists.{no_entry, not_listed, wire_gained}
-use Rattle.panel_drawing.proofs.wires.list_wire.Goals as goal
+use Rattle.setups.proofs.WireLists.{no_entry, not_listed, wire_gained}
+use Rattle.setups.proofs.wires.list_wire.Goals as goal
 
 pub returns-then-not-is_listed : goal.returns-then-not-is_listed
 returns-then-not-is_listed c =

@@ -1,5 +1,5 @@
-use Rattle.panel_drawing.proofs.WireLists.{all_entries, entry_more, no_entries}
-use Rattle.panel_drawing.proofs.wires.list_to.Goals as goal
+use Rattle.setups.proofs.WireLists.{all_entries, entry_more, no_entries}
+use Rattle.setups.proofs.wires.list_to.Goals as goal
 
 pub loop-number-init : goal.loop-number-init
 loop-number-init c = no_entries c.args.exit c.args.entries.now c.args.wires.now.items c.requires.entries

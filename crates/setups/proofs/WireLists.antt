@@ -1,6 +1,7 @@
 -- The wires of a setup, exit by exit and entry by entry.
-use Rattle.std.proofs.Common.{◌≡◌, ◌≢◌, ◌↔◌, ◌⊎◌, inl, inr, Bool, true, false, true≢false, eqb, ℕ, ◌+◌, ◌<◌, ◌≤◌, List, [], ◌∷◌, ◌++◌, Some, None, refl, sym, ap, ◌∙◌, subst, arith, append-nil, append_assoc}
+use Rattle.std.proofs.Common.{◌≡◌, ◌≢◌, ◌↔◌, ◌⊎◌, inl, inr, Bool, true, false, true≢false, eqb, ℕ, ◌+◌, ◌<◌, ◌≤◌, List, [], ◌∷◌, ◌++◌, Some, None, Result, Ok, Err, refl, sym, ap, ◌∙◌, subst, arith, append-nil, append_assoc}
 use Rattle.std.specs.List.{All, AllPairs, Contains}
+use Rattle.std.specs.Result.{OnOk}
 use Rattle.std.proofs.lemmas.Bool.{eqb-true, eq-eqb}
 use Rattle.std.proofs.lemmas.Option.{same_Some}
 use Rattle.std.proofs.lemmas.List.Elements.{All-contains, Contains-append_left, Contains-append_right, Contains-append_cases}
@@ -8,10 +9,8 @@ use Rattle.hubs.specs.Hubs.{number_of}
 use Rattle.setups.specs.Wiring.{Wiring, HasWire}
 use Rattle.hubs.specs.declared.hub.Hub.{Hub}
 use Rattle.hubs.proofs.HubLemmas.{number_of-range}
-use Rattle.wire_chart.specs.WrittenText.{IsHubBefore, IsWireBefore}
-use Rattle.wire_chart.specs.Writing.{IsListedAt, IsWireTo, IsWireToBelow, IsWireToAny, IsWireFrom, IsWireFromBelow}
-use Rattle.panel_drawing.specs.Wires.{AreWiresOf, GainsWires}
-use Rattle.panel_drawing.proofs.Ordered.{pairs_none, pairs_one, pairs_append, contains_none, contains_one, contains_first}
+use Rattle.setups.specs.Wires.{AreWiresOf, GainsWires, IsHubBefore, IsListedAt, IsWireBefore, IsWireTo, IsWireToBelow, IsWireToAny, IsWireFrom, IsWireFromBelow}
+use Rattle.setups.proofs.Ordered.{pairs_none, pairs_one, pairs_append, contains_none, contains_one, contains_first}
 
 -- no wire
 wires_none : (Is : Hub × Hub → Type 0) (old : List (Hub × Hub)) → ((wire : Hub × Hub) → Is wire → ⊥) → GainsWires Is old old
@@ -68,7 +67,7 @@ wires_same One Is old new gains there back = record {
 }
 
 -- a number below the next one
-below_or_at : (n m : ℕ) → n < m + 1 → (n < m) ⊎ (n ≡ m)
+pub below_or_at : (n m : ℕ) → n < m + 1 → (n < m) ⊎ (n ≡ m)
 below_or_at n m h = decide_at (eqb n m) refl
   where
     decide_at : (b : Bool) → eqb n m ≡ b → (n < m) ⊎ (n ≡ m)
@@ -229,3 +228,8 @@ all_exits wiring number wires last gains =
       );
       in_order = subst (λ (l : List (Hub × Hub)). AllPairs IsWireBefore l) (sym whole) gains.in_order;
     }
+
+-- what follows where a call gave no error
+pub on_ok : {T E : Type 0} (r : Result T E) (P Q : Type 0) → (P → Q) → OnOk r P → OnOk r Q
+on_ok (Ok x) P Q f p = f p
+on_ok (Err e) P Q f p = tt

@@ -1,8 +1,8 @@
 use Rattle.std.proofs.Common.{arith, length, sym}
 use Rattle.std.proofs.lemmas.Bool.{eqb-true}
-use Rattle.panel_drawing.proofs.WireLists.{no_exit, none_listed, wires_from}
-use Rattle.markup.proofs.Pieces.{where_ok}
-use Rattle.panel_drawing.proofs.wires.list_from.Goals as goal
+use Rattle.setups.proofs.WireLists.{no_exit, none_listed, wires_from}
+use Rattle.setups.proofs.WireLists.{on_ok}
+use Rattle.setups.proofs.wires.list_from.Goals as goal
 
 pub returns-in_default : goal.returns-in_default
 returns-in_default c = no_exit c.args.setup.now c.args.number c.args.wires.now.items c.in_default.ensures.found
@@ -16,7 +16,7 @@ returns-then-is_empty c =
 
 pub returns : goal.returns
 returns c =
-    where_ok _ _ c.list_to.result
+    on_ok c.list_to.result _ _
     (wires_from c.args.setup.now c.args.number c.in-Some.exit c.entries_of-entries.result.now c.args.wires.now.items
     c.list_to.new.wires.items c.in-Some.ensures.numbered c.in-Some.ensures.found c.entries_of-entries.ensures.value)
     c.list_to.ensures
