@@ -1,5 +1,5 @@
 -- Feeds whose cycles are kept that place a line on a page.
-use Rattle.std.proofs.Common.{◌≡◌, ◌∙◌, sym, ap, subst, refl, ℕ, List, [], ◌∷◌, ◌++◌, Option, Some, None, append_assoc, option_to_list, map}
+use Rattle.std.proofs.Common.{◌≡◌, ◌∙◌, sym, ap, subst, refl, ℕ, Bool, List, [], ◌∷◌, ◌++◌, Option, Some, None, append_assoc, option_to_list, map}
 use Rattle.std.specs.Prelude.{All, IfSome}
 use Rattle.std.specs.List.{filter}
 use Rattle.std.proofs.lemmas.List.{append-nil, map-append}
@@ -41,23 +41,24 @@ IsKeeping-start net machine next now page old same = subst (λ (fed : Fed). IsKe
 })
 
 -- the lines of what is kept of a cycle
-lines-kept : (cycle : Cycle) (points : List KeptPoint) (line : Option PlacedLine) → map line_kept (kept_of cycle points line) ≡ option_to_list line
-lines-kept cycle points None = refl
-lines-kept cycle points (Some line) = refl
+lines-kept : (cycle : Cycle) (waits : Bool) (points : List KeptPoint) (line : Option PlacedLine) → map line_kept (kept_of cycle waits points line) ≡ option_to_list line
+lines-kept cycle waits points None = refl
+lines-kept cycle waits points (Some line) = refl
 
 -- what is kept of a cycle placed its line in the feed
 placed-kept : (wiring : Wiring) (machine : MachineState) (next : Option (List ℕ)) (now mid : Fed) (cycle : Cycle) (points : List KeptPoint)
     (line : Option PlacedLine) → Steps wiring (begun machine next) now → FeedStep wiring cycle now mid
     → KeepsPoints wiring cycle (taken cycle now).machine 14 points → IfSome line (λ placed. line_of mid.machine ≡ placed ∷ [])
-    → All (PlacedInFeed wiring machine next) (kept_of cycle points line)
+    → All (PlacedInFeed wiring machine next) (kept_of cycle mid.waits points line)
 placed-kept wiring machine next now mid cycle points None steps step keeps is = All-nil (PlacedInFeed wiring machine next)
 placed-kept wiring machine next now mid cycle points (Some line) steps step keeps is =
-    let placed : PlacedInFeed wiring machine next (record { cycle = cycle; points = points; line = line }) = record {
+    let placed : PlacedInFeed wiring machine next (record { cycle = cycle; waits = mid.waits; points = points; line = line }) = record {
       before = now;
       after = mid;
       steps = steps;
       step = step;
       placed = is;
+      waits = refl;
       points = keeps;
     } in
     All-cons (PlacedInFeed wiring machine next) _ [] placed (All-nil (PlacedInFeed wiring machine next))
@@ -68,22 +69,22 @@ pub IsKeeping-more : (net : NetRows) (machine : MachineState) (next : Option (Li
     → ((wiring : Wiring) → IsNetOf wiring net → FeedStep wiring cycle now mid)
     → ((wiring : Wiring) → IsNetOf wiring net → KeepsPoints wiring cycle (taken cycle now).machine 14 points)
     → IfSome line (λ placed. line_of mid.machine ≡ placed ∷ []) → option_to_list line ≡ filter (is_on page) (line_of mid.machine)
-    → newer ≡ new ++ kept_of cycle points line → IsKeeping net machine next mid page old newer
+    → newer ≡ new ++ kept_of cycle mid.waits points line → IsKeeping net machine next mid page old newer
 IsKeeping-more net machine next now page old new cycle mid points line newer keeping step keeps placed on_page gained = record {
   steps = λ wiring is_net. more cycle now mid (keeping.steps wiring is_net) (step wiring is_net);
   lines = keeping.lines ++ line_of mid.machine;
   gone =
       Gone-more net (begun machine next) [] now keeping.lines cycle mid (line_of mid.machine) (keeping.lines ++ line_of mid.machine)
       keeping.gone step refl refl;
-  kept = keeping.kept ++ kept_of cycle points line;
+  kept = keeping.kept ++ kept_of cycle mid.waits points line;
   gained =
-      gained ∙ ap (λ (k : List KeptCycle). k ++ kept_of cycle points line) keeping.gained
-      ∙ append_assoc old keeping.kept (kept_of cycle points line);
+      gained ∙ ap (λ (k : List KeptCycle). k ++ kept_of cycle mid.waits points line) keeping.gained
+      ∙ append_assoc old keeping.kept (kept_of cycle mid.waits points line);
   placed =
-      λ wiring is_net. All-append (PlacedInFeed wiring machine next) keeping.kept (kept_of cycle points line) (keeping.placed wiring is_net)
+      λ wiring is_net. All-append (PlacedInFeed wiring machine next) keeping.kept (kept_of cycle mid.waits points line) (keeping.placed wiring is_net)
       (placed-kept wiring machine next now mid cycle points line (keeping.steps wiring is_net) (step wiring is_net) (keeps wiring is_net) placed);
   on_page =
-      rw (map-append line_kept keeping.kept (kept_of cycle points line), lines-kept cycle points line, on_page, keeping.on_page)
+      rw (map-append line_kept keeping.kept (kept_of cycle mid.waits points line), lines-kept cycle mid.waits points line, on_page, keeping.on_page)
       (sym (filter-append (is_on page) keeping.lines (line_of mid.machine)));
 }
 

@@ -1,21 +1,21 @@
 -- Units of which some are marked: one mark after another, and all units where the others would do nothing.
 use Rattle.std.proofs.Common.{◌≡◌, ◌≢◌, ℕ, zero, suc, ◌+◌, ◌*◌, ◌^◌, ◌%◌, ◌<◌, ◌≤◌, ◌⊎◌, inl, inr, Bool, true, false, not, ◌&&◌, ◌||◌, List, [], ◌∷◌, length, get_or, set, if◌then◌else◌, refl, sym, ap, ◌∙◌, arith}
 use Rattle.std.specs.Prelude.{◌==◌}
-use Rattle.std.specs.Int.{bit_not, w64}
+use Rattle.std.specs.Int.{bit_not, trailing_zeros, w64}
 use Rattle.std.specs.Int.Bits.{bit_and}
 use Rattle.std.proofs.lemmas.Bool.{cases_lt}
 use Rattle.std.proofs.lemmas.Bool.Decides.{nat_tests}
 use Rattle.std.proofs.lemmas.Nat.{and_le_l}
-use Rattle.net.proofs.Below.bit_sets.BitLemmas.{is_bit-above, is_bit-taken, is_bit-zero}
+use Rattle.net.proofs.Below.bit_sets.BitLemmas.{is_bit-above, is_bit-taken, is_bit-zero, lowest_bit, taken_lower}
 use Rattle.net.specs.HubSets.{is_bit}
-use Rattle.machine.specs.Marked.{any_marked, marked_changed}
+use Rattle.machine.specs.Marked.{LosesBit, any_marked, marked_changed}
 
 -- the word has lost one bit
 abbrev pub IsTaken : ℕ → ℕ → ℕ → Type 0
 IsTaken marks less place = (j : ℕ) → is_bit less j ≡ (is_bit marks j && not (j == place))
 
 -- as code takes it
-pub is_taken : (marks place : ℕ) → place < 64 → marks < 2 ^ 64
+is_taken : (marks place : ℕ) → place < 64 → marks < 2 ^ 64
     → IsTaken marks (bit_and marks (bit_not w64 (1 * 2 ^ place % 2 ^ 64))) place
 is_taken marks place low small j = by (cases_lt j 64) where
   less : ℕ
@@ -30,6 +30,13 @@ is_taken marks place low small j = by (cases_lt j 64) where
       let smaller : less < 2 ^ 64 = omega (arith, small, and_le_l marks (bit_not w64 (1 * 2 ^ place % 2 ^ 64))) in
       is_bit-above less 64 j smaller above
       ∙ none (is_bit marks j) (not (j == place)) (is_bit-above marks 64 j small above)
+
+-- the lowest bit, as code takes it
+pub loses_lowest : (n : ℕ) → 0 < n → n < 2 ^ 64
+    → LosesBit n (bit_and n (bit_not w64 (1 * 2 ^ trailing_zeros w64 n % 2 ^ 64))) (trailing_zeros w64 n)
+loses_lowest n some small =
+    let lowest = lowest_bit n some small in
+    record { there = lowest.1; others = is_taken n (trailing_zeros w64 n) lowest.0 small; lower = taken_lower n some small }
 
 gone : (a : Bool) (j : ℕ) → (a && not (j == j)) ≡ false
 gone a j = grind (arith, nat_tests)

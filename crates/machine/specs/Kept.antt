@@ -40,13 +40,14 @@ pub data Steps (wiring : Wiring) (start : Fed) : Fed → Type 0 where
       (cycle : Cycle) (mid now : Fed) → Steps wiring start mid → FeedStep wiring cycle mid now
       → Steps wiring start now
 
--- A cycle of a feed that placed a line, and its points.
+-- A cycle of a feed that placed a line, and its points. It is kept whether what was fed still waits when the cycle is over.
 pub record PlacedInFeed (wiring : Wiring) (machine : MachineState) (next : Option (List ℕ)) (kept : KeptCycle) : Type 0 where
   pub before : Fed
   pub after : Fed
   pub steps : Steps wiring (begun machine next) before
   pub step : FeedStep wiring kept.cycle before after
   pub placed : line_of after.machine ≡ kept.line ∷ []
+  pub waits : kept.waits ≡ after.waits
   pub points : KeepsPoints wiring kept.cycle (taken kept.cycle before).machine 14 kept.points
 
 -- the line stands elsewhere
@@ -90,6 +91,6 @@ pub record GainsSome (net : NetRows) (machine : MachineState) (next : Option (Li
   pub placed : (wiring : Wiring) → IsNetOf wiring net → All (PlacedInFeed wiring machine next) kept
 
 -- Helper word: what is kept of a cycle that placed this line, or none.
-abbrev pub kept_of : Cycle → List KeptPoint → Option PlacedLine → List KeptCycle
-kept_of cycle points None = []
-kept_of cycle points (Some line) = record { cycle = cycle; points = points; line = line } ∷ []
+abbrev pub kept_of : Cycle → (waits : Bool) → List KeptPoint → Option PlacedLine → List KeptCycle
+kept_of cycle waits points None = []
+kept_of cycle waits points (Some line) = record { cycle = cycle; waits = waits; points = points; line = line } ∷ []

@@ -1,6 +1,12 @@
 -- Units of one kind of which some are marked by the bits of a word: the unit at place k by bit k.
-use Rattle.std.specs.Prelude.{ℕ, suc, ◌&&◌, ◌||◌, Bool, false, List, [], ◌∷◌, if◌then◌else◌}
+use Rattle.std.specs.Prelude.{◌≡◌, ℕ, suc, ◌<◌, ◌==◌, ◌&&◌, ◌||◌, Bool, true, false, not, List, [], ◌∷◌, if◌then◌else◌}
 use Rattle.net.specs.HubSets.{is_bit}
+
+-- a word has lost a bit that it had
+pub record LosesBit (old new bit : ℕ) : Type 0 where
+  pub there : is_bit old bit ≡ true
+  pub others : (other : ℕ) → is_bit new other ≡ (is_bit old other && not (other == bit))
+  pub lower : new < old
 
 -- whether the test is true of some marked unit, where the first of these stands at place k
 abbrev pub any_marked : {X : Type 0} → ℕ → ℕ → (X → Bool) → List X → Bool

@@ -8,6 +8,7 @@ ghost use Rattle.net.specs.declared.cycle.Point.TheVariants.{Row as AtRow};
 ghost use Rattle.machine.specs.Marked.{any_marked, marked_changed};
 ghost use Rattle.machine.specs.Rest.{AreBusy};
 
+use crate::bits::take_lowest;
 use crate::groups::Busy;
 use counters::Group;
 use net::{Cycle, RowSets};
@@ -46,9 +47,7 @@ fn emit_marked_rows(groups: &[Group], marks: u64, cycle: Cycle, sets: &mut RowSe
     ensures { GainsRows (λ row exit. any_marked marks 0 (λ group. counter_emits group cycle (AtRow row) exit) groups.now) sets.old sets.new }
 {
     let mut left = marks;
-    while left != 0 {
-        let place = left.trailing_zeros() as usize;
-        left &= !(1 << place);
+    while let Some(place) = take_lowest(&mut left) {
         if place < groups.len() {
             groups[place].emit_rows(cycle, sets);
         }
@@ -60,9 +59,7 @@ fn sense_marked_rows(groups: &mut [Group], marks: u64, cycle: Cycle, pictures: &
     ensures { groups.new ≡ marked_changed marks 0 (λ group. after_rows counter_sensed cycle (pictures_of pictures.now) group) groups.old }
 {
     let mut left = marks;
-    while left != 0 {
-        let place = left.trailing_zeros() as usize;
-        left &= !(1 << place);
+    while let Some(place) = take_lowest(&mut left) {
         if place < groups.len() {
             groups[place].sense_rows(cycle, pictures);
         }

@@ -15,6 +15,7 @@ ghost use Rattle.machine.specs.Marked.{any_marked, marked_changed};
 ghost use Rattle.machine.specs.Rest.{AreApart, AreBusy, AreCarriesMarked, AreKeptBut, AreReadOutsMarked, AreTestsMarked, AreToldMarked, ComeToNoNines};
 ghost use Rattle.machine.specs.Steady.{balance_latches, carries_of, nines_of};
 
+use crate::bits::take_lowest;
 use crate::marked::{emit_marked, end_marked, sense_marked};
 use counters::Group;
 use hubs::Hub;
@@ -183,9 +184,7 @@ fn carrying(groups: &[Group; GROUPS], marks: u64) -> u64
 {
     let mut bits = 0;
     let mut left = marks;
-    while left != 0 {
-        let place = left.trailing_zeros() as usize;
-        left &= !(1 << place);
+    while let Some(place) = take_lowest(&mut left) {
         if place < GROUPS {
             bits |= bit_where(place, groups[place].carries_out());
         }
@@ -245,9 +244,7 @@ fn control_marked(groups: &mut [Group], marks: u64, row: u128)
         → groups.new ≡ marked_changed marks 0 (λ group. counter_sensed group cycle C (has_hub set)) groups.old }
 {
     let mut left = marks;
-    while left != 0 {
-        let place = left.trailing_zeros() as usize;
-        left &= !(1 << place);
+    while let Some(place) = take_lowest(&mut left) {
         if place < groups.len() {
             groups[place].sense_controls(row);
         }
@@ -311,9 +308,7 @@ fn meets_nines(groups: &[Group; GROUPS], bits: u64) -> bool
     ensures { result ≡ false → AreApart bits (nines_of groups.now) }
 {
     let mut left = bits;
-    while left != 0 {
-        let place = left.trailing_zeros() as usize;
-        left &= !(1 << place);
+    while let Some(place) = take_lowest(&mut left) {
         if place < GROUPS && groups[place].nines() {
             return true;
         }
@@ -327,9 +322,7 @@ pub(crate) fn keep_latches(groups: &[Group; GROUPS], marks: u64, latches: &mut B
     ensures { latches.new ≡ balance_latches groups.now }
 {
     let mut left = marks;
-    while left != 0 {
-        let place = left.trailing_zeros() as usize;
-        left &= !(1 << place);
+    while let Some(place) = take_lowest(&mut left) {
         if place < GROUPS {
             latches.set(place, groups[place].latch());
         }

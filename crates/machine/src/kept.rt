@@ -26,6 +26,9 @@ pub struct KeptPoint {
 pub struct KeptCycle {
     /// Which cycle it was.
     pub cycle: Cycle,
+    /// Whether what was fed still waited for a card cycle to take it when the cycle was over. So a heading cycle comes before a card
+    /// cycle where this is set, and else before a total.
+    pub waits: bool,
     /// Its points in their order.
     pub points: [KeptPoint; 14],
     /// The line that it placed.
@@ -120,6 +123,7 @@ impl Units {
             if let Some(line) = self.placed_at(page, line) {
                 return Some(KeptCycle {
                     cycle,
+                    waits,
                     points,
                     line,
                 });
@@ -156,7 +160,7 @@ impl Units {
         while let Some(cycle) = self.due_in(waits, next) {
             let (still, points) = self.run_due_kept(net, cycle, waits, next);
             waits = still;
-            keep(kept, cycle, points, self.placed_on(page))?;
+            keep(kept, cycle, waits, points, self.placed_on(page))?;
         }
         Ok(())
     }
@@ -177,15 +181,17 @@ impl Units {
 fn keep(
     kept: &mut Vec<KeptCycle>,
     cycle: Cycle,
+    waits: bool,
     points: [KeptPoint; 14],
     line: Option<PlacedLine>,
 ) -> Result<(), AllocError>
-    ensures kept { OnOk result (kept.new.items ≡ kept.old.items ++ kept_of cycle points line) }
+    ensures kept { OnOk result (kept.new.items ≡ kept.old.items ++ kept_of cycle waits points line) }
     ensures refused { OnErr result (kept.new.items ≡ kept.old.items) }
 {
     if let Some(line) = line {
         kept.push(KeptCycle {
             cycle,
+            waits,
             points,
             line,
         })?;

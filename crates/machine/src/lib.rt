@@ -5,6 +5,7 @@
 //! that is, for every setup of the panel and every deck, is told in `specs/`.
 #![tactic(auto)]
 
+mod bits;
 mod closed;
 mod cycle;
 mod fault;
@@ -28,5 +29,7 @@ pub use kept::{KeptCycle, KeptPoint};
 pub use lines::{append_line, placed_line};
 pub use machine::Machine;
 pub use placed_lines::{LINE_WHEELS, PlacedLine};
+pub use rows::end_all;
 pub use run::simulate;
 pub use stepped::SteppedMachine;
+pub use storage_rows::{STORAGE_UNITS, storage_at_start};

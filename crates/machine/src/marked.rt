@@ -5,6 +5,7 @@ ghost use Rattle.std.specs.Prelude.{◌≡◌};
 ghost use Rattle.net.specs.HubSets.{GainsHubs, has_hub};
 ghost use Rattle.machine.specs.Marked.{any_marked, marked_changed};
 
+use crate::bits::take_lowest;
 use net::{Cycle, Picture, Point, Unit};
 
 // The marked units emit.
@@ -18,9 +19,7 @@ pub(crate) fn emit_marked<U: Unit>(
     ensures { GainsHubs (λ exit. any_marked marks 0 (λ unit. U.emits unit cycle point exit) units.now) exits.old exits.new }
 {
     let mut left = marks;
-    while left != 0 {
-        let place = left.trailing_zeros() as usize;
-        left &= !(1 << place);
+    while let Some(place) = take_lowest(&mut left) {
         if place < units.len() {
             units[place].emit(cycle, point, exits);
         }
@@ -38,9 +37,7 @@ pub(crate) fn sense_marked<U: Unit>(
     ensures { units.new ≡ marked_changed marks 0 (λ unit. U.sensed unit cycle point (has_hub picture.now)) units.old }
 {
     let mut left = marks;
-    while left != 0 {
-        let place = left.trailing_zeros() as usize;
-        left &= !(1 << place);
+    while let Some(place) = take_lowest(&mut left) {
         if place < units.len() {
             units[place].sense(cycle, point, picture);
         }
@@ -52,9 +49,7 @@ pub(crate) fn end_marked<U: Unit>(units: &mut [U], marks: u64, cycle: Cycle)
     ensures { units.new ≡ marked_changed marks 0 (λ unit. U.ended unit cycle) units.old }
 {
     let mut left = marks;
-    while left != 0 {
-        let place = left.trailing_zeros() as usize;
-        left &= !(1 << place);
+    while let Some(place) = take_lowest(&mut left) {
         if place < units.len() {
             units[place].end_cycle(cycle);
         }

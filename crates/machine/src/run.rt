@@ -21,6 +21,7 @@ pub fn simulate(alloc: Global, setup: &Setup, cards: &[Card]) -> Result<Vec<Plac
     ensures lines { IfOk result (λ lines. MachineLines setup.now cards.now lines.items) }
     ensures in_order { IfOk result (λ lines. IsInOrder setup.now.tape.lines lines.items) }
 {
+    // That the form is one of a tape is told with the setup: it spares a clause in every call that takes one.
     let _form = setup.known();
     let net = Net::of(alloc, setup)?;
     let mut units = Units::new(setup);

@@ -5,11 +5,27 @@ ghost use Rattle.std.specs.List.{list_any};
 ghost use Rattle.net.specs.HubSets.{GainsHubs, has_hub};
 ghost use Rattle.net.specs.RowSets.{GainsRows, after_rows, pictures_of};
 ghost use Rattle.net.specs.declared.cycle.Point.TheVariants.{Row as AtRow};
-ghost use Rattle.storage_units.specs.Storage.{storage_emits, storage_sensed};
+ghost use Rattle.storage_units.specs.Storage.{storage_at_start, storage_emits, storage_sensed};
+ghost use Rattle.machine.specs.Machine.{storage_units};
 
 use crate::rows::{emit_all, sense_all};
 use net::{Cycle, Picture, Point, RowSets};
 use storage_units::Storage;
+
+/// How many storage units there are.
+pub const STORAGE_UNITS: usize = 4;
+
+/// The storage units in the order of their numbers, 35 to 38, as they start.
+pub fn storage_at_start() -> [Storage; STORAGE_UNITS]
+    ensures { result ≡ map storage_at_start storage_units }
+{
+    [
+        Storage::new(35),
+        Storage::new(36),
+        Storage::new(37),
+        Storage::new(38),
+    ]
+}
 
 // All storage units emit, which they do at the points of rows alone.
 pub(crate) fn emit_storage(storage: &[Storage], cycle: Cycle, point: Point, exits: &mut Picture)

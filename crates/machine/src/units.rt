@@ -3,7 +3,10 @@
 use crate::group_rows::{emit_group_rows, sense_group_rows};
 use crate::groups::{Busy, emit_groups, end_groups, groups_at_start, keep_latches, sense_groups};
 use crate::rows::end_all;
-use crate::storage_rows::{emit_storage, emit_storage_rows, sense_storage, sense_storage_rows};
+use crate::storage_rows::{
+    STORAGE_UNITS, emit_storage, emit_storage_rows, sense_storage, sense_storage_rows,
+    storage_at_start,
+};
 use carriage::Carriage;
 use counters::Group;
 use net::{Cycle, Picture, Point, RowSets, Unit};
@@ -14,9 +17,6 @@ use setups::Setup;
 use stations::{Comparing, Stations};
 use std::marker::Model;
 use storage_units::Storage;
-
-/// How many storage units there are.
-pub(crate) const STORAGE_UNITS: usize = 4;
 
 /// The 45 units.
 #[derive(Drop)]
@@ -67,12 +67,7 @@ impl Units {
             stations: Stations::new(),
             comparing: Comparing::new(),
             groups: groups_at_start(),
-            storage: [
-                Storage::new(35),
-                Storage::new(36),
-                Storage::new(37),
-                Storage::new(38),
-            ],
+            storage: storage_at_start(),
             pilots: Pilots::new(),
             indicate: Indicate::new(),
             splits: Splits::new(),

@@ -35,6 +35,7 @@ pub(crate) fn serve_cycle(
         counts.rounds += 1;
     }
     let mut units = course.units;
+    // That the units are whole is told here: it spares a clause in each of their calls.
     units.known();
     units.end_cycle(cycle);
     (units, counts)

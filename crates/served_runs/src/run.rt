@@ -46,6 +46,7 @@ pub fn simulate_served(
     ensures in_order { IfOk result (λ run. IsInOrder setup.now.tape.lines run.lines.items) }
     ensures served { IfOk result (λ run. IsServedRun setup.now service.now cards.now run.lines.items (record { rounds = run.rounds; seen = run.seen })) }
 {
+    // That the form is one of a tape is told with the setup: it spares a clause in every call that takes one.
     let _form = setup.known();
     let net = Net::of(alloc, setup)?;
     let waits = all_waits(&net);
@@ -56,6 +57,7 @@ pub fn simulate_served(
     let mut lines = Vec::new(alloc);
     while let Some(cycle) = units.cycle_due() {
         hopper = units.make_ready(cycle, hopper);
+        // That the units are whole is told here: it spares a clause in each of their calls.
         units.known();
         (units, counts) = serve_cycle(units, &panel, cycle, service, counts);
         append_line(&mut lines, units.placed_line())?;

@@ -3,7 +3,7 @@
 use crate::contacts::close_group;
 use carriage::Carriage;
 use counters::Group;
-use machine::{groups_at_start, placed_line};
+use machine::{STORAGE_UNITS, end_all, groups_at_start, placed_line, storage_at_start};
 use net::{Contacts, Cycle, Picture, Point, Unit};
 use placed_lines::PlacedLine;
 use print_unit::{Emitters, Wheels};
@@ -13,9 +13,6 @@ use setups::Setup;
 use stations::{Comparing, Stations};
 use std::marker::Model;
 use storage_units::Storage;
-
-// How many storage units there are.
-const STORAGE_UNITS: usize = 4;
 
 /// The 45 units.
 #[derive(Drop)]
@@ -65,12 +62,7 @@ impl Units {
             stations: Stations::new(),
             comparing: Comparing::new(),
             groups: groups_at_start(),
-            storage: [
-                Storage::new(35),
-                Storage::new(36),
-                Storage::new(37),
-                Storage::new(38),
-            ],
+            storage: storage_at_start(),
             pilots: Pilots::new(),
             indicate: Indicate::new(),
             splits: Splits::new(),
@@ -165,16 +157,5 @@ impl Units {
         ensures { option_to_list result ≡ line_of self.now }
     {
         placed_line(&self.carriage, &self.wheels)
-    }
-}
-
-ghost use Rattle.std.specs.Prelude.{◌≡◌, map};
-
-// All units end the cycle.
-fn end_all<U: Unit>(units: &mut [U], cycle: Cycle)
-    ensures { units.new ≡ map (λ unit. U.ended unit cycle) units.old }
-{
-    for unit in units {
-        unit.end_cycle(cycle);
     }
 }

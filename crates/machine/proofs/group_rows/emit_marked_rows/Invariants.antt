@@ -9,11 +9,11 @@ use Rattle.machine.specs.Marked.{any_marked}
 use Rattle.machine.proofs.group_rows.emit_marked_rows.Given as goal
 
 -- what stands, with what the groups of the marks left emit, is all
-abbrev pub invariant-loop-left : goal.invariant-loop-left
-invariant-loop-left l =
+abbrev pub invariant-loop-place : goal.invariant-loop-place
+invariant-loop-place l =
     (row : CardRow) (exit : Hub)
     → (has_row_at l.sets (passing_place row) exit || any_marked l.left 0 (λ group. counter_emits group l.cycle (Row row) exit) l.groups)
     ≡ (has_row_at l.fn.sets (passing_place row) exit || any_marked l.marks 0 (λ group. counter_emits group l.cycle (Row row) exit) l.groups)
 
-abbrev pub decreases-loop-left : goal.decreases-loop-left
-decreases-loop-left l = l.left
+abbrev pub decreases-loop-place : goal.decreases-loop-place
+decreases-loop-place l = l.left

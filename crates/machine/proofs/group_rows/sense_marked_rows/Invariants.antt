@@ -5,10 +5,10 @@ use Rattle.machine.specs.Marked.{marked_changed}
 use Rattle.machine.proofs.group_rows.sense_marked_rows.Given as goal
 
 -- with the marks left all is done
-abbrev pub invariant-loop-left : goal.invariant-loop-left
-invariant-loop-left l =
+abbrev pub invariant-loop-place : goal.invariant-loop-place
+invariant-loop-place l =
     marked_changed l.left 0 (λ group. after_rows counter_sensed l.cycle (pictures_of l.pictures) group) l.groups
     ≡ marked_changed l.marks 0 (λ group. after_rows counter_sensed l.cycle (pictures_of l.pictures) group) l.fn.groups
 
-abbrev pub decreases-loop-left : goal.decreases-loop-left
-decreases-loop-left l = l.left
+abbrev pub decreases-loop-place : goal.decreases-loop-place
+decreases-loop-place l = l.left

@@ -4,10 +4,10 @@ use Rattle.machine.specs.Steady.{carries_of}
 use Rattle.machine.proofs.groups.carrying.Given as goal
 
 -- the bits so far, with those of the marks left, are all
-abbrev pub invariant-loop-left : goal.invariant-loop-left
-invariant-loop-left l =
+abbrev pub invariant-loop-place : goal.invariant-loop-place
+invariant-loop-place l =
     (k : ℕ) → (is_bit l.bits k || (is_bit l.left k && get_or (carries_of l.groups) k false))
     ≡ (is_bit l.marks k && get_or (carries_of l.groups) k false)
 
-abbrev pub decreases-loop-left : goal.decreases-loop-left
-decreases-loop-left l = l.left
+abbrev pub decreases-loop-place : goal.decreases-loop-place
+decreases-loop-place l = l.left

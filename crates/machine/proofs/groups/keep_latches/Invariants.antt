@@ -2,8 +2,8 @@ use Rattle.machine.specs.Rest.{AreKeptBut}
 use Rattle.machine.proofs.groups.keep_latches.Given as goal
 
 -- the latches are kept of the groups but for those whose bits are left
-abbrev pub invariant-loop-left : goal.invariant-loop-left
-invariant-loop-left l = AreKeptBut l.left l.latches l.groups
+abbrev pub invariant-loop-place : goal.invariant-loop-place
+invariant-loop-place l = AreKeptBut l.left l.latches l.groups
 
-abbrev pub decreases-loop-left : goal.decreases-loop-left
-decreases-loop-left l = l.left
+abbrev pub decreases-loop-place : goal.decreases-loop-place
+decreases-loop-place l = l.left

@@ -4,10 +4,10 @@ use Rattle.machine.specs.Marked.{marked_changed}
 use Rattle.machine.proofs.marked.sense_marked.Given as goal
 
 -- with the marks left all is done
-abbrev pub invariant-loop-left : goal.invariant-loop-left
-invariant-loop-left g l =
+abbrev pub invariant-loop-place : goal.invariant-loop-place
+invariant-loop-place g l =
     marked_changed l.left 0 (λ unit. g.U.Unit.sensed unit l.cycle l.point (has_hub l.picture)) l.units
     ≡ marked_changed l.marks 0 (λ unit. g.U.Unit.sensed unit l.cycle l.point (has_hub l.picture)) l.fn.units
 
-abbrev pub decreases-loop-left : goal.decreases-loop-left
-decreases-loop-left g l = l.left
+abbrev pub decreases-loop-place : goal.decreases-loop-place
+decreases-loop-place g l = l.left

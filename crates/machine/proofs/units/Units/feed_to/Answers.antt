@@ -1,4 +1,4 @@
-use Rattle.std.proofs.Common.{sym, ◌∙◌}
+use Rattle.std.proofs.Common.{sym, refl, ◌∙◌}
 use Rattle.machine.specs.Feeds.{Fed, begun}
 use Rattle.machine.proofs.FeedSteps.{ends-falls}
 use Rattle.machine.proofs.KeptFeeds.{IsPast-start, IsPast-more, IsPast-all}
@@ -28,6 +28,7 @@ returns-in-Some-placed_at-clause-found c = λ wiring is_net. record {
   steps = c.loop-cycle.invariant.steps wiring is_net;
   step = c.run_due_kept-still.ensures.step wiring is_net;
   placed = c.in-Some-placed_at.ensures.placed;
+  waits = refl;
   points = c.run_due_kept-still.ensures.points wiring is_net;
 }
 
