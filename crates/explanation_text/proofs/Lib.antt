@@ -1,6 +1,7 @@
 mod Asking
-mod Closing
+mod Digits
 mod Gains
 mod NoNotes
 mod OnlyWays
 mod Places
+mod Rows

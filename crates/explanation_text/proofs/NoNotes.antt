@@ -5,7 +5,11 @@ use Rattle.hub_table.specs.declared.letters.Letters.{Letters}
 use Rattle.hub_table.specs.declared.letters.Letters.TheVariants.{FR, SR, CX, GX, CO, BAN, BAT, PIN, PIT, SX, IX, CSD, CSZ, EM, CC, PX, HX, CA, CB, GE, PL, MI, RO, BT, CI, BAC, PIC, PIX, SE, SI, SO, IE, CSE, W, ST, SP, SK, RS}
 use Rattle.hubs.specs.Hubs.{letters_of, numbers_of}
 use Rattle.explanation_text.specs.Laws.{NoNoteAsksForWires}
-use Rattle.hubs.specs.HubText.{numbers_text}
+use Rattle.hubs.specs.HubText.{hub_text, numbers_text}
+use Rattle.hubs.specs.declared.hub.Hub.{Hub}
+use Rattle.explanation_text.specs.Asked.{asking_line}
+use Rattle.explanation_text.specs.Notes.{exit_words, reason_words}
+use Rattle.explanation_text.specs.Text.{row_at}
 
 first : (letters : Letters) (rest : List ℕ) → get_or ((row_of letters).spelled ++ rest) 0 0 ≡ 119 → ⊥
 first FR rest is = omega (arith, is)
@@ -47,13 +51,26 @@ first SP rest is = omega (arith, is)
 first SK rest is = omega (arith, is)
 first RS rest is = omega (arith, is)
 
-in_turn : (a b c d : List ℕ) → ((a ++ b) ++ c) ++ d ≡ a ++ (b ++ (c ++ d))
-in_turn a b c d = append_assoc (a ++ b) c d ∙ append_assoc a b (c ++ d)
+-- a note begins with the name of a hub
+named : (hub : Hub) (words others : List ℕ) → codes "  " ++ (hub_text hub ++ words) ++ codes "\n" ≡ asking_line others → ⊥
+named hub words others is =
+    let letters = letters_of hub in
+    let numbers = numbers_text (numbers_of hub) in
+    let spelled = (row_of letters).spelled in
+    let front : (spelled ++ numbers) ++ words ≡ spelled ++ (numbers ++ words) = append_assoc spelled numbers words in
+    let whole : ((spelled ++ numbers) ++ words) ++ codes "\n" ≡ spelled ++ ((numbers ++ words) ++ codes "\n") =
+    ap (λ (l : List ℕ). l ++ codes "\n") front ∙ append_assoc spelled (numbers ++ words) (codes "\n") in
+    first letters ((numbers ++ words) ++ codes "\n")
+    (ap (λ (l : List ℕ). get_or l 0 0) (sym whole) ∙ ap (λ (l : List ℕ). get_or l 2 0) is)
+
+in_turn : (a b c d : List ℕ) → ((a ++ b) ++ c) ++ d ≡ a ++ ((b ++ c) ++ d)
+in_turn a b c d = ap (λ (l : List ℕ). l ++ d) (append_assoc a b c) ∙ append_assoc a (b ++ c) d
 
 pub no_note : NoNoteAsksForWires
-no_note words is =
-    let letters = letters_of is.hub in
-    let numbers = numbers_text (numbers_of is.hub) in
-    first letters (numbers ++ (is.words ++ codes "\n"))
-    (ap (λ (l : List ℕ). get_or l 0 0) (sym (in_turn (row_of letters).spelled numbers is.words (codes "\n")))
-    ∙ sym (ap (λ (l : List ℕ). get_or l 2 0) is.spelled))
+no_note = record {
+  exits = λ words card cycle points place exit is. named exit (exit_words card cycle points (row_at place) exit) words is;
+  contacts = λ words common exit is.
+      let reason = reason_words exit in
+      named common ((codes " => " ++ hub_text exit) ++ reason) words
+      (ap (λ (l : List ℕ). (codes "  " ++ l) ++ codes "\n") (sym (in_turn (hub_text common) (codes " => ") (hub_text exit) reason)) ∙ is);
+}

@@ -1,5 +1,6 @@
 pub mod Asked
 pub mod Text
+pub mod Notes
+pub mod Closing
 pub mod Told
-pub mod Writing
 pub mod Laws

@@ -8,6 +8,7 @@
 #![tactic(auto)]
 
 mod asked;
+mod closing;
 mod laws;
 mod lines;
 mod names;
@@ -17,5 +18,6 @@ mod text;
 mod zero_control;
 
 pub use laws::{no_note_asks_for_wires, only_rows_tell_ways};
+pub use notes::{WayCycle, write_way_lines};
 pub use page::page_wheel_text;
 pub use text::{explain_text, wheel_text};

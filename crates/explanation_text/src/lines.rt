@@ -2,7 +2,7 @@
 
 ghost use Rattle.std.specs.Prelude.{◌≡◌, ◌<◌, ◌++◌, codes, decimal, OnOk};
 ghost use Rattle.std.specs.String.{string_bytes};
-ghost use Rattle.explanation_text.specs.Text.{character_text, cycle_line, heading_line, level_text, page_line, program_line, row_line, spaced_text};
+ghost use Rattle.explanation_text.specs.Text.{character_text, cycle_line, headed_text, heading_line, level_text, page_line, program_line, row_line, spaced_text};
 
 use crate::names::{row_at, write_way};
 use explanations::Explanation;
@@ -22,7 +22,7 @@ pub(crate) fn write_line(text: &mut String, front: &str, words: &str) -> Result<
 }
 
 // A character, a word for the blank.
-fn write_character(text: &mut String, character: u8) -> Result<(), AllocError>
+pub(crate) fn write_character(text: &mut String, character: u8) -> Result<(), AllocError>
     ensures { OnOk result (string_bytes text.new ≡ string_bytes text.old ++ character_text character) }
 {
     if character == b' ' {
@@ -47,20 +47,17 @@ pub(crate) fn write_page_line(text: &mut String, told: &Explanation) -> Result<(
 }
 
 // The second line.
-pub(crate) fn write_cycle_line(
-    text: &mut String,
-    cycle: Cycle,
-    cards: u32,
-) -> Result<(), AllocError>
-    ensures { OnOk result (string_bytes text.new ≡ string_bytes text.old ++ cycle_line cycle cards) }
+pub(crate) fn write_cycle_line(text: &mut String, told: &Explanation) -> Result<(), AllocError>
+    ensures { OnOk result (string_bytes text.new ≡ string_bytes text.old ++ cycle_line told.now.cycle told.now.waits told.now.cards) }
 {
-    match cycle {
+    let cards = told.cards;
+    match told.cycle {
         Cycle::RunIn => text.push_str("cycle RunIn\n"),
         Cycle::Card => push_between(text, "cycle Card ", cards, "\n"),
         Cycle::Prog(level, ordinal) => {
             write_program_line(text, level.number(), ordinal.number(), cards)
         }
-        Cycle::Head(heading) => write_heading_line(text, heading.number(), cards),
+        Cycle::Head(heading) => write_heading_line(text, heading.number(), told.waits, cards),
     }
 }
 
@@ -92,13 +89,28 @@ fn write_spaced(text: &mut String, number: u8) -> Result<(), AllocError>
     push_numbered(text, " ", number)
 }
 
+// What a heading cycle comes before: the card, where that still waits, or its totals.
+fn headed_text(waits: bool) -> &'static str
+    ensures { result.now ≡ headed_text waits }
+{
+    if waits {
+        " before card "
+    } else {
+        " before the totals of card "
+    }
+}
+
 // The second line of a heading cycle.
-fn write_heading_line(text: &mut String, heading: u8, cards: u32) -> Result<(), AllocError>
-    ensures { OnOk result (string_bytes text.new ≡ string_bytes text.old ++ heading_line heading cards) }
+fn write_heading_line(
+    text: &mut String,
+    heading: u8,
+    waits: bool,
+    cards: u32,
+) -> Result<(), AllocError>
+    ensures { OnOk result (string_bytes text.new ≡ string_bytes text.old ++ heading_line heading waits cards) }
 {
     push_numbered(text, "cycle Head ", heading)?;
-    push_numbered(text, " before card ", cards)?;
-    text.push_str("\n")
+    push_between(text, headed_text(waits), cards, "\n")
 }
 
 // The line of the row at a place in the order of the points.

@@ -1,266 +1,302 @@
-//! Notes behind the line of a row: what its exit stands for, and why each contact was closed.
+//! The notes on a way: what its exit stands for, and why each contact on it was closed.
 
-ghost use Rattle.std.specs.Prelude.{◌≡◌, ◌<◌, ◌≤◌, ℕ, true, OnOk, length, slice_index_or};
+ghost use Rattle.std.specs.Prelude.{◌≡◌, ◌<◌, ◌+◌, ◌++◌, OnOk};
 ghost use Rattle.std.specs.String.{string_bytes};
-ghost use Rattle.explanation_text.specs.Text.{IsPlain};
-ghost use Rattle.explanation_text.specs.Writing.{GainsNotes};
+ghost use Rattle.net.specs.HubSets.{has_hub};
+ghost use Rattle.machine.specs.Kept.{kept_at};
+ghost use Rattle.explanation_text.specs.Notes.{article, contact_note, counted, cycle_words, digit_down, digit_text, emitter_words, exit_note, exit_words, group_name, held_text, notes, note_line, ordinal_word, punch_words, read_out_words, reason_words, step_note, step_notes, stored_words, way_lines};
+ghost use Rattle.explanation_text.specs.Text.{row_at};
 
-use crate::lines::write_line;
+use crate::lines::write_row_line;
 use crate::names::{is_contact_exit, row_at};
-use explanations::FoundLine;
 use hubs::{Group, Hub, write_hub};
-use net::Cycle;
+use machine::KeptPoint;
+use net::{Cycle, Ordinal};
 use numerals::{push_between, push_number, push_numbered};
-use std::alloc::{AllocError, Global};
+use std::alloc::AllocError;
 
-// Whether words have no end of a line.
-pub(crate) fn is_plain(words: &[u8]) -> bool
-    ensures { result ≡ true → IsPlain words.now }
-{
-    for byte in words {
-        if *byte == b'\n' {
-            return false;
-        }
-    }
-    true
+/// A cycle of a run, as the notes on the ways of its impulses tell of it.
+#[derive(Clone, Copy)]
+pub struct WayCycle<'a> {
+    /// The number of the card that the cycle belongs to, counted from 1: it stands at second reading.
+    pub card: u32,
+    /// Which cycle it was.
+    pub cycle: Cycle,
+    /// Its points in their order.
+    pub points: &'a [KeptPoint; 14],
 }
 
-// What is told of a hub of a way: its name, and words behind it.
-#[derive(Drop)]
-struct Note {
-    hub: Hub,
-    words: String,
+/// Writes the lines of a way by which an impulse came at a row of a cycle: the way, hub by hub, and its notes. The place is that of the row in the order of
+/// the points, 9 to 0, 11, 12. Fails only if no memory is left.
+pub fn write_way_lines(
+    text: &mut String,
+    cycle: &WayCycle,
+    place: usize,
+    way: &[Hub],
+) -> Result<(), AllocError>
+    requires { place < 12 }
+    ensures { OnOk result (string_bytes text.new
+        ≡ string_bytes text.old ++ way_lines cycle.now.card cycle.now.cycle cycle.now.points.now place way.now) }
+{
+    write_row_line(text, place, way)?;
+    write_notes(text, cycle, place, way)
 }
 
-#[tactic(auto, using(crate::proofs::Gains::notes_none, crate::proofs::Gains::note_one))]
-// A note, on a line of its own. One that has an end of a line, as none has, is left out.
-fn write_note(alloc: Global, text: &mut String, note: &Note) -> Result<(), AllocError>
-    ensures { OnOk result (GainsNotes (string_bytes text.old) (string_bytes text.new)) }
+// The notes on a way to the row of a place.
+fn write_notes(
+    text: &mut String,
+    cycle: &WayCycle,
+    place: usize,
+    way: &[Hub],
+) -> Result<(), AllocError>
+    requires { place < 12 }
+    ensures { OnOk result (string_bytes text.new
+        ≡ string_bytes text.old ++ notes cycle.now.card cycle.now.cycle cycle.now.points.now place way.now) }
 {
-    let mut line = String::new(alloc);
-    write_hub(&mut line, note.hub)?;
-    line.push_str(&note.words)?;
-    if !is_plain(line.as_bytes()) {
+    let Some((exit, others)) = way.split_first() else {
         return Ok(());
-    }
-    write_line(text, "  ", &line)
+    };
+    write_exit_note(text, cycle, place, *exit)?;
+    write_step_notes(text, *exit, others)
 }
 
-#[tactic(auto, using(crate::proofs::Gains::notes_none, crate::proofs::Gains::notes_then))]
-// The notes of a row: what the exit stands for, and each contact of the way. What they say is not told by contracts, but that each begins
-// with the name of a hub.
-pub(crate) fn write_notes(
-    alloc: Global,
+// What an exit that emitted at the row of a place stands for.
+fn write_exit_note(
     text: &mut String,
-    found: &FoundLine,
+    cycle: &WayCycle,
     place: usize,
-    way: &[Hub],
+    exit: Hub,
 ) -> Result<(), AllocError>
     requires { place < 12 }
-    ensures { OnOk result (GainsNotes (string_bytes text.old) (string_bytes text.new)) }
+    ensures { OnOk result (string_bytes text.new
+        ≡ string_bytes text.old ++ exit_note cycle.now.card cycle.now.cycle cycle.now.points.now place exit) }
 {
-    for step in 0..way.len() {
-        write_step(alloc, text, found, place, way, step)?;
-    }
-    Ok(())
-}
-
-#[tactic(auto, using(crate::proofs::Gains::notes_none))]
-// The note of a hub of a way, where it has one.
-fn write_step(
-    alloc: Global,
-    text: &mut String,
-    found: &FoundLine,
-    place: usize,
-    way: &[Hub],
-    step: usize,
-) -> Result<(), AllocError>
-    requires place { place < 12 }
-    requires step { step < length way.now }
-    ensures { OnOk result (GainsNotes (string_bytes text.old) (string_bytes text.new)) }
-{
-    match note_of_step(alloc, found, place, way, step)? {
-        Some(note) => write_note(alloc, text, &note),
-        None => Ok(()),
-    }
-}
-
-// What is told of a hub of a way: what the exit stands for, or why the contact between the hub before and this one was closed.
-fn note_of_step(
-    alloc: Global,
-    found: &FoundLine,
-    place: usize,
-    way: &[Hub],
-    step: usize,
-) -> Result<Option<Note>, AllocError>
-    requires place { place < 12 }
-    requires step { step < length way.now }
-{
-    if step == 0 {
-        exit_note(alloc, found, place, way[0]).map(Some)
-    } else {
-        contact_note(alloc, way[step - 1], way[step])
-    }
-}
-
-// What an exit that emitted at a row stands for.
-fn exit_note(alloc: Global, found: &FoundLine, place: usize, exit: Hub) -> Result<Note, AllocError>
-    requires { place < 12 }
-{
-    let mut words = String::new(alloc);
-    write_meaning(&mut words, found, row_at(place), exit)?;
-    Ok(Note { hub: exit, words })
+    text.push_str("  ")?;
+    write_hub(text, exit)?;
+    write_exit_words(text, cycle, row_at(place), exit)?;
+    text.push_str("\n")
 }
 
 // What an exit that emitted at a row stands for, behind its name.
-fn write_meaning(
-    words: &mut String,
-    found: &FoundLine,
+fn write_exit_words(
+    text: &mut String,
+    cycle: &WayCycle,
     row: u8,
     exit: Hub,
-) -> Result<(), AllocError> {
+) -> Result<(), AllocError>
+    ensures { OnOk result (string_bytes text.new
+        ≡ string_bytes text.old ++ exit_words cycle.now.card cycle.now.cycle cycle.now.points.now row exit) }
+{
     match exit {
-        Hub::SR(column) => write_punch(words, column, u64::from(found.cards), row),
-        Hub::FR(column) => write_punch(words, column, u64::from(found.cards) + 1, row),
-        Hub::EM(emitter, _) => write_emitter(words, emitter, row, found.kept.cycle),
-        Hub::GX(group, _) => write_read_out(words, found, group),
-        Hub::SX(unit, column) => write_stored(words, unit, column, row),
+        Hub::SR(column) => write_punch(text, column, u64::from(cycle.card), row),
+        Hub::FR(column) => write_punch(text, column, u64::from(cycle.card) + 1, row),
+        Hub::EM(emitter, _) => write_emitter(text, emitter, row, cycle.cycle),
+        Hub::GX(group, _) => write_read_out(text, cycle.points, group),
+        Hub::SX(unit, column) => write_stored(text, unit, column, row),
         _ => Ok(()),
     }
 }
 
 // That a column of a card is punched in a row.
-fn write_punch(words: &mut String, column: u8, card: u64, row: u8) -> Result<(), AllocError> {
-    push_numbered(words, ": column ", column)?;
-    push_numbered(words, " of card ", card)?;
-    words.push_str(" has ")?;
-    write_counted(words, row)
+fn write_punch(text: &mut String, column: u8, card: u64, row: u8) -> Result<(), AllocError>
+    ensures { OnOk result (string_bytes text.new ≡ string_bytes text.old ++ punch_words column card row) }
+{
+    push_numbered(text, ": column ", column)?;
+    push_between(text, " of card ", card, " has ")?;
+    write_counted(text, row)
 }
 
 // That an emitter sends a row.
-fn write_emitter(words: &mut String, emitter: u8, row: u8, cycle: Cycle) -> Result<(), AllocError> {
-    push_numbered(words, ": emitter ", emitter)?;
-    push_between(words, " sends row ", row, " in ")?;
-    write_cycle(words, cycle)
+fn write_emitter(text: &mut String, emitter: u8, row: u8, cycle: Cycle) -> Result<(), AllocError>
+    ensures { OnOk result (string_bytes text.new ≡ string_bytes text.old ++ emitter_words emitter row cycle) }
+{
+    push_numbered(text, ": emitter ", emitter)?;
+    push_between(text, " sends row ", row, " in ")?;
+    write_cycle(text, cycle)
 }
 
 // That a counter group is read out, and its digits.
-fn write_read_out(words: &mut String, found: &FoundLine, group: Group) -> Result<(), AllocError> {
-    write_of_group(words, ": group ", group, " held ")?;
-    write_held(words, found, group)?;
-    words.push_str(", and is read out")
+fn write_read_out(
+    text: &mut String,
+    points: &[KeptPoint; 14],
+    group: Group,
+) -> Result<(), AllocError>
+    ensures { OnOk result (string_bytes text.new ≡ string_bytes text.old ++ read_out_words points.now group) }
+{
+    text.push_str(": group ")?;
+    write_group(text, group)?;
+    text.push_str(" held ")?;
+    write_held(text, points, group)?;
+    text.push_str(", and is read out")
 }
 
 // That a storage unit is read out, and what it holds in a column.
-fn write_stored(words: &mut String, unit: u8, column: u8, row: u8) -> Result<(), AllocError> {
-    push_between(words, ": storage ", unit, " holds ")?;
-    write_counted(words, row)?;
-    push_between(words, " in column ", column, ", and is read out")
+fn write_stored(text: &mut String, unit: u8, column: u8, row: u8) -> Result<(), AllocError>
+    ensures { OnOk result (string_bytes text.new ≡ string_bytes text.old ++ stored_words unit column row) }
+{
+    push_between(text, ": storage ", unit, " holds ")?;
+    write_counted(text, row)?;
+    push_between(text, " in column ", column, ", and is read out")
 }
 
-// The width and the number of a counter group between words.
-fn write_of_group(
-    words: &mut String,
-    before: &str,
-    group: Group,
-    behind: &str,
-) -> Result<(), AllocError> {
-    push_numbered(words, before, group.width)?;
-    push_between(words, ".", group.number, behind)
+// The width and the number of a counter group.
+fn write_group(text: &mut String, group: Group) -> Result<(), AllocError>
+    ensures { OnOk result (string_bytes text.new ≡ string_bytes text.old ++ group_name group) }
+{
+    push_number(text, group.width)?;
+    push_numbered(text, ".", group.number)
+}
+
+// What stands before a punch or a digit.
+fn article(row: u8) -> &'static str
+    ensures { result.now ≡ article row }
+{
+    if row == 8 || row == 11 { "an " } else { "a " }
 }
 
 // A punch or a digit with its article.
-fn write_counted(words: &mut String, row: u8) -> Result<(), AllocError> {
-    let article = if row == 8 || row == 11 { "an " } else { "a " };
-    push_numbered(words, article, row)
+fn write_counted(text: &mut String, row: u8) -> Result<(), AllocError>
+    ensures { OnOk result (string_bytes text.new ≡ string_bytes text.old ++ counted row) }
+{
+    push_numbered(text, article(row), row)
 }
 
 // A cycle in words.
-fn write_cycle(words: &mut String, cycle: Cycle) -> Result<(), AllocError> {
+fn write_cycle(text: &mut String, cycle: Cycle) -> Result<(), AllocError>
+    ensures { OnOk result (string_bytes text.new ≡ string_bytes text.old ++ cycle_words cycle) }
+{
     match cycle {
-        Cycle::RunIn => words.push_str("the run-in"),
-        Cycle::Card => words.push_str("card cycles"),
+        Cycle::RunIn => text.push_str("the run-in"),
+        Cycle::Card => text.push_str("card cycles"),
         Cycle::Prog(level, ordinal) => {
-            words.push_str(ordinal_word(ordinal.number()))?;
-            push_numbered(words, " cycle of level ", level.number())
+            text.push_str(ordinal_word(ordinal))?;
+            push_numbered(text, " cycle of level ", level.number())
         }
         Cycle::Head(heading) => {
-            words.push_str(ordinal_word(heading.number()))?;
-            words.push_str(" heading cycle")
+            text.push_str(ordinal_word(heading))?;
+            text.push_str(" heading cycle")
         }
     }
 }
 
 // First, second or third.
-fn ordinal_word(number: u8) -> &'static str {
-    match number {
-        1 => "the first",
-        2 => "the second",
-        _ => "the third",
+fn ordinal_word(ordinal: Ordinal) -> &'static str
+    ensures { result.now ≡ ordinal_word ordinal }
+{
+    match ordinal {
+        Ordinal::First => "the first",
+        Ordinal::Second => "the second",
+        Ordinal::Third => "the third",
     }
 }
 
 // The digits of a counter group that is read out, by what its exits emitted in the cycle.
-fn write_held(words: &mut String, found: &FoundLine, group: Group) -> Result<(), AllocError> {
+fn write_held(text: &mut String, points: &[KeptPoint; 14], group: Group) -> Result<(), AllocError>
+    ensures { OnOk result (string_bytes text.new ≡ string_bytes text.old ++ held_text points.now group) }
+{
     for down in 0..group.width {
-        write_digit(words, found, Hub::GX(group, group.width - down))?;
+        write_digit(text, points, Hub::GX(group, group.width - down))?;
     }
     Ok(())
 }
 
 // The digit of a counter position: the row at which its exit emitted.
-fn write_digit(words: &mut String, found: &FoundLine, exit: Hub) -> Result<(), AllocError> {
+fn write_digit(text: &mut String, points: &[KeptPoint; 14], exit: Hub) -> Result<(), AllocError>
+    ensures { OnOk result (string_bytes text.new ≡ string_bytes text.old ++ digit_text points.now exit) }
+{
     for place in 0..10 {
-        if found.kept.points[place + 1].exits.has(exit) {
-            return push_number(words, row_at(place));
+        if has_emitted(points, place, exit) {
+            return push_number(text, row_at(place));
         }
     }
     Ok(())
 }
 
-// Why the contact between two hubs of a way was closed, or `None` where a wire leads from the one to the other.
-fn contact_note(alloc: Global, common: Hub, exit: Hub) -> Result<Option<Note>, AllocError> {
-    if !is_contact_exit(exit) {
-        return Ok(None);
-    }
-    let mut words = String::new(alloc);
-    write_contact(&mut words, exit)?;
-    Ok(Some(Note { hub: common, words }))
+// Whether an exit emitted at the row of a place.
+fn has_emitted(points: &[KeptPoint; 14], place: usize, exit: Hub) -> bool
+    requires { place < 12 }
+    ensures { result ≡ has_hub (kept_at points.now (place + 1)).exits exit }
+{
+    points[place + 1].exits.has(exit)
 }
 
-// The exit of a contact, and why it was closed.
-fn write_contact(words: &mut String, exit: Hub) -> Result<(), AllocError> {
-    words.push_str(" => ")?;
-    write_hub(words, exit)?;
-    write_reason(words, exit)
+// The notes on the steps from a hub to others, one after another.
+fn write_step_notes(text: &mut String, exit: Hub, others: &[Hub]) -> Result<(), AllocError>
+    ensures { OnOk result (string_bytes text.new ≡ string_bytes text.old ++ step_notes exit others.now) }
+{
+    let mut hub = exit;
+    for next in others {
+        write_step_note(text, hub, *next)?;
+        hub = *next;
+    }
+    Ok(())
+}
+
+// What is noted of the step from one hub to the next: why the contact between them was closed. Of a wire nothing is.
+fn write_step_note(text: &mut String, hub: Hub, next: Hub) -> Result<(), AllocError>
+    ensures { OnOk result (string_bytes text.new ≡ string_bytes text.old ++ step_note hub next) }
+{
+    if is_contact_exit(next) {
+        write_contact_note(text, hub, next)
+    } else {
+        Ok(())
+    }
+}
+
+// Why the contact from a hub to an exit was closed.
+fn write_contact_note(text: &mut String, common: Hub, exit: Hub) -> Result<(), AllocError>
+    ensures { OnOk result (string_bytes text.new ≡ string_bytes text.old ++ contact_note common exit) }
+{
+    text.push_str("  ")?;
+    write_hub(text, common)?;
+    text.push_str(" => ")?;
+    write_hub(text, exit)?;
+    write_reason(text, exit)?;
+    text.push_str("\n")
+}
+
+// A counter group between words.
+fn write_of_group(
+    text: &mut String,
+    before: &str,
+    group: Group,
+    behind: &str,
+) -> Result<(), AllocError>
+    ensures { OnOk result (string_bytes text.new ≡ string_bytes text.old ++ (before.now ++ group_name group ++ behind.now)) }
+{
+    text.push_str(before)?;
+    write_group(text, group)?;
+    text.push_str(behind)
 }
 
 // Why the contact that leads to an exit was closed.
-fn write_reason(words: &mut String, exit: Hub) -> Result<(), AllocError> {
+fn write_reason(text: &mut String, exit: Hub) -> Result<(), AllocError>
+    ensures { OnOk result (string_bytes text.new ≡ string_bytes text.old ++ reason_words exit) }
+{
     match exit {
         Hub::BAT(group, _) => {
-            write_of_group(words, ": the balance latch of group ", group, " is set")
+            write_of_group(text, ": the balance latch of group ", group, " is set")
         }
         Hub::BAN(group, _) => {
-            write_of_group(words, ": the balance latch of group ", group, " is not set")
+            write_of_group(text, ": the balance latch of group ", group, " is not set")
         }
-        Hub::PIT(pilot, _) => push_between(words, ": pilot ", pilot, " is transferred"),
-        Hub::PIN(pilot, _) => push_between(words, ": pilot ", pilot, " is normal"),
+        Hub::PIT(pilot, _) => push_between(text, ": pilot ", pilot, " is transferred"),
+        Hub::PIN(pilot, _) => push_between(text, ": pilot ", pilot, " is normal"),
         Hub::IX(level, _) => push_numbered(
-            words,
+            text,
             ": the card is the first of a group of level ",
             level,
         ),
         Hub::CSD(split) => {
-            push_between(words, ": split ", split, " leads there at the rows 9 to 0")
+            push_between(text, ": split ", split, " leads there at the rows 9 to 0")
         }
         Hub::CSZ(split) => push_between(
-            words,
+            text,
             ": split ",
             split,
             " leads there at the rows 11 and 12",
         ),
-        Hub::CO(group) => write_of_group(words, ": group ", group, " is at nines"),
+        Hub::CO(group) => write_of_group(text, ": group ", group, " is at nines"),
         _ => Ok(()),
     }
 }

@@ -1,21 +1,20 @@
 //! The whole text.
 
-ghost use Rattle.std.specs.Prelude.{◌≡◌, ◌≤◌, ◌<◌, ◌⊎◌, ℕ, List, Err, IfOk, OnOk, length, slice_index_or, None};
+ghost use Rattle.std.specs.Prelude.{◌≡◌, ◌≤◌, ◌<◌, ◌⊎◌, ◌++◌, ℕ, List, Err, IfOk, OnOk, length};
 ghost use Rattle.std.specs.String.{string_bytes};
 ghost use Rattle.card_code.specs.MostCards.{most_cards};
 ghost use Rattle.explanations.specs.Pages.{HasWays};
 ghost use Rattle.explanations.specs.PlacedInRun.{IsFound, PrintsNoneAt};
 ghost use Rattle.explanations.specs.declared.refusal.Refusal.TheVariants.{NoSuchLine, NoSuchWheel};
-ghost use Rattle.explanation_text.specs.Text.{IsTextOf};
-ghost use Rattle.explanation_text.specs.Told.{Explains};
-ghost use Rattle.explanation_text.specs.Writing.{GainsRow, GainsRows};
+ghost use Rattle.explanation_text.specs.Told.{Explains, all_lines, lines_at, text_of};
 
 use crate::asked::write_asked;
-use crate::lines::{write_cycle_line, write_page_line, write_row_line};
-use crate::notes::write_notes;
-use crate::zero_control::write_closing;
+use crate::closing::write_closing;
+use crate::lines::{write_cycle_line, write_page_line};
+use crate::notes::{WayCycle, write_way_lines};
 use card_code::Card;
 use explanations::{Explanation, LineWays, Refusal, find_line};
+use machine::KeptPoint;
 use setups::Setup;
 use std::alloc::{AllocError, Global};
 
@@ -68,7 +67,6 @@ pub(crate) fn told_text(
     wheel_text(alloc, setup, asked, line, &told)
 }
 
-#[tactic(auto, using(crate::proofs::Gains::text_whole))]
 /// The text of what was told of a wheel of a line. The setup is that by which the line was found, and `asked` names who asks for wires,
 /// as for [`explain_text`]. Fails only where no memory is left.
 pub fn wheel_text(
@@ -78,54 +76,53 @@ pub fn wheel_text(
     line: &LineWays,
     told: &Explanation,
 ) -> Result<String, AllocError>
-    requires rows { length told.now.rows.items ≡ 12 }
-    requires ways { length line.now.ways.items ≡ 12 }
-    ensures { IfOk result (λ text. IsTextOf asked.now told.now (string_bytes text)) }
+    requires { length told.now.rows.items ≡ 12 }
+    ensures { IfOk result (λ text. string_bytes text ≡ text_of setup.now line.now.found.kept.points asked.now told.now) }
 {
     let mut text = String::new(alloc);
     write_page_line(&mut text, told)?;
-    write_cycle_line(&mut text, told.cycle, told.cards)?;
-    write_rows(alloc, &mut text, asked, line, told)?;
-    write_closing(alloc, &mut text, setup, line, told)?;
+    write_cycle_line(&mut text, told)?;
+    write_rows(&mut text, &line.found.kept.points, asked, told)?;
+    write_closing(alloc, &mut text, setup, told)?;
     Ok(text)
 }
 
-#[tactic(auto, using(crate::proofs::Gains::rows_none, crate::proofs::Gains::rows_more))]
 // The lines of all rows.
 fn write_rows(
-    alloc: Global,
     text: &mut String,
+    points: &[KeptPoint; 14],
     asked: &[(String, Setup)],
-    line: &LineWays,
     told: &Explanation,
 ) -> Result<(), AllocError>
     requires { length told.now.rows.items ≡ 12 }
-    ensures { OnOk result (GainsRows asked.now told.now.rows.items 12 (string_bytes text.old) (string_bytes text.new)) }
+    ensures { OnOk result (string_bytes text.new ≡ string_bytes text.old ++ all_lines points.now asked.now told.now) }
 {
     for place in 0..12 {
-        write_row(alloc, text, asked, line, told, place)?;
+        write_row(text, points, asked, told, place)?;
     }
     Ok(())
 }
 
-#[tactic(auto, using(crate::proofs::Gains::row_none, crate::proofs::Gains::row_told))]
 // The lines of the row at a place in the order of the points.
 fn write_row(
-    alloc: Global,
     text: &mut String,
+    points: &[KeptPoint; 14],
     asked: &[(String, Setup)],
-    line: &LineWays,
     told: &Explanation,
     place: usize,
 ) -> Result<(), AllocError>
     requires rows { length told.now.rows.items ≡ 12 }
     requires place { place < 12 }
-    ensures { OnOk result (GainsRow asked.now place (slice_index_or told.now.rows.items place None) (string_bytes text.old) (string_bytes text.new)) }
+    ensures { OnOk result (string_bytes text.new ≡ string_bytes text.old ++ lines_at points.now asked.now told.now place) }
 {
     match &told.rows[place] {
         Some(way) => {
-            write_row_line(text, place, way)?;
-            write_notes(alloc, text, &line.found, place, way)?;
+            let cycle = WayCycle {
+                card: told.cards,
+                cycle: told.cycle,
+                points,
+            };
+            write_way_lines(text, &cycle, place, way)?;
             write_asked(text, asked, way)
         }
         None => Ok(()),

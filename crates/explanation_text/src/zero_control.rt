@@ -1,308 +1,198 @@
-//! The words behind the rows: which character they are, and what zero control did.
+//! What zero control did to a wheel.
 
-ghost use Rattle.std.specs.Prelude.{◌≡◌, ◌≤◌, ◌<◌, ◌++◌, OnOk, codes, decimal, length};
-ghost use Rattle.explanation_text.specs.Text.{row_at};
+ghost use Rattle.std.specs.Prelude.{◌≡◌, ◌++◌, OnOk};
 ghost use Rattle.std.specs.String.{string_bytes};
-ghost use Rattle.explanation_text.specs.Writing.{GainsCharacter, GainsClosing, GainsControl};
+ghost use Rattle.print_unit.specs.ZeroControl.{is_zero};
+ghost use Rattle.explanation_text.specs.Closing.{absent_words, given_words, giver_words, kept_words, links_words, suppress_line, suppress_told, suppress_words, symbol_line, symbol_told, symbol_words, uncontrolled_words, zero_control_line};
 
-use crate::lines::write_line;
-use crate::names::row_at;
-use crate::notes::is_plain;
-use card_code::{Column, ROWS};
-use explanations::{Explanation, LineWays, Significance};
-use hubs::{Hub, Jack};
-use numerals::{push_between, push_number, push_numbered};
+use crate::closing::character_of;
+use explanations::{Explanation, Giver, Significance, count_received};
+use hubs::Jack;
+use numerals::{push_between, push_numbered};
 use setups::Setup;
-use std::alloc::{AllocError, Global};
+use std::alloc::AllocError;
 
-#[tactic(auto, using(crate::proofs::Closing::closing_both))]
-// The lines behind the rows. Which of them stand, and how they begin, is told by contracts, and not what else they say.
-pub(crate) fn write_closing(
-    alloc: Global,
+// The line on zero control of a wheel that received some rows; nothing where it has neither of the jacks.
+pub(crate) fn write_zero_control(
     text: &mut String,
     setup: &Setup,
-    line: &LineWays,
+    received: &[bool; 12],
     told: &Explanation,
 ) -> Result<(), AllocError>
-    requires rows { 12 ≤ length told.now.rows.items }
-    requires ways { 12 ≤ length line.now.ways.items }
-    ensures { OnOk result (GainsClosing (string_bytes text.old) (string_bytes text.new)) }
+    ensures { OnOk result (string_bytes text.new ≡ string_bytes text.old ++ zero_control_line setup.now received.now told.now) }
 {
-    write_character_of_rows(alloc, text, told)?;
-    write_zero_control(alloc, text, setup, line, told)
-}
-
-#[tactic(auto, using(crate::proofs::Closing::character_none))]
-// Which rows were received, and the character that they are.
-fn write_character_of_rows(
-    alloc: Global,
-    text: &mut String,
-    told: &Explanation,
-) -> Result<(), AllocError>
-    requires { 12 ≤ length told.now.rows.items }
-    ensures { OnOk result (GainsCharacter (string_bytes text.old) (string_bytes text.new)) }
-{
-    let count = received_count(told);
-    if count == 0 {
-        return Ok(());
-    }
-    let mut words = String::new(alloc);
-    if count == 1 {
-        write_printed(&mut words, received_column(told).print_character())?;
-        return write_row_is(text, received_place(told), &words);
-    }
-    write_received(&mut words, told, count)?;
-    words.push_str(" are ")?;
-    write_printed(&mut words, received_column(told).print_character())?;
-    write_rows_are(text, &words)
-}
-
-#[tactic(auto, using(crate::proofs::Closing::character_none, crate::proofs::Closing::character_one))]
-// What the row at a place is. Words that have an end of a line, as none have, are left out.
-fn write_row_is(text: &mut String, place: usize, words: &str) -> Result<(), AllocError>
-    requires { place < 12 }
-    ensures { OnOk result (GainsCharacter (string_bytes text.old) (string_bytes text.new)) }
-{
-    if !is_plain(words.as_bytes()) {
-        return Ok(());
-    }
-    write_row(text, place)?;
-    write_line(text, " is ", words)
-}
-
-#[tactic(auto, using(crate::proofs::Closing::character_none, crate::proofs::Closing::character_many))]
-// What several rows are. Words that have an end of a line, as none have, are left out.
-fn write_rows_are(text: &mut String, words: &str) -> Result<(), AllocError>
-    ensures { OnOk result (GainsCharacter (string_bytes text.old) (string_bytes text.new)) }
-{
-    if !is_plain(words.as_bytes()) {
-        return Ok(());
-    }
-    write_line(text, "rows ", words)
-}
-
-// The row at a place.
-fn write_row(text: &mut String, place: usize) -> Result<(), AllocError>
-    requires { place < 12 }
-    ensures { OnOk result (string_bytes text.new ≡ string_bytes text.old ++ (codes "row " ++ decimal (row_at place))) }
-{
-    push_numbered(text, "row ", row_at(place))
-}
-
-// The place of the first row that was received.
-fn received_place(told: &Explanation) -> usize
-    requires { 12 ≤ length told.now.rows.items }
-    ensures { result < 12 }
-{
-    for place in 0..12 {
-        if told.rows[place].is_some() {
-            return place;
-        }
-    }
-    0
-}
-
-// How many rows were received.
-fn received_count(told: &Explanation) -> u32
-    requires { 12 ≤ length told.now.rows.items }
-{
-    let mut count = 0;
-    for place in 0..12 {
-        if told.rows[place].is_some() {
-            count += 1;
-        }
-    }
-    count
-}
-
-// The rows that were received.
-fn received_column(told: &Explanation) -> Column
-    requires { 12 ≤ length told.now.rows.items }
-{
-    let mut column = Column::blank();
-    for place in 0..12 {
-        if told.rows[place].is_some() {
-            column = column.with_row(ROWS[place]);
-        }
-    }
-    column
-}
-
-// The list of the rows that were received, so many.
-fn write_received(words: &mut String, told: &Explanation, count: u32) -> Result<(), AllocError>
-    requires { 12 ≤ length told.now.rows.items }
-{
-    let mut written = 0;
-    for place in 0..12 {
-        if told.rows[place].is_some() {
-            write_listed(words, written, count, place)?;
-            written += 1;
-        }
-    }
-    Ok(())
-}
-
-// The print character that the rows are, or words that they are none.
-fn write_printed(words: &mut String, character: u8) -> Result<(), AllocError> {
-    if character == b' ' {
-        words.push_str("no print character: a blank")?;
-        Ok(())
+    if setup.has_jack(Jack::Symbol(told.wheel)) {
+        write_symbol_line(text, received, told)
+    } else if setup.has_jack(Jack::Suppress(told.wheel)) {
+        write_suppress_line(text, received, told)
     } else {
-        words.push(char::from(character))
+        Ok(())
     }
 }
 
-// A row of a list of so many, behind those that are written.
-fn write_listed(
-    words: &mut String,
-    written: u32,
-    count: u32,
-    place: usize,
-) -> Result<(), AllocError>
-    requires place { place < 12 }
-    requires written { written < 100 }
-{
-    if written > 0 {
-        words.push_str(if written + 1 == count { " and " } else { ", " })?;
-    }
-    push_number(words, row_at(place))
-}
-
-#[tactic(auto, using(crate::proofs::Closing::control_none))]
-// What zero control did to the wheel; nothing where it has neither of the jacks.
-fn write_zero_control(
-    alloc: Global,
+// The line of a SYMBOL wheel.
+fn write_symbol_line(
     text: &mut String,
-    setup: &Setup,
-    line: &LineWays,
+    received: &[bool; 12],
     told: &Explanation,
 ) -> Result<(), AllocError>
-    requires rows { 12 ≤ length told.now.rows.items }
-    requires ways { 12 ≤ length line.now.ways.items }
-    ensures { OnOk result (GainsControl (string_bytes text.old) (string_bytes text.new)) }
+    ensures { OnOk result (string_bytes text.new ≡ string_bytes text.old ++ symbol_line received.now told.now) }
 {
-    let is_symbol = setup.has_jack(Jack::Symbol(told.wheel));
-    if !is_symbol && !setup.has_jack(Jack::Suppress(told.wheel)) {
-        return Ok(());
-    }
-    let mut words = String::new(alloc);
-    words.push_str(if is_symbol { "a SYMBOL" } else { "a SUPPRESS" })?;
-    words.push_str(" wheel")?;
-    write_significance(&mut words, line, told, is_symbol)?;
-    write_control(text, &words)
+    text.push_str("zero control: a SYMBOL wheel")?;
+    write_symbol_told(text, received, told)?;
+    text.push_str("\n")
 }
 
-#[tactic(auto, using(crate::proofs::Closing::control_none, crate::proofs::Closing::control_told))]
-// A line on zero control. Words that have an end of a line, as none have, are left out.
-fn write_control(text: &mut String, words: &str) -> Result<(), AllocError>
-    ensures { OnOk result (GainsControl (string_bytes text.old) (string_bytes text.new)) }
-{
-    if !is_plain(words.as_bytes()) {
-        return Ok(());
-    }
-    write_line(text, "zero control: ", words)
-}
-
-// Whether zero control blanks what a SYMBOL wheel, or a SUPPRESS wheel, received, and why.
-fn write_significance(
-    words: &mut String,
-    line: &LineWays,
+// The line of a SUPPRESS wheel.
+fn write_suppress_line(
+    text: &mut String,
+    received: &[bool; 12],
     told: &Explanation,
-    is_symbol: bool,
 ) -> Result<(), AllocError>
-    requires rows { 12 ≤ length told.now.rows.items }
-    requires ways { 12 ≤ length line.now.ways.items }
+    ensures { OnOk result (string_bytes text.new ≡ string_bytes text.old ++ suppress_line received.now told.now) }
 {
-    match told.significance {
-        _ if is_nothing(told) => words.push_str(" that received nothing: it is blank"),
-        Significance::Uncontrolled => {
-            words.push_str("; heading cycles have none: ")?;
-            words.push_str(kept_words(told))
-        },
-        _ if !is_symbol && !is_zero(told) => {
-            words.push_str(" that received no zero alone: it changes nothing")
-        },
-        Significance::From(from) => {
-            words.push_str("; ")?;
-            write_giver(words, line, from, told.wheel)?;
-            words.push_str(": so ")?;
-            words.push_str(if is_symbol {
-                kept_words(told)
-            } else {
-                "the zero prints"
-            })
-        },
-        Significance::Absent => words.push_str(if is_symbol {
-            " without significance: it is blank"
-        } else {
-            " without significance: the zero is blank"
-        }),
+    text.push_str("zero control: a SUPPRESS wheel")?;
+    write_suppress_told(text, received, told)?;
+    text.push_str("\n")
+}
+
+// What zero control did to a SYMBOL wheel.
+fn write_symbol_told(
+    text: &mut String,
+    received: &[bool; 12],
+    told: &Explanation,
+) -> Result<(), AllocError>
+    ensures { OnOk result (string_bytes text.new ≡ string_bytes text.old ++ symbol_told received.now told.now) }
+{
+    if count_received(received) == 0 {
+        text.push_str(" that received nothing: it is blank")
+    } else {
+        write_symbol_words(text, received, told.wheel, told.significance)
     }
 }
 
-// That a wheel prints what it received; where that is no print character, that zero control changes nothing.
-fn kept_words(told: &Explanation) -> &'static str
-    requires { 12 ≤ length told.now.rows.items }
+// What zero control did to a SUPPRESS wheel.
+fn write_suppress_told(
+    text: &mut String,
+    received: &[bool; 12],
+    told: &Explanation,
+) -> Result<(), AllocError>
+    ensures { OnOk result (string_bytes text.new ≡ string_bytes text.old ++ suppress_told received.now told.now) }
 {
-    if received_column(told).print_character() == b' ' {
+    if count_received(received) == 0 {
+        text.push_str(" that received nothing: it is blank")
+    } else {
+        write_suppress_words(text, received, told.wheel, told.significance)
+    }
+}
+
+// What zero control did to what a SYMBOL wheel received, and why.
+fn write_symbol_words(
+    text: &mut String,
+    received: &[bool; 12],
+    wheel: u8,
+    significance: Significance,
+) -> Result<(), AllocError>
+    ensures { OnOk result (string_bytes text.new ≡ string_bytes text.old ++ symbol_words received.now wheel significance) }
+{
+    match significance {
+        Significance::Uncontrolled => write_uncontrolled(text, character_of(received)),
+        Significance::From(giver) => {
+            write_giver(text, giver, wheel)?;
+            text.push_str(kept_words(character_of(received)))
+        }
+        Significance::Absent => text.push_str(" without significance: it is blank"),
+    }
+}
+
+// What zero control did to what a SUPPRESS wheel received, and why.
+fn write_suppress_words(
+    text: &mut String,
+    received: &[bool; 12],
+    wheel: u8,
+    significance: Significance,
+) -> Result<(), AllocError>
+    ensures { OnOk result (string_bytes text.new ≡ string_bytes text.old ++ suppress_words received.now wheel significance) }
+{
+    match significance {
+        Significance::Uncontrolled => write_uncontrolled(text, character_of(received)),
+        Significance::From(giver) => write_given(text, received, wheel, giver),
+        Significance::Absent => text.push_str(absent_words(received)),
+    }
+}
+
+// What a SUPPRESS wheel with significance does.
+fn write_given(
+    text: &mut String,
+    received: &[bool; 12],
+    wheel: u8,
+    giver: Giver,
+) -> Result<(), AllocError>
+    ensures { OnOk result (string_bytes text.new ≡ string_bytes text.old ++ given_words received.now wheel giver) }
+{
+    if !is_zero(received) {
+        return text.push_str(" that received no zero alone: it changes nothing");
+    }
+    write_giver(text, giver, wheel)?;
+    text.push_str("the zero prints")
+}
+
+// What a SUPPRESS wheel without significance does.
+fn absent_words(received: &[bool; 12]) -> &'static str
+    ensures { result.now ≡ absent_words received.now }
+{
+    if is_zero(received) {
+        " without significance: the zero is blank"
+    } else {
+        " that received no zero alone: it changes nothing"
+    }
+}
+
+// That the cycle has no zero control.
+fn write_uncontrolled(text: &mut String, character: u8) -> Result<(), AllocError>
+    ensures { OnOk result (string_bytes text.new ≡ string_bytes text.old ++ uncontrolled_words character) }
+{
+    text.push_str("; heading cycles have none: ")?;
+    text.push_str(kept_words(character))
+}
+
+// That a wheel prints what it received; if that is no print character, that zero control changes nothing.
+fn kept_words(character: u8) -> &'static str
+    ensures { result.now ≡ kept_words character }
+{
+    if character == b' ' {
         "it changes nothing"
     } else {
         "it prints"
     }
 }
 
-// Whether no row was received.
-fn is_nothing(told: &Explanation) -> bool
-    requires { 12 ≤ length told.now.rows.items }
-{
-    for place in 0..12 {
-        if told.rows[place].is_some() {
-            return false;
-        }
-    }
-    true
-}
-
 // Whether row 0 and no other was received.
-fn is_zero(told: &Explanation) -> bool
-    requires { 12 ≤ length told.now.rows.items }
+fn is_zero(received: &[bool; 12]) -> bool
+    ensures { result ≡ is_zero received.now }
 {
-    for place in 0..12 {
-        if told.rows[place].is_some() != (place == 9) {
-            return false;
-        }
-    }
-    true
+    received[9] && count_received(received) == 1
 }
 
 // The wheel that gives significance, and how it comes to this wheel.
-fn write_giver(words: &mut String, line: &LineWays, from: u8, wheel: u8) -> Result<(), AllocError>
-    requires { 12 ≤ length line.now.ways.items }
+fn write_giver(text: &mut String, giver: Giver, wheel: u8) -> Result<(), AllocError>
+    ensures { OnOk result (string_bytes text.new ≡ string_bytes text.old ++ giver_words giver wheel) }
 {
-    push_between(words, "wheel ", from, " received one figure")?;
-    write_figures(words, line, from)?;
-    write_links(words, from, wheel)
-}
-
-// The rows of the figures that a wheel received.
-fn write_figures(words: &mut String, line: &LineWays, wheel: u8) -> Result<(), AllocError>
-    requires { 12 ≤ length line.now.ways.items }
-{
-    for place in 0..9 {
-        if line.ways[place].has(Hub::W(wheel)) {
-            push_numbered(words, ", ", row_at(place))?;
-        }
-    }
-    Ok(())
+    push_numbered(text, "; wheel ", giver.wheel)?;
+    push_numbered(text, " received one figure, ", giver.figure)?;
+    write_links(text, giver.wheel, wheel)?;
+    text.push_str(": so ")
 }
 
 // The wheels behind one up to another, which pass its significance on.
-fn write_links(words: &mut String, from: u8, wheel: u8) -> Result<(), AllocError> {
+fn write_links(text: &mut String, from: u8, wheel: u8) -> Result<(), AllocError>
+    ensures { OnOk result (string_bytes text.new ≡ string_bytes text.old ++ links_words from wheel) }
+{
     let next = u16::from(from) + 1;
     if next == u16::from(wheel) {
-        push_between(words, ", and LINK ", wheel, " passes it on")
+        push_between(text, ", and LINK ", wheel, " passes it on")
     } else {
-        push_numbered(words, ", and LINK ", next)?;
-        push_between(words, " to ", wheel, " pass it on")
+        push_numbered(text, ", and LINK ", next)?;
+        push_between(text, " to ", wheel, " pass it on")
     }
 }

@@ -94,6 +94,7 @@ IsFound-next wiring deck page line cards running kept within has placed = record
     step = placed.step;
     placed = placed.placed;
   };
+  waits = placed.waits;
   points = placed.points;
 }
 

@@ -7,7 +7,7 @@ use Rattle.setups.specs.Wiring.{Wiring, is_plugged}
 use Rattle.net.specs.declared.cycle.Point.{Point}
 use Rattle.print_unit.specs.ZeroControl.{is_figure}
 use Rattle.whole_cycles.specs.WholeCycles.{rows_received}
-use Rattle.explanations.specs.Explanations.{GivesSignificance}
+use Rattle.explanations.specs.Explanations.{GivesSignificance, HasFigure}
 use Rattle.explanations.specs.Rows.{TellsGiver}
 
 -- LINK is plugged on each wheel behind one, up to another
@@ -56,13 +56,15 @@ no-giver wiring pictures right wheel first none = λ from gives.
 
 pub giver-found : (wiring : Wiring) (pictures : Point → Hub → Bool) (right wheel : ℕ) → 1 < right → right ≤ wheel
     → is_plugged wiring (Link right) ≡ true → AreLinked wiring right wheel → HaveNoFigure pictures right wheel
-    → is_figure (rows_received pictures (right - 1)) ≡ true → TellsGiver wiring pictures wheel (Some (right - 1))
-giver-found wiring pictures right wheel low up here linked none figure = (
-  record {
+    → is_figure (rows_received pictures (right - 1)) ≡ true → (figure : ℕ) → HasFigure (rows_received pictures (right - 1)) figure
+    → TellsGiver wiring pictures wheel (Some (record { wheel = right - 1; figure = figure }))
+giver-found wiring pictures right wheel low up here linked none is figure has = record {
+  gives = record {
     first = omega (arith, low);
     left = omega (arith, low, up);
-    figure = figure;
+    figure = is;
     linked = linked-more wiring right wheel low here linked;
-  },
-  λ nearer past gives. none nearer (omega (arith, low, past)) gives.left gives.figure,
-)
+  };
+  nearest = λ nearer past gives. none nearer (omega (arith, low, past)) gives.left gives.figure;
+  figure = has;
+}

@@ -5,6 +5,7 @@ pub mod PageLines
 mod Printed
 mod ReadyRuns
 mod RowLists
+mod Says
 mod SeenRows
 mod Told
 mod ZeroControl

@@ -110,6 +110,7 @@ kept-found wiring deck cards count next old left before after kept within is cou
         step = placed.step;
         placed = placed.placed;
       };
+      waits = placed.waits;
       points = placed.points;
     }
 

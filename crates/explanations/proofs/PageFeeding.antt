@@ -59,6 +59,7 @@ found-placed wiring deck cards machine lines within fed kept placed = record {
     step = placed.step;
     placed = placed.placed;
   };
+  waits = placed.waits;
   points = placed.points;
 }
 

@@ -63,6 +63,14 @@ module _ (wiring : Wiring) (cycle : Cycle) (old new : MachineState) (whole : Who
       (λ hub. sym (emits-row old cycle whole.pictures (rows_before row) row hub))
       (λ hub. sym (closes-before old cycle whole.pictures (C ∷ map Row (rows_before row)) (Row row) hub refl)) (whole.rows row)
 
+  exits_row : (row : CardRow) (hub : Hub) → emits (before row) cycle (Row row) hub ≡ row_emits old whole.pictures cycle row hub
+  unfolding before
+  exits_row row hub = emits-row old cycle whole.pictures (rows_before row) row hub
+
+  closed_row : (row : CardRow) (hub : Hub) → closes (before row) cycle (Row row) hub ≡ closes old cycle (Row row) hub
+  unfolding before
+  closed_row row hub = closes-before old cycle whole.pictures (C ∷ map Row (rows_before row)) (Row row) hub refl
+
   reached_1 : Reached wiring cycle 1 old (before Nine)
   unfolding Reached before
   reached_1 = (old, refl, record { picture = whole.pictures C; is_picture = seen_control; is_new = refl })
@@ -112,18 +120,18 @@ module _ (wiring : Wiring) (cycle : Cycle) (old new : MachineState) (whole : Who
   reached_12 = (before Eleven, reached_11, record { picture = whole.pictures (Row Eleven); is_picture = seen_row Eleven; is_new = refl })
 
   sees : (row : ℕ) → row < 12 → SeesRow wiring cycle old whole.pictures row
-  sees zero less = record { now = before Nine; reached = reached_1; picture = seen_row Nine }
-  sees (suc zero) less = record { now = before Eight; reached = reached_2; picture = seen_row Eight }
-  sees (suc (suc zero)) less = record { now = before Seven; reached = reached_3; picture = seen_row Seven }
-  sees (suc (suc (suc zero))) less = record { now = before Six; reached = reached_4; picture = seen_row Six }
-  sees (suc (suc (suc (suc zero)))) less = record { now = before Five; reached = reached_5; picture = seen_row Five }
-  sees (suc (suc (suc (suc (suc zero))))) less = record { now = before Four; reached = reached_6; picture = seen_row Four }
-  sees (suc (suc (suc (suc (suc (suc zero)))))) less = record { now = before Three; reached = reached_7; picture = seen_row Three }
-  sees (suc (suc (suc (suc (suc (suc (suc zero))))))) less = record { now = before Two; reached = reached_8; picture = seen_row Two }
-  sees (suc (suc (suc (suc (suc (suc (suc (suc zero)))))))) less = record { now = before One; reached = reached_9; picture = seen_row One }
-  sees (suc (suc (suc (suc (suc (suc (suc (suc (suc zero))))))))) less = record { now = before Zero; reached = reached_10; picture = seen_row Zero }
-  sees (suc (suc (suc (suc (suc (suc (suc (suc (suc (suc zero)))))))))) less = record { now = before Eleven; reached = reached_11; picture = seen_row Eleven }
-  sees (suc (suc (suc (suc (suc (suc (suc (suc (suc (suc (suc zero))))))))))) less = record { now = before Twelve; reached = reached_12; picture = seen_row Twelve }
+  sees zero less = record { now = before Nine; reached = reached_1; picture = seen_row Nine; exits = exits_row Nine; contacts = closed_row Nine }
+  sees (suc zero) less = record { now = before Eight; reached = reached_2; picture = seen_row Eight; exits = exits_row Eight; contacts = closed_row Eight }
+  sees (suc (suc zero)) less = record { now = before Seven; reached = reached_3; picture = seen_row Seven; exits = exits_row Seven; contacts = closed_row Seven }
+  sees (suc (suc (suc zero))) less = record { now = before Six; reached = reached_4; picture = seen_row Six; exits = exits_row Six; contacts = closed_row Six }
+  sees (suc (suc (suc (suc zero)))) less = record { now = before Five; reached = reached_5; picture = seen_row Five; exits = exits_row Five; contacts = closed_row Five }
+  sees (suc (suc (suc (suc (suc zero))))) less = record { now = before Four; reached = reached_6; picture = seen_row Four; exits = exits_row Four; contacts = closed_row Four }
+  sees (suc (suc (suc (suc (suc (suc zero)))))) less = record { now = before Three; reached = reached_7; picture = seen_row Three; exits = exits_row Three; contacts = closed_row Three }
+  sees (suc (suc (suc (suc (suc (suc (suc zero))))))) less = record { now = before Two; reached = reached_8; picture = seen_row Two; exits = exits_row Two; contacts = closed_row Two }
+  sees (suc (suc (suc (suc (suc (suc (suc (suc zero)))))))) less = record { now = before One; reached = reached_9; picture = seen_row One; exits = exits_row One; contacts = closed_row One }
+  sees (suc (suc (suc (suc (suc (suc (suc (suc (suc zero))))))))) less = record { now = before Zero; reached = reached_10; picture = seen_row Zero; exits = exits_row Zero; contacts = closed_row Zero }
+  sees (suc (suc (suc (suc (suc (suc (suc (suc (suc (suc zero)))))))))) less = record { now = before Eleven; reached = reached_11; picture = seen_row Eleven; exits = exits_row Eleven; contacts = closed_row Eleven }
+  sees (suc (suc (suc (suc (suc (suc (suc (suc (suc (suc (suc zero))))))))))) less = record { now = before Twelve; reached = reached_12; picture = seen_row Twelve; exits = exits_row Twelve; contacts = closed_row Twelve }
   sees (suc (suc (suc (suc (suc (suc (suc (suc (suc (suc (suc (suc row)))))))))))) less = absurd (omega (arith, less))
 
 pub cycle-seen : (wiring : Wiring) (cycle : Cycle) (old new : MachineState) → IsReady wiring old → CycleRun wiring cycle old new

@@ -17,7 +17,7 @@ use Rattle.machine.specs.declared.kept.KeptPoint.{KeptPoint}
 use Rattle.print_unit.specs.Wheels.{wheel_at_start}
 use Rattle.print_unit.specs.ZeroControl.{shown}
 use Rattle.ways.specs.Ways.{IsWay}
-use Rattle.explanations.specs.Explanations.{IsExplanation, IsTold, SeesRow, TellsRow, TellsRows, TellsSignificance, character_on, is_significant}
+use Rattle.explanations.specs.Explanations.{ExplainsBy, IsExplanation, IsTold, SeesRow, TellsRow, TellsRows, TellsSignificance, character_on, is_significant}
 use Rattle.explanations.specs.PlacedInRun.{IsFound, machine_before}
 use Rattle.explanations.specs.Rows.{ArePictures}
 use Rattle.explanations.specs.declared.explanation.Explanation.{Explanation}
@@ -76,9 +76,10 @@ pub explained : (wiring : Wiring) (deck : List (List ℕ)) (found : FoundLine) (
     → ((pictures : Point → Hub → Bool) → ArePictures wiring found.kept.points pictures
     → TellsSignificance wiring pictures found.kept.cycle wheel significance)
     → (character : ℕ) → character ≡ character_on found.kept.line wheel
-    → IsExplanation wiring deck found.kept.line.page found.kept.line.line wheel (record {
+    → ExplainsBy found.kept.points wiring deck found.kept.line.page found.kept.line.line wheel (record {
       cards = found.cards;
       cycle = found.kept.cycle;
+      waits = found.kept.waits;
       line = found.kept.line;
       wheel = wheel;
       character = character;
@@ -98,21 +99,27 @@ explained wiring deck found wheel first range is rows tells significance tells_s
     received-is wiring points seen.pictures wheel (map is_some rows.items) (length-map rows.items is_some ∙ tells.long)
     (told-received wiring points wheel rows.items tells) are in
     record {
-      run = is.run;
-      at_page = refl;
-      at_line = refl;
-      at_wheel = refl;
-      long = tells.long;
-      rows = λ row less. told-row wiring cycle old points is.points (W wheel) row less (slice_index_or rows.items row None) (tells.told row less);
-      pictures = seen.pictures;
-      seen = seen.rows;
-      significance = told;
-      printed = printed;
-      shows =
-          printed
-          ∙ ap (λ (line : List ℕ). slice_index_or line (wheel - 1) 0) (text ∙ seen.line)
-          ∙ line-shows wiring seen.pictures cycle wheel first range significance told
-          ∙ ap (λ (has : List Bool). shown (is_significant significance) (record (wheel_at_start wiring wheel) { received = has })) (sym received);
+      is = record {
+        run = is.run;
+        waits = is.waits;
+        points = points;
+        kept = is.points;
+        at_page = refl;
+        at_line = refl;
+        at_wheel = refl;
+        long = tells.long;
+        rows = λ row less. told-row wiring cycle old points is.points (W wheel) row less (slice_index_or rows.items row None) (tells.told row less);
+        pictures = seen.pictures;
+        seen = seen.rows;
+        significance = told;
+        printed = printed;
+        shows =
+            printed
+            ∙ ap (λ (line : List ℕ). slice_index_or line (wheel - 1) 0) (text ∙ seen.line)
+            ∙ line-shows wiring seen.pictures cycle wheel first range significance told
+            ∙ ap (λ (has : List Bool). shown (is_significant significance) (record (wheel_at_start wiring wheel) { received = has })) (sym received);
+      };
+      by = refl;
     }
 
 -- what is told of a line that stands at a page and a line of it

@@ -135,7 +135,7 @@ module _ (wiring : Wiring) (pictures : Point → Hub → Bool) (line : List ℕ)
   significance_is : (wheel : ℕ) → 1 ≤ wheel → wheel ≤ 120 → (cycle : Cycle) → has_zero_control cycle ≡ true
       → (told : Significance) → TellsSignificance wiring pictures cycle wheel told → is.has (wheel - 1) ≡ is_significant told
   significance_is wheel first range cycle control Uncontrolled tells = absurd (false≢true (sym tells ∙ control))
-  significance_is wheel first range cycle control (From from) tells = gives_has from wheel range tells.1
+  significance_is wheel first range cycle control (From giver) tells = gives_has giver.wheel wheel range tells.1.gives
   significance_is wheel first range cycle control Absent tells = by (is.has (wheel - 1)) refl
     where
       by : (has : Bool) → is.has (wheel - 1) ≡ has → has ≡ false
@@ -159,7 +159,7 @@ line-shows wiring pictures cycle wheel first range told tells = by (has_zero_con
     freely : (told : Significance) → has_zero_control cycle ≡ false → TellsSignificance wiring pictures cycle wheel told
         → is_significant told ≡ true
     freely Uncontrolled control tells = refl
-    freely (From from) control tells = refl
+    freely (From giver) control tells = refl
     freely Absent control tells = absurd (false≢true (sym control ∙ tells.0))
 
     by : (control : Bool) → has_zero_control cycle ≡ control

@@ -1,6 +1,9 @@
 -- Why a wheel of a printed line printed its character.
 use Rattle.std.specs.Prelude.{◌≡◌, ◌↔◌, ℕ, ◌+◌, ◌-◌, ◌<◌, ◌≤◌, Bool, true, false, List, Option, None, IfSome, IsSome, is_some, Vec, map, length, slice_index_or}
 use Rattle.std.specs.declared.alloc.Global.{Global}
+use Rattle.card_code.specs.Rows.{rows}
+use Rattle.card_code.specs.declared.row.Row.{Row as CardRow}
+use Rattle.card_code.specs.declared.row.Row.TheVariants.{Nine}
 use Rattle.placed_lines.specs.declared.placed_line.PlacedLine.{PlacedLine}
 use Rattle.hubs.specs.declared.hub.Hub.{Hub}
 use Rattle.hubs.specs.declared.hub.Hub.TheVariants.{W}
@@ -11,15 +14,16 @@ use Rattle.net.specs.Impulsed.{IsImpulsed, IsPicture}
 use Rattle.net.specs.declared.cycle.Cycle.{Cycle}
 use Rattle.net.specs.declared.cycle.Point.{Point}
 use Rattle.machine.specs.Cycles.{Reached, point_at}
-use Rattle.machine.specs.Kept.{kept_at}
+use Rattle.machine.specs.Kept.{KeepsPoints, kept_at}
 use Rattle.machine.specs.Machine.{MachineState, closes, emits}
 use Rattle.machine.specs.declared.kept.KeptPoint.{KeptPoint}
 use Rattle.print_unit.specs.Wheels.{wheel_at_start}
 use Rattle.print_unit.specs.ZeroControl.{has_zero_control, is_figure, shown}
 use Rattle.ways.specs.Ways.{IsWay}
-use Rattle.whole_cycles.specs.WholeCycles.{rows_received}
+use Rattle.whole_cycles.specs.WholeCycles.{row_emits, rows_received}
 use Rattle.explanations.specs.PlacedInRun.{PlacedInRun, machine_before}
 use Rattle.explanations.specs.declared.explanation.Explanation.{Explanation}
+use Rattle.explanations.specs.declared.significance.Giver.{Giver}
 use Rattle.explanations.specs.declared.significance.Significance.{Significance}
 use Rattle.explanations.specs.declared.significance.Significance.TheVariants.{Uncontrolled, From, Absent}
 
@@ -44,10 +48,19 @@ pub record TellsRow (wiring : Wiring) (cycle : Cycle) (old : MachineState) (hub 
   pub exactly :
       IsSome found ↔ IsImpulsed wiring (emits now cycle (point_at (row + 1))) (closes now cycle (point_at (row + 1))) hub
 
--- What the machine saw at a row of a cycle: the picture of the impulsed hubs, by its state just before that row.
+-- the row of a card that passes at a place in the order of the points
+abbrev pub row_passing : ℕ → CardRow
+row_passing place = slice_index_or rows place Nine
+
+-- What the machine saw at a row of a cycle: the picture of the impulsed hubs, by its state just before that row. What emitted there, and
+-- which contacts were closed, hangs on the state before the cycle, and on what was told to read out at the control point: the punches of
+-- the cards at the stations, the digits of counter groups, the columns of storage units, the emitter of the cycle; the latches, the
+-- pilots, the splits.
 pub record SeesRow (wiring : Wiring) (cycle : Cycle) (old : MachineState) (pictures : Point → Hub → Bool) (row : ℕ) : Type 0 where
   pub now : MachineState
   pub reached : Reached wiring cycle (row + 1) old now
+  pub exits : (hub : Hub) → emits now cycle (point_at (row + 1)) hub ≡ row_emits old pictures cycle (row_passing row) hub
+  pub contacts : (hub : Hub) → closes now cycle (point_at (row + 1)) hub ≡ closes old cycle (point_at (row + 1)) hub
   pub picture :
       IsPicture wiring (emits now cycle (point_at (row + 1))) (closes now cycle (point_at (row + 1))) (pictures (point_at (row + 1)))
 
@@ -59,20 +72,29 @@ pub record GivesSignificance (wiring : Wiring) (pictures : Point → Hub → Boo
   pub figure : is_figure (rows_received pictures from) ≡ true
   pub linked : (wheel : ℕ) → from < wheel → wheel ≤ to → is_plugged wiring (Link wheel) ≡ true
 
+-- The figure among rows that were received: one of the rows 9 to 1, which come first.
+pub record HasFigure (received : List Bool) (figure : ℕ) : Type 0 where
+  pub least : 1 ≤ figure
+  pub most : figure ≤ 9
+  pub has : slice_index_or received (9 - figure) false ≡ true
+
+-- The nearest wheel that gives another its significance, and the figure that it received.
+pub record IsGiver (wiring : Wiring) (pictures : Point → Hub → Bool) (giver : Giver) (to : ℕ) : Type 0 where
+  pub gives : GivesSignificance wiring pictures giver.wheel to
+  pub nearest : (nearer : ℕ) → giver.wheel < nearer → GivesSignificance wiring pictures nearer to → ⊥
+  pub figure : HasFigure (rows_received pictures giver.wheel) giver.figure
+
 -- What is told of a wheel's significance: that the cycle has no zero control; or the nearest wheel that gives it; or that none does.
 abbrev pub TellsSignificance : Wiring → (Point → Hub → Bool) → Cycle → ℕ → Significance → Type 0
 TellsSignificance wiring pictures cycle wheel Uncontrolled = has_zero_control cycle ≡ false
-TellsSignificance wiring pictures cycle wheel (From from) =
-    (has_zero_control cycle ≡ true)
-    × GivesSignificance wiring pictures from wheel
-    × ((nearer : ℕ) → from < nearer → GivesSignificance wiring pictures nearer wheel → ⊥)
+TellsSignificance wiring pictures cycle wheel (From giver) = (has_zero_control cycle ≡ true) × IsGiver wiring pictures giver wheel
 TellsSignificance wiring pictures cycle wheel Absent =
     (has_zero_control cycle ≡ true) × ((from : ℕ) → GivesSignificance wiring pictures from wheel → ⊥)
 
 -- whether a wheel of which this is told has significance
 abbrev pub is_significant : Significance → Bool
 is_significant Uncontrolled = true
-is_significant (From from) = true
+is_significant (From giver) = true
 is_significant Absent = false
 
 -- the character that stands on a wheel of a line
@@ -80,10 +102,13 @@ abbrev pub character_on : PlacedLine → ℕ → ℕ
 character_on line wheel = slice_index_or line.text (wheel - 1) 0
 
 -- An explanation of a wheel of a printed line. In the machine's run over the deck its cycle placed the line at the page and the line
--- of it. At each row a way is told exactly where the wheel was impulsed. The character is that of the line, and it is what the wheel
+-- of it. It tells whether the card's own cycle was still to come then, and its points are kept. At each row a way is told exactly where the wheel was impulsed. The character is that of the line, and it is what the wheel
 -- shows that received exactly the rows that are told, has the jacks of the setup, and has significance as it is told.
 pub record IsExplanation (wiring : Wiring) (deck : List (List ℕ)) (page line wheel : ℕ) (told : Explanation) : Type 0 where
   pub run : PlacedInRun wiring deck told.cards told.cycle told.line
+  pub waits : told.waits ≡ run.after.waits
+  pub points : List KeptPoint
+  pub kept : KeepsPoints wiring told.cycle (machine_before run) 14 points
   pub at_page : told.line.page ≡ page
   pub at_line : told.line.line ≡ line
   pub at_wheel : told.wheel ≡ wheel
@@ -98,3 +123,9 @@ pub record IsExplanation (wiring : Wiring) (deck : List (List ℕ)) (page line w
   pub shows :
       told.character
       ≡ shown (is_significant told.significance) (record (wheel_at_start wiring wheel) { received = map is_some told.rows.items })
+
+-- It is an explanation by these points.
+pub record ExplainsBy (points : List KeptPoint) (wiring : Wiring) (deck : List (List ℕ)) (page line wheel : ℕ) (told : Explanation) :
+    Type 0 where
+  pub is : IsExplanation wiring deck page line wheel told
+  pub by : is.points ≡ points

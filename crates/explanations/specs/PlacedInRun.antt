@@ -28,9 +28,10 @@ abbrev pub machine_before : {wiring : Wiring} {deck : List (List ℕ)} {cards : 
     → PlacedInRun wiring deck cards cycle line → MachineState
 machine_before {cycle = cycle} run = (taken cycle run.before).machine
 
--- A cycle was found that placed a line, and its points are kept.
+-- A cycle was found that placed a line, and its points are kept, and whether what was fed still waited when it was over.
 pub record IsFound (wiring : Wiring) (deck : List (List ℕ)) (found : FoundLine) : Type 0 where
   pub run : PlacedInRun wiring deck found.cards found.kept.cycle found.kept.line
+  pub waits : found.kept.waits ≡ run.after.waits
   pub points : KeepsPoints wiring found.kept.cycle (machine_before run) 14 found.kept.points
 
 -- the run of the machine over the deck has the line

@@ -10,7 +10,8 @@ use Rattle.machine.specs.Cycles.{point_at}
 use Rattle.machine.specs.Kept.{kept_at}
 use Rattle.machine.specs.declared.kept.KeptPoint.{KeptPoint}
 use Rattle.ways.specs.Tables.{AreWaysOf, WayTable}
-use Rattle.explanations.specs.Explanations.{GivesSignificance}
+use Rattle.explanations.specs.Explanations.{GivesSignificance, IsGiver}
+use Rattle.explanations.specs.declared.significance.Giver.{Giver}
 
 -- no ways
 abbrev pub no_ways : WayTable
@@ -39,8 +40,6 @@ HasReceived wiring points wheel count received =
     ↔ IsImpulsed wiring (has_hub (kept_at points (row + 1)).exits) (has_hub (kept_at points (row + 1)).contacts) (W wheel)
 
 -- the nearest wheel that gives a wheel its significance, or that none does
-abbrev pub TellsGiver : Wiring → (Point → Hub → Bool) → ℕ → Option ℕ → Type 0
-TellsGiver wiring pictures wheel (Some from) =
-    GivesSignificance wiring pictures from wheel
-    × ((nearer : ℕ) → from < nearer → GivesSignificance wiring pictures nearer wheel → ⊥)
+abbrev pub TellsGiver : Wiring → (Point → Hub → Bool) → ℕ → Option Giver → Type 0
+TellsGiver wiring pictures wheel (Some giver) = IsGiver wiring pictures giver wheel
 TellsGiver wiring pictures wheel None = (from : ℕ) → GivesSignificance wiring pictures from wheel → ⊥

@@ -26,6 +26,9 @@ pub struct Explanation {
     pub cards: u32,
     /// The cycle that placed the line.
     pub cycle: Cycle,
+    /// Whether the card's own cycle was still to come when that cycle was over. So a heading cycle comes before the card where this is
+    /// set, and else before the card's totals.
+    pub waits: bool,
     /// The line.
     pub line: PlacedLine,
     /// The wheel, 1 to 120.
@@ -50,7 +53,7 @@ pub struct LineWays {
 
 impl LineWays {
     ghost use Rattle.std.specs.Prelude.{◌≡◌, ◌≤◌, ℕ, List, IfOk};
-    ghost use Rattle.explanations.specs.Explanations.{IsExplanation};
+    ghost use Rattle.explanations.specs.Explanations.{ExplainsBy};
     ghost use Rattle.explanations.specs.PlacedInRun.{IsFound};
     ghost use Rattle.explanations.specs.Rows.{AreRowWays};
 
@@ -63,19 +66,20 @@ impl LineWays {
         Ok(LineWays { found, ways })
     }
 
-    /// Why this wheel, 1 to 120, printed its character. The setup is that by which the line was found. Fails only where no memory is
-    /// left.
+    /// Why this wheel, 1 to 120, printed its character, by the points that are kept of the line's cycle. The setup is that by which the
+    /// line was found. Fails only where no memory is left.
     pub fn wheel(&self, alloc: Global, setup: &Setup, wheel: u8) -> Result<Explanation, AllocError>
         requires ways { AreRowWays setup.now self.now.found.kept.points 12 self.now.ways.items }
         requires range { (1 ≤ wheel) × (wheel ≤ 120) }
         ensures { (deck : List (List ℕ)) → IsFound setup.now deck self.now.found
-            → IfOk result (IsExplanation setup.now deck self.now.found.kept.line.page self.now.found.kept.line.line wheel) }
+            → IfOk result (ExplainsBy self.now.found.kept.points setup.now deck self.now.found.kept.line.page self.now.found.kept.line.line wheel) }
     {
         let kept = &self.found.kept;
         let rows = ways_to_wheel(alloc, setup, kept, &self.ways, wheel)?;
         Ok(Explanation {
             cards: self.found.cards,
             cycle: kept.cycle,
+            waits: kept.waits,
             line: kept.line,
             wheel,
             character: kept.line.text[wheel as usize - 1],

@@ -20,4 +20,4 @@ pub use found::{FoundLine, find_line};
 pub use lines::find_lines;
 pub use page::PageWays;
 pub use refusal::Refusal;
-pub use significance::Significance;
+pub use significance::{Giver, Significance, count_received};

@@ -1,18 +1,27 @@
 //! Which wheel to the left gives a wheel its significance.
 
-ghost use Rattle.std.specs.Prelude.{◌≡◌, ◌≤◌, ℕ, Bool, List, length};
+ghost use Rattle.std.specs.Prelude.{◌≡◌, ◌≤◌, ℕ, Bool, true, List, length};
 ghost use Rattle.hubs.specs.declared.hub.Hub.{Hub};
 ghost use Rattle.setups.specs.Wiring.{Wiring};
 ghost use Rattle.net.specs.declared.cycle.Point.{Point};
 ghost use Rattle.machine.specs.declared.kept.KeptPoint.{KeptPoint};
 ghost use Rattle.print_unit.specs.ZeroControl.{count_of, has_zero_control, is_figure};
-ghost use Rattle.explanations.specs.Explanations.{TellsSignificance};
+ghost use Rattle.explanations.specs.Explanations.{HasFigure, TellsSignificance};
 ghost use Rattle.explanations.specs.Rows.{ArePictures, AreRowWays, HasReceived, TellsGiver};
 
 use hubs::{Hub, Jack};
 use net::Cycle;
 use setups::Setup;
 use ways::Ways;
+
+/// A wheel that gives another one significance.
+#[derive(Clone, Copy, Debug, PartialEq, Eq)]
+pub struct Giver {
+    /// The wheel.
+    pub wheel: u8,
+    /// The figure that it received, 1 to 9.
+    pub figure: u8,
+}
 
 /// Why a wheel has significance, or that it has none.
 #[derive(Clone, Copy, Debug, PartialEq, Eq)]
@@ -21,7 +30,7 @@ pub enum Significance {
     Uncontrolled,
     /// This wheel, the nearest one to the left that does, received a figure, and LINK is plugged on each wheel behind it up to the one
     /// that is explained.
-    From(u8),
+    From(Giver),
     /// No wheel to the left gives it.
     Absent,
 }
@@ -35,8 +44,8 @@ pub(crate) fn significance_of(setup: &Setup, ways: &[Ways], cycle: Cycle, wheel:
     if !has_zero_control(cycle) {
         return Significance::Uncontrolled;
     }
-    match giver(setup, ways, wheel) {
-        Some(from) => Significance::From(from),
+    match find_giver(setup, ways, wheel) {
+        Some(giver) => Significance::From(giver),
         None => Significance::Absent,
     }
 }
@@ -52,7 +61,7 @@ fn has_zero_control(cycle: Cycle) -> bool
 }
 
 // The nearest wheel that gives a wheel its significance.
-fn giver(setup: &Setup, ways: &[Ways], wheel: u8) -> Option<u8>
+fn find_giver(setup: &Setup, ways: &[Ways], wheel: u8) -> Option<Giver>
     requires { 12 ≤ length ways.now }
     ensures { (points : List KeptPoint) (pictures : Point → Hub → Bool) → AreRowWays setup.now points 12 ways.now
         → ArePictures setup.now points pictures → TellsGiver setup.now pictures wheel result }
@@ -63,8 +72,12 @@ fn giver(setup: &Setup, ways: &[Ways], wheel: u8) -> Option<u8>
             return None;
         }
         right -= 1;
-        if is_figure(&received(ways, right)) {
-            return Some(right);
+        let received = received(ways, right);
+        if is_figure(&received) {
+            return Some(Giver {
+                wheel: right,
+                figure: figure(&received),
+            });
         }
     }
     None
@@ -87,11 +100,24 @@ fn received(ways: &[Ways], wheel: u8) -> [bool; 12]
 fn is_figure(received: &[bool; 12]) -> bool
     ensures { result ≡ is_figure received.now }
 {
-    count(&received[..9]) == 1 && count(&received[9..]) == 0
+    count_received(&received[..9]) == 1 && count_received(&received[9..]) == 0
 }
 
-// How many of some rows were received.
-fn count(received: &[bool]) -> usize
+// The figure that rows are: the first of the rows 9 to 1 that was received.
+fn figure(received: &[bool; 12]) -> u8
+    requires { is_figure received.now ≡ true }
+    ensures { HasFigure received.now result }
+{
+    for place in 0..9 {
+        if received[place] {
+            return 9 - place as u8;
+        }
+    }
+    unreachable!()
+}
+
+/// How many of some rows were received.
+pub fn count_received(received: &[bool]) -> usize
     ensures { result ≡ count_of received.now }
 {
     let mut count = 0;

@@ -11,11 +11,11 @@ use Rattle.machine.specs.Runs.{MachineLines}
 use Rattle.markup.specs.Escapes.{escaped}
 use Rattle.markup.specs.Pieces.{EachText}
 use Rattle.panel_drawing.specs.Drawing.{IsDrawing}
-use Rattle.panel_drawing.specs.Wires.{AreWiresOf}
 use Rattle.panel_drawing.specs.declared.drawing.PanelWire.{PanelWire}
 use Rattle.placed_lines.specs.declared.placed_line.PlacedLine.{PlacedLine}
 use Rattle.plans.specs.Plans.{Lists}
 use Rattle.page_sections.specs.ReportSheets.Sheets.{sheets_text}
+use Rattle.setups.specs.Wires.{AreWiresOf}
 use Rattle.setups.specs.Wiring.{Wiring}
 use Rattle.traces.specs.Traces.{IsTrace}
 use Rattle.page_sections.specs.WheelSections.Sections.{told_sections}

@@ -3,7 +3,6 @@
 ghost use Rattle.std.specs.Prelude.{◌≡◌, ◌≤◌, ◌++◌, IfOk, OnOk, length, map};
 ghost use Rattle.std.specs.String.{string_bytes};
 ghost use Rattle.card_code.specs.MostCards.{most_cards};
-ghost use Rattle.panel_drawing.specs.Wires.{AreWiresOf};
 ghost use Rattle.plans.specs.Plans.{ServesChart};
 ghost use Rattle.show_page.specs.Helper.{GainsBody};
 ghost use Rattle.show_page.specs.Page.{IsPage, ShowsChart, ShowsPanel, unasked, wiring_text};
@@ -22,7 +21,7 @@ use markup::push_escaped;
 use page_sections::chart_panels::{chart_wires, write_legend};
 use page_sections::wheel_sections::{ToldWheel, told_wheels, write_told_sections};
 use page_sections::wire_sections::write_wire_sections;
-use panel_drawing::{PanelWire, panel_wires, write_drawing};
+use panel_drawing::{PanelWire, write_drawing};
 use plans::Plan;
 use setups::Setup;
 use std::alloc::{AllocError, Global};
@@ -143,7 +142,7 @@ pub fn show_panel(
     requires { length cards.now ≤ most_cards }
     ensures { IfOk result (λ text. ShowsPanel setup.now source.now cards.now (string_bytes text)) }
 {
-    let pairs = panel_wires(alloc, setup)?;
+    let pairs = setup.wires(alloc)?;
     let wires = unasked_wires(alloc, &pairs)?;
     let mut legend = String::new(alloc);
     write_wiring(&mut legend, source)?;

@@ -2,16 +2,19 @@
 use Rattle.std.proofs.Common.{zero, suc, ◌≡◌, ◌∙◌, ap, sym, subst, refl, arith, Bool, true, false, ℕ, ◌+◌, ◌<◌, ◌≤◌, ◌==◌, List, [], ◌∷◌, ◌++◌, append_assoc, append-nil, flat_map, get_or, length, take}
 use Rattle.std.specs.Prelude.{String, if◌then◌else◌, map}
 use Rattle.std.specs.List.{range_with_len}
+use Rattle.std.specs.String.{string_bytes}
 use Rattle.std.specs.declared.alloc.Global.{Global}
 use Rattle.std.proofs.lemmas.Bool.{eqb-true, eq-eqb}
 use Rattle.std.proofs.lemmas.List.{map-append, take_all, take_more}
 use Rattle.std.proofs.lemmas.List.Elements.{All-append, All-cons, All-nil}
 use Rattle.placed_lines.specs.declared.placed_line.PlacedLine.{PlacedLine}
 use Rattle.setups.specs.Wiring.{Wiring}
-use Rattle.explanations.specs.Explanations.{IsExplanation, character_on}
+use Rattle.explanations.specs.Explanations.{ExplainsBy, character_on}
 use Rattle.explanations.specs.declared.explanation.Explanation.{Explanation}
+use Rattle.explanation_text.specs.Told.{IsTextOf, text_of}
 use Rattle.explanations.specs.declared.found.FoundLine.{FoundLine}
 use Rattle.explanations.specs.Pages.{AreFoundLines, IsFoundLine}
+use Rattle.machine.specs.declared.kept.KeptPoint.{KeptPoint}
 use Rattle.markup.proofs.Pieces.{numbers_more}
 use Rattle.page_sections.specs.WheelSections.Helper.{GainsTold, IsToldOf}
 use Rattle.page_sections.specs.WheelSections.Told.{AreTold, IsTold, WheelPlace, place_of, printed_by, printed_on, printed_places}
@@ -51,13 +54,11 @@ module _ (wiring : Wiring) (asked : List (String Global × Wiring)) (deck : List
     where
       told_there : (placed : PlacedLine) (wheel : ℕ) (told : ToldWheel) → IsToldOf wiring asked deck placed wheel told
           → IsTold wiring asked deck told
-      told_there placed wheel told is = record {
-        right =
-            subst (λ (w : ℕ). IsExplanation wiring deck told.why.line.page told.why.line.line w told.why) (sym is.right.at_wheel)
-            (subst (λ (l : ℕ). IsExplanation wiring deck told.why.line.page l wheel told.why) (sym is.right.at_line)
-            (subst (λ (p : ℕ). IsExplanation wiring deck p placed.line wheel told.why) (sym is.right.at_page) is.right));
-        worded = is.worded;
-      }
+      told_there placed wheel told is =
+          let text = string_bytes told.words in
+          subst (λ (w : ℕ). IsTextOf wiring asked deck told.why.line.page told.why.line.line w told.why text) (sym is.right.at_wheel)
+          (subst (λ (l : ℕ). IsTextOf wiring asked deck told.why.line.page l wheel told.why text) (sym is.right.at_line)
+          (subst (λ (p : ℕ). IsTextOf wiring asked deck p placed.line wheel told.why text) (sym is.right.at_page) is))
 
   -- what is told of further wheels
   pub told_more : (places others : List WheelPlace) (old mid new : List ToldWheel) → GainsTold wiring asked deck places old mid
@@ -133,12 +134,16 @@ module _ (wiring : Wiring) (asked : List (String Global × Wiring)) (deck : List
       (subst (λ (l : List PlacedLine). GainsTold wiring asked deck (printed_places l) [] told) (take_all place lines all) gains)
 
 -- an explanation of a wheel of the line that was found, where that is the one that stands there
-pub explained_there : (wiring : Wiring) (deck : List (List ℕ)) (found : FoundLine) (page line wheel : ℕ) (told : Explanation)
-    → found.kept.line.page ≡ page → found.kept.line.line ≡ line
-    → IsExplanation wiring deck found.kept.line.page found.kept.line.line wheel told → IsExplanation wiring deck page line wheel told
-explained_there wiring deck found page line wheel told at_page at_line is =
-    subst (λ (l : ℕ). IsExplanation wiring deck page l wheel told) at_line
-    (subst (λ (p : ℕ). IsExplanation wiring deck p found.kept.line.line wheel told) at_page is)
+pub worded_there : (wiring : Wiring) (asked : List (String Global × Wiring)) (deck : List (List ℕ)) (found : FoundLine)
+    (page line wheel : ℕ) (told : Explanation) (text : List ℕ) → found.kept.line.page ≡ page → found.kept.line.line ≡ line
+    → ExplainsBy found.kept.points wiring deck found.kept.line.page found.kept.line.line wheel told
+    → text ≡ text_of wiring found.kept.points asked told → IsTextOf wiring asked deck page line wheel told text
+worded_there wiring asked deck found page line wheel told text at_page at_line explains spelled =
+    subst (λ (l : ℕ). IsTextOf wiring asked deck page l wheel told text) at_line
+    (subst (λ (p : ℕ). IsTextOf wiring asked deck p found.kept.line.line wheel told text) at_page (record {
+      right = explains.is;
+      spelled = spelled ∙ ap (λ (points : List KeptPoint). text_of wiring points asked told) (sym explains.by);
+    }))
 
 -- the cycles of lines are as many as the lines
 pub found_long : (wiring : Wiring) (deck : List (List ℕ)) (lines : List PlacedLine) (found : List FoundLine)

@@ -6,9 +6,8 @@ use Rattle.placed_lines.specs.declared.placed_line.PlacedLine.{PlacedLine}
 use Rattle.setups.specs.Wiring.{Wiring}
 use Rattle.explanations.specs.PlacedInRun.{IsFound}
 use Rattle.explanations.specs.Rows.{AreRowWays}
-use Rattle.explanations.specs.Explanations.{IsExplanation}
 use Rattle.explanations.specs.declared.explanation.LineWays.{LineWays}
-use Rattle.explanation_text.specs.Text.{IsTextOf}
+use Rattle.explanation_text.specs.Told.{IsTextOf}
 use Rattle.page_sections.specs.WheelSections.Told.{AreTold, WheelPlace}
 use Rattle.page_sections.specs.declared.wheel_sections.told.ToldWheel.{ToldWheel}
 
@@ -20,10 +19,9 @@ pub record AreWaysOfLine (wiring : Wiring) (deck : List (List ℕ)) (placed : Pl
   pub ways : AreRowWays wiring line.found.kept.points 12 line.ways.items
 
 -- what is told is of the wheel of the line
-pub record IsToldOf (wiring : Wiring) (asked : List (String Global × Wiring)) (deck : List (List ℕ)) (placed : PlacedLine) (wheel : ℕ)
-    (told : ToldWheel) : Type 0 where
-  pub right : IsExplanation wiring deck placed.page placed.line wheel told.why
-  pub worded : IsTextOf asked told.why (string_bytes told.words)
+abbrev pub IsToldOf : Wiring → List (String Global × Wiring) → List (List ℕ) → PlacedLine → (wheel : ℕ) → ToldWheel → Type 0
+IsToldOf wiring asked deck placed wheel told =
+    IsTextOf wiring asked deck placed.page placed.line wheel told.why (string_bytes told.words)
 
 -- a list gains what is told of the wheels at these places
 pub record GainsTold (wiring : Wiring) (asked : List (String Global × Wiring)) (deck : List (List ℕ)) (places : List WheelPlace)

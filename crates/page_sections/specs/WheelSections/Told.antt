@@ -3,8 +3,8 @@ use Rattle.std.specs.Prelude.{◌≡◌, ℕ, ◌==◌, List, [], ◌∷◌, All
 use Rattle.std.specs.List.{flat_map, range_with_len}
 use Rattle.std.specs.String.{string_bytes}
 use Rattle.std.specs.declared.alloc.Global.{Global}
-use Rattle.explanation_text.specs.Text.{IsTextOf}
-use Rattle.explanations.specs.Explanations.{IsExplanation, character_on}
+use Rattle.explanation_text.specs.Told.{IsTextOf}
+use Rattle.explanations.specs.Explanations.{character_on}
 use Rattle.placed_lines.specs.declared.placed_line.PlacedLine.{PlacedLine}
 use Rattle.setups.specs.Wiring.{Wiring}
 use Rattle.page_sections.specs.declared.wheel_sections.told.ToldWheel.{ToldWheel}
@@ -33,9 +33,9 @@ abbrev pub printed_places : List PlacedLine → List WheelPlace
 printed_places lines = flat_map printed_on lines
 
 -- What is told of a wheel is an explanation of it, and the words of that explanation, where it is known who asks for wires.
-pub record IsTold (wiring : Wiring) (asked : List (String Global × Wiring)) (deck : List (List ℕ)) (told : ToldWheel) : Type 0 where
-  pub right : IsExplanation wiring deck told.why.line.page told.why.line.line told.why.wheel told.why
-  pub worded : IsTextOf asked told.why (string_bytes told.words)
+abbrev pub IsTold : Wiring → List (String Global × Wiring) → List (List ℕ) → ToldWheel → Type 0
+IsTold wiring asked deck told =
+    IsTextOf wiring asked deck told.why.line.page told.why.line.line told.why.wheel told.why (string_bytes told.words)
 
 -- the wheels at these places are told of, each once, in this order
 pub record AreTold (wiring : Wiring) (asked : List (String Global × Wiring)) (deck : List (List ℕ)) (places : List WheelPlace)

@@ -6,7 +6,7 @@ ghost use Rattle.page_sections.specs.ChartPanels.Asking.{AreAsked, AreChartWires
 
 use chart_rules::Chart;
 use hubs::Hub;
-use panel_drawing::{PanelWire, panel_wires};
+use panel_drawing::PanelWire;
 use plans::Plan;
 use setups::Setup;
 use std::alloc::{AllocError, Global};
@@ -79,6 +79,6 @@ pub fn chart_wires(
     requires { ServesChart chart.now.lines plan.now }
     ensures { IfOk result (λ wires. AreChartWires chart.now.lines plan.now setup.now wires.items) }
 {
-    let pairs = panel_wires(alloc, setup)?;
+    let pairs = setup.wires(alloc)?;
     all_asked(alloc, chart, plan, &pairs)
 }

@@ -10,8 +10,8 @@ pub returns-in-Prog : goal.returns-in-Prog
 returns-in-Prog c =
     let old = string_bytes c.args.text.now in
     let new = string_bytes c.write_program_line.new.text in
-    let cards = c.args.cards in
-    subst (λ (cycle : Cycle). OnOk c.write_program_line.result (new ≡ old ++ cycle_line cycle cards)) (sym c.in-Prog.is)
+    let cards = c.args.told.now.cards in
+    subst (λ (cycle : Cycle). OnOk c.write_program_line.result (new ≡ old ++ cycle_line cycle c.args.told.now.waits cards)) (sym c.in-Prog.is)
     (subst (λ (n : ℕ). OnOk c.write_program_line.result (new ≡ old ++ program_line n (ordinal_number c.in-Prog.ordinal) cards))
     c.number.ensures.value
     (subst (λ (n : ℕ). OnOk c.write_program_line.result (new ≡ old ++ program_line c.number.result n cards)) c.number-in-Prog.ensures.value
@@ -21,7 +21,7 @@ pub returns-in-Head : goal.returns-in-Head
 returns-in-Head c =
     let old = string_bytes c.args.text.now in
     let new = string_bytes c.write_heading_line.new.text in
-    let cards = c.args.cards in
-    subst (λ (cycle : Cycle). OnOk c.write_heading_line.result (new ≡ old ++ cycle_line cycle cards)) (sym c.in-Head.is)
-    (subst (λ (n : ℕ). OnOk c.write_heading_line.result (new ≡ old ++ heading_line n cards)) c.number-in-Head.ensures.value
+    let cards = c.args.told.now.cards in
+    subst (λ (cycle : Cycle). OnOk c.write_heading_line.result (new ≡ old ++ cycle_line cycle c.args.told.now.waits cards)) (sym c.in-Head.is)
+    (subst (λ (n : ℕ). OnOk c.write_heading_line.result (new ≡ old ++ heading_line n c.args.told.now.waits cards)) c.number-in-Head.ensures.value
     c.write_heading_line.ensures)

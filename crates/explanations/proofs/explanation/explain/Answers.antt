@@ -16,4 +16,4 @@ returns-clause-told c =
     let at_line = subst (λ (f : Option FoundLine). IfSome f (λ f. f.kept.line.line ≡ c.args.line)) c.in-Some.is clauses.line in
     let same = c.in_ok-of.ensures.line in
     told-there setup deck c.in_ok-of.field-0.found found c.args.page c.args.line c.args.wheel c.in_ok-wheel.field-0 same at_page at_line
-    (c.in_ok-wheel.ensures deck (subst (IsFound setup deck) (sym same) is))
+    (c.in_ok-wheel.ensures deck (subst (IsFound setup deck) (sym same) is)).is

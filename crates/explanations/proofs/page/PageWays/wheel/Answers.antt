@@ -10,7 +10,7 @@ returns-in_ok-wheel-in-Some-clause-told c deck page is =
     let told = c.in_ok-wheel-in-Some.field-0 in
     let here = line-found setup deck page c.args.self.now.lines.items line is c.in-Some.ensures.some in
     subst (λ (l : ℕ). IsExplanation setup deck page l c.args.wheel told) c.in-Some.ensures.numbered
-    (subst (λ (p : ℕ). IsExplanation setup deck p line.found.kept.line.line c.args.wheel told) here.1 (c.in_ok-wheel-in-Some.ensures deck here.0))
+    (subst (λ (p : ℕ). IsExplanation setup deck p line.found.kept.line.line c.args.wheel told) here.1 (c.in_ok-wheel-in-Some.ensures deck here.0).is)
 
 pub returns-in-None-clause-no_line : goal.returns-in-None-clause-no_line
 returns-in-None-clause-no_line c deck page is refused =

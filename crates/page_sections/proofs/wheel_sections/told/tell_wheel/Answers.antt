@@ -1,13 +1,12 @@
-use Rattle.page_sections.proofs.WheelSections.Gains.{explained_there}
+use Rattle.std.specs.String.{string_bytes}
+use Rattle.page_sections.proofs.WheelSections.Gains.{worded_there}
 use Rattle.page_sections.proofs.wheel_sections.told.tell_wheel.Goals as goal
 
-pub wheel_text-requires-clause-rows : goal.wheel_text-requires-clause-rows
-wheel_text-requires-clause-rows c = (c.in_ok-why.ensures c.args.cards.now c.requires.ways.found).long
+pub wheel_text-requires : goal.wheel_text-requires
+wheel_text-requires c = (c.in_ok-why.ensures c.args.cards.now c.requires.ways.found).is.long
 
 pub returns : goal.returns
-returns c = record {
-  right = explained_there c.args.setup.now c.args.cards.now c.args.line.now.found c.args.placed.now.page c.args.placed.now.line
-      c.args.wheel c.in_ok-why.why c.requires.ways.page c.requires.ways.line_is
-      (c.in_ok-why.ensures c.args.cards.now c.requires.ways.found);
-  worded = c.in_ok-words.ensures;
-}
+returns c =
+    worded_there c.args.setup.now c.args.asked.now c.args.cards.now c.args.line.now.found c.args.placed.now.page
+    c.args.placed.now.line c.args.wheel c.in_ok-why.why (string_bytes c.in_ok-words.words) c.requires.ways.page c.requires.ways.line_is
+    (c.in_ok-why.ensures c.args.cards.now c.requires.ways.found) c.in_ok-words.ensures

@@ -1,9 +1,10 @@
-use Rattle.std.proofs.Common.{◌≡◌, ◌∙◌, sym, ap, ◌-◌, length, arith}
+use Rattle.std.proofs.Common.{◌≡◌, ◌∙◌, sym, ap, subst, ◌-◌, Bool, List, length, arith}
 use Rattle.std.proofs.lemmas.Grind.{common_steps}
 use Rattle.print_unit.specs.ZeroControl.{is_figure}
+use Rattle.explanations.specs.Explanations.{HasFigure}
 use Rattle.explanations.proofs.Givers.{giver-found, linked-more, no-figure-more, no-giver, no-link}
 use Rattle.explanations.proofs.RowLists.{received-is}
-use Rattle.explanations.proofs.significance.giver.Goals as goal
+use Rattle.explanations.proofs.significance.find_giver.Goals as goal
 
 pub returns-then-not-has_jack : goal.returns-then-not-has_jack
 returns-then-not-has_jack c points pictures are seen =
@@ -14,12 +15,13 @@ pub returns-then-is_figure : goal.returns-then-is_figure
 returns-then-is_figure c points pictures are seen =
     let setup = c.args.setup.now in
     let right = c.loop-right.right in
-    let long : length c.received.result ≡ 12 = grind (arith, common_steps) in
-    let same = received-is setup points pictures (right - 1) c.received.result long (c.received.ensures setup points are) seen in
+    let long : length c.received-received.result ≡ 12 = grind (arith, common_steps) in
+    let same = received-is setup points pictures (right - 1) c.received-received.result long (c.received-received.ensures setup points are) seen in
     giver-found setup pictures right c.args.wheel c.loop-right-test.true c.loop-right.invariant.left
     (sym c.has_jack.ensures ∙ c.if-not-has_jack.false) c.loop-right.invariant.linked
     (c.loop-right.invariant.none points pictures are seen)
-    (sym (ap is_figure same) ∙ sym c.is_figure.ensures ∙ c.if-is_figure.true)
+    (sym (ap is_figure same) ∙ sym c.is_figure.ensures ∙ c.if-is_figure.true) c.figure.result
+    (subst (λ (r : List Bool). HasFigure r c.figure.result) same c.figure.ensures)
 
 pub loop-right-preserved : goal.loop-right-preserved
 loop-right-preserved c =
@@ -32,8 +34,8 @@ loop-right-preserved c =
       linked =
           linked-more setup right c.args.wheel low (sym c.has_jack.ensures ∙ c.if-not-has_jack.false) c.loop-right.invariant.linked;
       none = λ points pictures are seen.
-          let long : length c.received.result ≡ 12 = grind (arith, common_steps) in
-          let same = received-is setup points pictures (right - 1) c.received.result long (c.received.ensures setup points are) seen in
+          let long : length c.received-received.result ≡ 12 = grind (arith, common_steps) in
+          let same = received-is setup points pictures (right - 1) c.received-received.result long (c.received-received.ensures setup points are) seen in
           no-figure-more pictures right c.args.wheel low (sym (ap is_figure same) ∙ sym c.is_figure.ensures ∙ c.if-is_figure.false)
           (c.loop-right.invariant.none points pictures are seen);
     }

@@ -1,6 +1,6 @@
 use Rattle.std.specs.Prelude.{◌≡◌, ◌≤◌, take}
 use Rattle.print_unit.specs.ZeroControl.{count_of}
-use Rattle.explanations.proofs.significance.count.Given as goal
+use Rattle.explanations.proofs.significance.count_received.Given as goal
 
 -- those so far are counted
 abbrev pub invariant-loop-has : goal.invariant-loop-has

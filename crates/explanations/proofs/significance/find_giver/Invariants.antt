@@ -7,7 +7,7 @@ use Rattle.machine.specs.declared.kept.KeptPoint.{KeptPoint}
 use Rattle.print_unit.specs.ZeroControl.{is_figure}
 use Rattle.whole_cycles.specs.WholeCycles.{rows_received}
 use Rattle.explanations.specs.Rows.{ArePictures, AreRowWays}
-use Rattle.explanations.proofs.significance.giver.Given as goal
+use Rattle.explanations.proofs.significance.find_giver.Given as goal
 
 -- LINK is plugged on each wheel behind this one, and neither it nor one between it and the wheel received a figure
 abbrev pub invariant-loop-right : goal.invariant-loop-right
