@@ -1,0 +1,44 @@
+-- How a ledger names cycles and counter groups.
+use Rattle.std.specs.Prelude.{ℕ, ◌+◌, List, [], ◌++◌, codes, decimal}
+use Rattle.hubs.specs.declared.hub.Group.{Group}
+use Rattle.counters.specs.Counters.{group_of_unit}
+use Rattle.net.specs.Cycles.{level_number, ordinal_number}
+use Rattle.net.specs.declared.cycle.Cycle.{Cycle}
+use Rattle.net.specs.declared.cycle.Cycle.TheVariants.{RunIn, Card, Prog, Head}
+use Rattle.ledgers.specs.declared.account.Account.{Account}
+use Rattle.ledgers.specs.declared.account.Account.TheVariants.{One, Coupled}
+
+-- which cycle: of a card cycle the number of its card
+abbrev pub name_text : Cycle → ℕ → List ℕ
+name_text RunIn card = codes "RunIn"
+name_text Card card = codes "Card " ++ decimal card
+name_text (Prog level ordinal) card = codes "Prog " ++ decimal (level_number level) ++ codes " " ++ decimal (ordinal_number ordinal)
+name_text (Head heading) card = codes "Head " ++ decimal (ordinal_number heading)
+
+-- of any other cycle the number of the card that was read last
+abbrev pub after_text : Cycle → ℕ → List ℕ
+after_text RunIn card = []
+after_text Card card = []
+after_text (Prog level ordinal) card = codes " after card " ++ decimal card
+after_text (Head heading) card = codes " after card " ++ decimal card
+
+abbrev pub cycle_text : Cycle → ℕ → List ℕ
+cycle_text cycle card = name_text cycle card ++ after_text cycle card
+
+-- a counter group by its width and its number, as hubs name it
+abbrev pub group_text : Group → List ℕ
+group_text group = decimal group.width ++ codes "." ++ decimal group.number
+
+-- the group of a place; unit 3 has place 0
+abbrev pub place_text : ℕ → List ℕ
+place_text place = group_text (group_of_unit (3 + place))
+
+-- the groups of an account, that with the units last
+abbrev pub account_text : Account → List ℕ
+account_text (One place) = place_text place
+account_text (Coupled upper lower) = place_text upper ++ codes " and " ++ place_text lower
+
+-- the hubs of a kind of the groups of an account
+abbrev pub hubs_text : List ℕ → Account → List ℕ
+hubs_text letters (One place) = letters ++ place_text place
+hubs_text letters (Coupled upper lower) = letters ++ place_text upper ++ codes " " ++ letters ++ place_text lower

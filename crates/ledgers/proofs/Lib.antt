@@ -1,0 +1,8 @@
+pub mod Points
+mod Sums
+pub mod Small
+pub mod Places
+pub mod Whole
+pub mod Summaries
+pub mod Running
+pub mod Keeping

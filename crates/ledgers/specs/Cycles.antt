@@ -1,0 +1,27 @@
+-- The entries of a ledger tell of the cycles of the run that they name.
+use Rattle.std.specs.Prelude.{◌≡◌, ℕ, List, All}
+use Rattle.setups.specs.Wiring.{Wiring}
+use Rattle.ledgers.specs.Accounts.{movement_of}
+use Rattle.ledgers.specs.Entries.{entry_of}
+use Rattle.ledgers.specs.Ledgers.{Along, ComesTo, IsLedger, card_in}
+use Rattle.ledgers.specs.Running.{HasCycle}
+use Rattle.ledgers.specs.declared.account.Account.{Account}
+use Rattle.ledgers.specs.declared.entry.Entry.{Entry}
+
+-- An entry tells of a cycle: which one it is, its card, and what happens to the number of the account in it.
+abbrev pub TellsCycle : Account → {wiring : Wiring} {deck : List (List ℕ)} {passed : ℕ} → Entry → HasCycle wiring deck passed → Type 0
+TellsCycle account {passed = passed} entry has =
+    entry ≡ entry_of has.cycle (card_in has.cycle has.along.card) passed (movement_of has.behind.groups has.cycle account)
+
+-- Each entry of a ledger tells of the cycle that it names: the one behind so many others.
+abbrev pub EntriesTellCycles : Type 0
+EntriesTellCycles =
+    (wiring : Wiring) (deck : List (List ℕ)) (account : Account) (along : Along) (entries : List Entry)
+    → IsLedger wiring deck account along entries
+    → All (λ entry. (has : HasCycle wiring deck entry.passed) → TellsCycle account entry has) entries
+
+-- Of a run over a deck there is one place behind so many cycles.
+abbrev pub PlacesAreOne : Type 0
+PlacesAreOne =
+    (wiring : Wiring) (deck : List (List ℕ)) (here there : Along)
+    → ComesTo wiring deck here → ComesTo wiring deck there → here.passed ≡ there.passed → here ≡ there

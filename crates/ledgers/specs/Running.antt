@@ -1,0 +1,58 @@
+-- The cycles of a run by how many are over before them, and what is kept of the ledger of an account there.
+use Rattle.std.specs.Prelude.{◌≡◌, ℕ, ◌+◌, ◌*◌, ◌<◌, ◌≤◌, List, [], ◌∷◌, All, length}
+use Rattle.explanations.specs.PlacedInRun.{PrintsNoneAt}
+use Rattle.machine.specs.Cycles.{CycleRun, line_of}
+use Rattle.machine.specs.Kept.{IsElsewhere}
+use Rattle.machine.specs.Machine.{MachineState, ended}
+use Rattle.machine.specs.Runs.{RunsBy}
+use Rattle.machine.specs.Stepped.{Stepped}
+use Rattle.net.specs.Nets.{IsNetOf}
+use Rattle.net.specs.declared.cycle.Cycle.{Cycle}
+use Rattle.placed_lines.specs.declared.placed_line.PlacedLine.{PlacedLine}
+use Rattle.setups.specs.Wiring.{Wiring}
+use Rattle.ledgers.specs.Ledgers.{Along, ComesTo, Goes, IsLedger, card_in}
+use Rattle.ledgers.specs.Summaries.{Summary, summary_of}
+use Rattle.ledgers.specs.declared.account.Account.{Account}
+use Rattle.ledgers.specs.declared.entry.Entry.{Entry}
+use Rattle.ledgers.specs.declared.found.FoundCycle.{FoundCycle}
+
+-- A run has a cycle behind so many others.
+pub record HasCycle (wiring : Wiring) (deck : List (List ℕ)) (passed : ℕ) : Type 0 where
+  pub along : Along
+  pub comes : ComesTo wiring deck along
+  pub counted : along.passed ≡ passed
+  pub cycle : Cycle
+  pub behind : MachineState
+  pub goes : Goes wiring cycle along behind
+
+-- A cycle of a run placed a line: it is the one behind so many others, and so many cards were read then.
+pub record PlacesLine (wiring : Wiring) (deck : List (List ℕ)) (found : FoundCycle) : Type 0 where
+  pub has : HasCycle wiring deck found.passed
+  pub cycle : found.cycle ≡ has.cycle
+  pub card : found.card ≡ card_in has.cycle has.along.card
+  pub placed : line_of (ended has.behind has.cycle) ≡ found.line ∷ []
+
+-- What is kept of the ledger of an account is that of a run of which so many cycles are over.
+pub record IsKeptLedger (wiring : Wiring) (deck : List (List ℕ)) (passed ends : ℕ) (account : Account) (told : Summary) : Type 0 where
+  pub along : Along
+  pub counted : along.passed ≡ passed
+  pub entries : List Entry
+  pub is : IsLedger wiring deck account along entries
+  pub told_is : told ≡ summary_of account ends entries
+
+-- Helper words of the code: a stepped machine as it stands in a run. So many cards were read, so many cycles are over, and these cards are
+-- in the hopper.
+abbrev pub along_of : ℕ → ℕ → Stepped → List (List ℕ) → Along
+along_of card passed stepped hopper = record { card = card; passed = passed; run = record { machine = stepped.machine; hopper = hopper } }
+
+-- a stepped machine in a run
+pub record Stands (wiring : Wiring) (deck : List (List ℕ)) (card passed : ℕ) (stepped : Stepped) (hopper : List (List ℕ)) : Type 0 where
+  pub net : IsNetOf wiring stepped.net
+  pub few : card ≤ passed
+  pub comes : ComesTo wiring deck (along_of card passed stepped hopper)
+
+-- no line of the cycles so far stands at a page and a line of it
+abbrev pub IsPast : Wiring → List (List ℕ) → ℕ → ℕ → Along → Type 0
+IsPast wiring deck page line along =
+    (cycles : List Cycle) (lines : List PlacedLine)
+    → RunsBy (CycleRun wiring) cycles along.run lines → All (IsElsewhere page line) lines → PrintsNoneAt wiring deck page line

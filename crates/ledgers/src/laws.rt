@@ -1,0 +1,21 @@
+//! Laws of ledgers. Each is a function that does nothing: its contract is the law.
+
+ghost use Rattle.ledgers.specs.Ledgers.{EntriesAreSums, LedgersAreSums, LedgersTellNumbers};
+ghost use Rattle.ledgers.specs.Cycles.{EntriesTellCycles, PlacesAreOne};
+
+/// The numbers of a ledger chain from 0 to the number that the group holds.
+pub fn ledgers_tell_numbers()
+    ensures { LedgersTellNumbers }
+{}
+
+/// Each entry is a sum, and where the group didn't turn it holds the sum of what came to it.
+pub fn ledgers_are_sums()
+    ensures each { EntriesAreSums }
+    ensures all { LedgersAreSums }
+{}
+
+/// Of a run there is one place behind so many cycles, and each entry tells of the one that it names.
+pub fn entries_tell_cycles()
+    ensures one { PlacesAreOne }
+    ensures tell { EntriesTellCycles }
+{}

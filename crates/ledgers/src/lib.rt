@@ -1,0 +1,21 @@
+//! The ledgers of counter groups: which cycles of a run made the number that a group holds.
+//!
+//! An [`Entry`] is a cycle that changed a number since it last stood cleared: its card, the number before, what came to it, and the
+//! number after. An [`Account`] is the group, or the two groups, whose number that is. [`find_cycle`] finds the cycle that placed a line,
+//! and [`ledger_before`] answers the [`Ledger`] of an account as that cycle found it.
+#![tactic(auto)]
+
+mod account;
+mod entry;
+mod found;
+mod kept;
+pub mod laws;
+mod ledger;
+mod numbers;
+mod run;
+
+pub use account::Account;
+pub use entry::{Change, Entry, Movement};
+pub use found::{FoundCycle, find_cycle};
+pub use kept::ledger_before;
+pub use ledger::{Ledger, LeftOut};

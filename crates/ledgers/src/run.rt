@@ -1,0 +1,53 @@
+//! A run, cycle by cycle.
+
+ghost use Rattle.std.specs.Prelude.{◌≡◌, ◌<◌, ◌+◌, ◌^◌};
+ghost use Rattle.machine.specs.Runs.{cards_moved, made_ready};
+ghost use Rattle.ledgers.specs.Ledgers.{card_in};
+ghost use Rattle.ledgers.specs.Running.{along_of};
+
+use card_code::Card;
+use machine::SteppedMachine;
+use net::Cycle;
+
+// The cards move on by one. Answers what is left in the hopper.
+pub(crate) fn move_on<'a>(machine: &mut SteppedMachine, hopper: &'a [Card]) -> &'a [Card]
+    ensures moved { (along_of 0 0 machine.new result.now).run ≡ cards_moved machine.old.machine hopper.now }
+    ensures net { machine.new.net ≡ machine.old.net }
+{
+    match hopper.split_first() {
+        Some((card, others)) => {
+            machine.load(Some(*card));
+            others
+        }
+        None => {
+            machine.load(None);
+            hopper
+        }
+    }
+}
+
+// Just before a card cycle the cards move on. Answers what is left in the hopper.
+pub(crate) fn make_ready<'a>(
+    machine: &mut SteppedMachine,
+    cycle: Cycle,
+    hopper: &'a [Card],
+) -> &'a [Card]
+    ensures ready { (along_of 0 0 machine.new result.now).run ≡ made_ready cycle (along_of 0 0 machine.old hopper.now).run }
+    ensures net { machine.new.net ≡ machine.old.net }
+{
+    match cycle {
+        Cycle::Card => move_on(machine, hopper),
+        Cycle::RunIn | Cycle::Prog(_, _) | Cycle::Head(_) => hopper,
+    }
+}
+
+// How many cards were read, in a cycle.
+pub(crate) fn card_in(cycle: Cycle, card: u32) -> u32
+    requires { card + 1 < 2 ^ 32 }
+    ensures { result ≡ card_in cycle card }
+{
+    match cycle {
+        Cycle::Card => card + 1,
+        Cycle::RunIn | Cycle::Prog(_, _) | Cycle::Head(_) => card,
+    }
+}
