@@ -1,0 +1,5 @@
+pub mod Answered
+pub mod Members
+pub mod Order
+pub mod Exact
+pub mod Steps
