@@ -5,9 +5,7 @@ use Rattle.check_calls.specs.Served.{HasRunnableDeck, PrintsOk, StopsCheck, char
 use Rattle.commands.specs.Answers.{CompilesAs}
 use Rattle.compile407.specs.ChartFaults.{HasChartFault}
 use Rattle.compile407.specs.Compilation.{Compilation}
-use Rattle.check_calls.proofs.DeckChecks.Silent.{decks_without_faults}
-use Rattle.check_calls.specs.DeckChecks.Endings.{EndsCheck}
-use Rattle.check_calls.specs.DeckChecks.Listings.{IsListing}
+use Rattle.check_calls.specs.DeckChecks.Endings.{EndsCheck, IsFine, WritesFine}
 use Rattle.compile407.specs.Below.charts.Chart.{Chart}
 use Rattle.faults.proofs.Statuses.{memory_or_not}
 use Rattle.faults.specs.Told.{chart_told}
@@ -27,26 +25,25 @@ chart_stops text deck old new cause told Unprinted has named unprinted = by (mem
     by (inr not_memory) = chart_refused (refused_chart text cause told has named not_memory) unprinted
 
 -- nothing is told of the deck
-runnable : (compiled : Compilation) (deck : Option (List ℕ)) → IfSome deck (λ text. IsListing compiled.chart text [])
-    → IfSome deck (HasRunnableDeck compiled)
-runnable compiled None listing = tt
-runnable compiled (Some text) listing = let free = decks_without_faults compiled.chart text listing in record {
-  cards = free.cards;
-  deck = free.deck;
-  runnable = record { deck = record { valid = free.valid; long = free.deck.few }; fits = free.fit };
+runnable : (compiled : Compilation) (cards : List (List ℕ)) (deck : Option (List ℕ)) → IfSome deck (λ text. IsFine compiled.chart text cards)
+    → IfSome deck (HasRunnableDeck compiled cards)
+runnable compiled cards None fine = tt
+runnable compiled cards (Some text) fine = record {
+  deck = fine.deck;
+  runnable = record { deck = record { valid = fine.valid; long = fine.deck.few }; fits = fine.fit };
 }
 
 module _ (text : List ℕ) (deck old new : Option (List ℕ)) (compiled : Compilation) (chart : Chart) (same : chart ≡ compiled.chart)
     (compiles : CompilesAs text compiled) where
-  pub prints_ok : {X E : Type 0} (result : Result X E) → OnOk result (IfSome deck (λ text. IsListing chart text []))
-      → OnOk result (Appends old new (codes "ok\n")) → OnOk result (PrintsOk text deck old new)
-  prints_ok (Ok x) listing written = record {
+  pub prints_ok : {X E : Type 0} (result : Result X E) → OnOk result (WritesFine chart deck old new) → OnOk result (PrintsOk text deck old new)
+  prints_ok (Ok x) fine = record {
     compiled = compiled;
     compiles = compiles;
-    fine = runnable compiled deck (subst (λ c. IfSome deck (λ text. IsListing c text [])) same listing);
-    written = written;
+    cards = fine.cards;
+    fine = runnable compiled fine.cards deck (subst (λ c. IfSome deck (λ text. IsFine c text fine.cards)) same fine.fine);
+    written = fine.written;
   }
-  prints_ok (Err e) listing written = tt
+  prints_ok (Err e) fine = tt
 
   pub deck_stops : {X : Type 0} (result : Result X Fault) (Unprinted : Type 0) → IfErr result (λ told. EndsCheck chart deck old new told)
       → IfErr result (λ told. StopsCheck text deck old new told Unprinted)

@@ -1,5 +1,6 @@
 pub mod BadLines
 pub mod Endings
+pub mod Fine
 pub mod HelperLines
 pub mod HelperStanding
 pub mod HelperTold

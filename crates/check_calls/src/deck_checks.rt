@@ -12,6 +12,7 @@
 
 mod card;
 mod checking;
+mod fine;
 mod laws;
 mod line;
 mod listing;

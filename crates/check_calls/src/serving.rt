@@ -11,8 +11,8 @@ use faults::{Ending, Fault, tell};
 use std::alloc::Global;
 use std::io::{Read, Write};
 
-/// Compiles a chart, and then lists all cards of a deck that it can't be run with, a line for each, or prints `ok` where there is none. No
-/// byte of the deck is read before the chart has compiled.
+/// Compiles a chart, and then lists all cards of a deck that it can't be run with, a line for each, or, where there is none, prints `ok`, how
+/// many cards there are, and the first and the last one. No byte of the deck is read before the chart has compiled.
 ///
 /// # Errors
 ///

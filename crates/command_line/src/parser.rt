@@ -38,6 +38,12 @@ enum Word {
         name: &'static str,
         help: &'static str,
     },
+    /// A number, which may be left out.
+    ExtraNumber {
+        name: &'static str,
+        help: &'static str,
+        size: Size,
+    },
     /// A file behind a word of two hyphens, which may be left out.
     Option {
         name: &'static str,
@@ -112,6 +118,12 @@ const WHEEL: Word = Word::Number {
     size: Size::U32,
 };
 
+const CARD: Word = Word::ExtraNumber {
+    name: "CARD",
+    help: "the number of a card, from 1; the first card, if it is left out",
+    size: Size::U32,
+};
+
 const FAULT: Word = Word::Number {
     name: "NN",
     help: "the number of the fault, as its line tells it",
@@ -119,7 +131,7 @@ const FAULT: Word = Word::Number {
 };
 
 /// The commands in the order of the help.
-static COMMANDS: [CommandRow; 11] = [
+static COMMANDS: [CommandRow; 13] = [
     CommandRow {
         name: "run",
         about: "Prints the pages of a deck",
@@ -129,6 +141,16 @@ static COMMANDS: [CommandRow; 11] = [
         name: "check",
         about: "Checks a planning chart, and all cards of a deck",
         words: &[CHART, DECK_TOO],
+    },
+    CommandRow {
+        name: "layout",
+        about: "Prints each line of a planning chart's report under a ruler of the wheels, with its items",
+        words: &[CHART],
+    },
+    CommandRow {
+        name: "fields",
+        about: "Prints a card under a ruler of the columns, with what the fields of a planning chart read on it",
+        words: &[CHART, DECK, CARD],
     },
     CommandRow {
         name: "wire",
@@ -195,6 +217,9 @@ fn arg_of<'a>(alloc: Global, word: Word) -> Arg<'a> {
             .required(true)
             .value_parser(number_parser(size)),
         Word::Extra { name, help } => Arg::new(alloc, name).help(help),
+        Word::ExtraNumber { name, help, size } => Arg::new(alloc, name)
+            .help(help)
+            .value_parser(number_parser(size)),
         Word::Option {
             name,
             long,

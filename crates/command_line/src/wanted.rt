@@ -27,6 +27,16 @@ pub enum Wanted<'a> {
         chart: &'a str,
         deck: &'a str,
     },
+    /// The lines of a planning chart's report, drawn.
+    Layout {
+        chart: &'a str,
+    },
+    /// What the fields of a planning chart read on a card of a deck.
+    Fields {
+        chart: &'a str,
+        deck: &'a str,
+        card: u32,
+    },
     /// The wiring chart of a planning chart.
     Wire {
         chart: &'a str,
@@ -218,6 +228,7 @@ fn check_wanted<'a>(given: &ArgMatches<'a>) -> Wanted<'a> {
 fn chart_wanted<'a>(name: &str, given: &ArgMatches<'a>) -> Wanted<'a> {
     let chart = file_of(given, "CHART");
     match name {
+        "layout" => Wanted::Layout { chart },
         "legend" => Wanted::Legend { chart },
         _ => Wanted::Wire { chart },
     }
@@ -231,6 +242,11 @@ fn command_wanted<'a>(name: &str, given: &ArgMatches<'a>) -> Wanted<'a> {
         "match" => match_wanted(given),
         "check" => check_wanted(given),
         "explain" => explain_wanted(given),
+        "fields" => Wanted::Fields {
+            chart: file_of(given, "CHART"),
+            deck: file_of(given, "DECK"),
+            card: given.get_one("CARD").unwrap_or(1),
+        },
         "upgrade" => Wanted::Upgrade {
             wiring: file_of(given, "WIRING"),
         },

@@ -16,7 +16,7 @@ is_among first last number = nat_le first number && nat_le number last
 abbrev pub is_numbered : ℕ → Bool
 is_numbered number =
     is_among 1 4 number || is_among 11 14 number || is_among 21 38 number || is_among 41 43 number || is_among 51 54 number
-    || is_among 61 67 number || is_among 71 76 number || (number == 84) || is_among 92 95 number
+    || is_among 61 67 number || is_among 71 76 number || (number == 84) || is_among 92 96 number
 
 -- the numbers on the line of a fault are those of faults: its own, that of its cause, and 4 for a card that can't be read
 abbrev pub HasEntries : Fault → Type 0

@@ -5,7 +5,7 @@ ghost use Rattle.fault_guide.specs.Numbered.{ToldFaultsHaveEntries, is_numbered}
 
 use crate::table::{
     FaultEntry, capacity_entry, card_entry, chart_text_entry, deck_text_entry, explanation_entry,
-    match_entry, order_entry, rule_entry, unfit_entry, wiring_text_entry,
+    match_entry, order_entry, rule_entry, sheet_entry, unfit_entry, wiring_text_entry,
 };
 
 /// The entry of the fault with a number; none where the program tells no fault with the number.
@@ -24,6 +24,7 @@ pub fn fault_entry(number: u8) -> Option<FaultEntry>
         84 => Some(order_entry()),
         92..=93 => Some(explanation_entry(number)),
         94..=95 => Some(match_entry(number)),
+        96 => Some(sheet_entry()),
         _ => None,
     }
 }

@@ -381,6 +381,14 @@ static MATCHES: [Words; 2] = [
     },
 ];
 
+// The fault of a card that is to be shown, 96.
+static SHEETS: [Words; 1] = [Words {
+    name: "NoSuchCard",
+    cause: "the deck has no card K",
+    cure: "cards are numbered from 1, and each line of the deck is one",
+    example: "run407 fields my.chart my.deck 4 where the deck has three lines",
+}];
+
 // The entry of a fault by the words of those that are numbered from the first on.
 fn entry_from(words: &[Words], first: u8, number: u8) -> FaultEntry
     requires from { first ≤ number }
@@ -525,4 +533,11 @@ pub(crate) fn match_entry(number: u8) -> FaultEntry
     ensures { result.number ≡ number }
 {
     entry_from(&MATCHES, 94, number)
+}
+
+/// The entry of the fault of a card that is to be shown, 96.
+pub(crate) fn sheet_entry() -> FaultEntry
+    ensures { result.number ≡ 96 }
+{
+    entry_from(&SHEETS, 96, 96)
 }

@@ -3,6 +3,7 @@
 ghost use Rattle.std.specs.Prelude.{◌≡◌, ◌≢◌};
 ghost use Rattle.std.specs.IoError.{error_kind};
 
+use crate::drawing::{print_fields, print_layout};
 use browser_pages::show_to_end;
 use check_calls::check_deck_to_end;
 use command_line::{Refused, Wanted, read_words};
@@ -30,12 +31,12 @@ fn unopened<'a>(error: &io::Error, path: &'a str) -> Fault<'a>
 }
 
 // A file, opened.
-fn open<'a>(rt: &HostRuntime, path: &'a str) -> Result<File, Fault<'a>> {
+pub(crate) fn open<'a>(rt: &HostRuntime, path: &'a str) -> Result<File, Fault<'a>> {
     fs::open(rt, path).map_err(|error| unopened(&error, path))
 }
 
 // The bytes of a file.
-fn read_file<'a>(rt: &HostRuntime, path: &'a str) -> Result<Vec<u8>, Fault<'a>> {
+pub(crate) fn read_file<'a>(rt: &HostRuntime, path: &'a str) -> Result<Vec<u8>, Fault<'a>> {
     read_whole(rt.alloc(), open(rt, path)?, path)
 }
 
@@ -236,6 +237,8 @@ fn obey<'a>(rt: &HostRuntime, wanted: Wanted<'a>) -> Result<u8, Fault<'a>> {
         Wanted::Run { chart, deck } => serve_deck(rt, "run", chart, deck),
         Wanted::Check { chart } => serve_chart(rt, "check", chart),
         Wanted::CheckDeck { chart, deck } => check_deck(rt, chart, deck),
+        Wanted::Layout { chart } => print_layout(rt, chart),
+        Wanted::Fields { chart, deck, card } => print_fields(rt, chart, deck, card),
         Wanted::Wire { chart } => serve_chart(rt, "wire", chart),
         Wanted::Replay { wiring, deck } => serve_deck(rt, "replay", wiring, deck),
         Wanted::ReplayByOrders {

@@ -20,7 +20,7 @@ use Rattle.report.specs.Misfits.{Misfit, first_of}
 use Rattle.report.specs.Totals.{Fits}
 
 -- two lists of which nothing is left have nothing
-left_empty : {X : Type 0} (one other : List X) → one ++ other ≡ [] → (one ≡ []) × (other ≡ [])
+pub left_empty : {X : Type 0} (one other : List X) → one ++ other ≡ [] → (one ≡ []) × (other ≡ [])
 left_empty [] other is = (refl, is)
 left_empty (x ∷ xs) other is = absurd cc
 
@@ -30,7 +30,7 @@ no_misfit [] is = refl
 no_misfit (misfit ∷ others) is = absurd cc
 
 -- no group that has ended has a misfit
-abbrev HaveFit : List Line → List (List ℕ) → Type 0
+abbrev pub HaveFit : List Line → List (List ℕ) → Type 0
 HaveFit lines [] = ⊤
 HaveFit lines (card ∷ cards) = FitSoFar lines card cards
 
@@ -40,20 +40,20 @@ fit_more chart [] card fit none = (fits_go_on chart.lines card).0
 fit_more chart (first ∷ cards) card fit none =
     (fits_go_on chart.lines first).1 cards card fit (no_misfit (misfits_of_last chart.lines first cards (Some card)) none)
 
-fit_all : (chart : Chart) (cards : List (List ℕ)) → HaveFit chart.lines cards → totals_told chart (Some cards) None ≡ [] → Fits chart.lines cards
+pub fit_all : (chart : Chart) (cards : List (List ℕ)) → HaveFit chart.lines cards → totals_told chart (Some cards) None ≡ [] → Fits chart.lines cards
 fit_all chart [] fit none = (fit_without_misfits chart.lines []).1 refl
 fit_all chart (card ∷ cards) fit none =
     fits_end chart.lines card cards fit (no_misfit (misfits_of_last chart.lines card cards None) none)
 
 -- The lines are cards that are valid, and no group that has ended has a misfit.
-record AreGood (chart : Chart) (lines : List (List ℕ)) (so_far : Option (List (List ℕ))) : Type 0 where
-  cards : List (List ℕ)
-  are : so_far ≡ Some cards
-  each : AllZip IsCardOf lines cards
-  valid : All (IsValidCard chart) cards
-  fit : HaveFit chart.lines cards
+pub record AreGood (chart : Chart) (lines : List (List ℕ)) (so_far : Option (List (List ℕ))) : Type 0 where
+  pub cards : List (List ℕ)
+  pub are : so_far ≡ Some cards
+  pub each : AllZip IsCardOf lines cards
+  pub valid : All (IsValidCard chart) cards
+  pub fit : HaveFit chart.lines cards
 
-silent : {chart : Chart} {lines : List (List ℕ)} {so_far : Option (List (List ℕ))} {told : List Fault} → Lists chart lines so_far told → told ≡ []
+pub silent : {chart : Chart} {lines : List (List ℕ)} {so_far : Option (List (List ℕ))} {told : List Fault} → Lists chart lines so_far told → told ≡ []
     → AreGood chart lines so_far
 silent {chart} listings.none empty = record { cards = []; are = refl; each = tt; valid = All-nil (IsValidCard chart); fit = tt }
 silent {chart} (listings.good lines so_far told line card before is) empty =
@@ -74,7 +74,7 @@ silent {chart} (listings.bad lines so_far told line fault before is) empty = abs
     no_more (one ∷ others) fault is = cc
 
 -- as many cards as lines
-as_many : (lines cards : List (List ℕ)) → AllZip IsCardOf lines cards → length cards ≡ length lines
+pub as_many : (lines cards : List (List ℕ)) → AllZip IsCardOf lines cards → length cards ≡ length lines
 as_many [] [] each = refl
 as_many [] (card ∷ cards) each = absurd each
 as_many (line ∷ lines) [] each = absurd each

@@ -13,7 +13,7 @@ use Rattle.charts.specs.Chart.{Chart}
 use Rattle.check_calls.specs.DeckChecks.BadLines.{IsBadLine, IsGoodLine, no_card, not_amount, not_text}
 use Rattle.check_calls.specs.DeckChecks.Endings.{CutsOff, EndsCheck, IsCutOff, IsToWrite, cut_off, front, too_many, unread, unwritten, whole}
 use Rattle.check_calls.specs.DeckChecks.HelperLines.{IsKeptOf, ReadsLine}
-use Rattle.check_calls.specs.DeckChecks.HelperStanding.{BreaksOff, HasEnded, IsAt, Stands, Takes, bad, good}
+use Rattle.check_calls.specs.DeckChecks.HelperStanding.{AreEdges, BreaksOff, HasEnded, IsAt, Stands, Takes, bad, good}
 use Rattle.check_calls.specs.DeckChecks.HelperTold.{first_with}
 use Rattle.check_calls.specs.DeckChecks.Listings.{HasListed, IsListing, Lists, lines_told, totals_told, with_card}
 use Rattle.check_calls.specs.DeckChecks.Listings as listings
@@ -56,6 +56,13 @@ cut_bad chart number line kept told (inr long) (no_card fault has named) =
     no_card fault (cut_fault line (without_cr kept) number fault long.0 long.1 has) named
 cut_bad chart number line kept told (inr long) (not_text card column punched first named) = absurd (omega (arith, long.1, punched.short))
 cut_bad chart number line kept told (inr long) (not_amount card column punched first named) = absurd (omega (arith, long.1, punched.short))
+
+-- the first and the last of the good cards
+edges_of : (chart : Chart) (cards : List (List ℕ)) (standing now : Standing) → IsAt chart.lines (Some cards) standing
+    → now.count ≡ standing.count → now.first ≡ standing.first → now.last ≡ standing.last → AreEdges cards now
+edges_of chart [] standing now at count first last = record { count = count ∙ at.2; first = first ∙ at.3; last = last ∙ at.1.0 }
+edges_of chart (card ∷ cards) standing now at count first last =
+    record { count = count ∙ at.2; first = first ∙ at.3; last = last ∙ at.1.0 }
 
 -- what a line more makes of what was told
 record IsFurther (chart : Chart) (lines : List (List ℕ)) (line : List ℕ) (told more : List Fault) (new : Standing) : Type 0 where
@@ -134,6 +141,11 @@ module _ {chart : Chart} {deck was left holds : Option (List ℕ)} {standing : S
       some rest is cut none = let e = sym none ∙ cut.2 in cc
 
   -- behind the last line
+  all_lines : IfSome left (λ rest. lines_of rest ≡ []) → IfSome deck (λ text. lines_of text ≡ stands.lines)
+  all_lines none =
+      each {Q = λ text. lines_of text ≡ stands.lines} deck
+      (λ text read. read.2 ∙ ap (λ l. stands.lines ++ l) (known_rest left (read.0) _ (read.1) none) ∙ append-nil stands.lines) stands.read
+
   listing_of : IfSome left (λ rest. lines_of rest ≡ []) → (more : List Fault) → more ≡ totals_told chart stands.so_far None
       → IfSome deck (λ text. IsListing chart text (stands.told ++ more))
   listing_of none more are =
@@ -149,11 +161,21 @@ module _ {chart : Chart} {deck was left holds : Option (List ℕ)} {standing : S
         all = ap (λ m. stands.told ++ m) are;
       }) stands.read
 
-  pub ends : (new : Option (List ℕ)) (more first_now : Option Fault) → IfSome left (λ rest. lines_of rest ≡ [])
-      → option_to_list more ≡ totals_told chart stands.so_far None → Appends holds new (lines_told (option_to_list more))
-      → first_now ≡ first_with first more → HasEnded chart deck was new first_now
-  ends new more first_now none are taken is = record {
+  pub ends : (new : Option (List ℕ)) (more first_now : Option Fault) (now : Standing) → IfSome left (λ rest. lines_of rest ≡ [])
+      → option_to_list more ≡ totals_told chart stands.so_far None → now.count ≡ standing.count → now.first ≡ standing.first
+      → now.last ≡ standing.last → Appends holds new (lines_told (option_to_list more)) → first_now ≡ first_with first more
+      → HasEnded chart deck was new now first_now
+  ends new more first_now now none are same_count same_first same_last taken is = record {
     told = stands.told ++ option_to_list more;
+    lines = stands.lines;
+    so_far = stands.so_far;
+    before = stands.told;
+    lists = stands.lists;
+    all = ap (λ m. stands.told ++ m) are;
+    few = stands.few;
+    read = all_lines none;
+    edges = λ cards so_far.
+        edges_of chart cards standing now (subst (λ s. IsAt chart.lines s standing) so_far stands.at) same_count same_first same_last;
     listing = listing_of none (option_to_list more) are;
     written = written_more (option_to_list more) new taken;
     is_first = is ∙ first_more stands.told more first stands.is_first;

@@ -8,6 +8,7 @@ use Rattle.charts.specs.declared.chart.Line.{Line}
 use Rattle.check_calls.specs.DeckChecks.BadLines.{IsBadLine, IsGoodLine}
 use Rattle.check_calls.specs.DeckChecks.Listings.{IsListing, Lists, lines_told, totals_told, with_card}
 use Rattle.check_calls.specs.declared.deck_checks.standing.Standing.{Standing}
+use Rattle.check_calls.specs.DeckChecks.Fine.{last_in}
 use Rattle.decks.specs.FitSoFar.{groups_before}
 use Rattle.decks.specs.Stands.{last_of}
 use Rattle.faults.specs.declared.fault.Fault.{Fault}
@@ -21,11 +22,17 @@ AreBeforeLast lines [] last sums = (last ≡ None) × AreSumsOf lines no_cards s
 AreBeforeLast lines (card ∷ cards) last sums =
     (last ≡ Some (last_of card cards)) × AreSumsOf lines (groups_before lines card cards) sums × (sums.cards ≡ length cards)
 
--- while no line was bad the sums and the last card are those of all lines
+-- the first card, where there is one more
+abbrev pub first_card : (first : Option (List ℕ)) → (card : List ℕ) → Option (List ℕ)
+first_card (Some first) card = Some first
+first_card None card = Some card
+
+-- while no line was bad the sums, the first card and the last one are those of all lines
 abbrev pub IsAt : List Line → (so_far : Option (List (List ℕ))) → Standing → Type 0
 IsAt lines None standing = standing.is_good ≡ false
 IsAt lines (Some cards) standing =
     (standing.is_good ≡ true) × AreBeforeLast lines cards standing.last standing.sums × (standing.count ≡ length cards)
+    × (standing.first ≡ slice_get cards 0)
 
 -- A line more was taken, the one with a number, and this is told.
 pub data Takes (chart : Chart) (number : ℕ) (line : List ℕ) (so_far : Option (List (List ℕ))) (told : List Fault) (new : Standing) : Type 0 where
@@ -47,9 +54,23 @@ pub record Stands (chart : Chart) (deck was left holds : Option (List ℕ)) (sta
   pub written : Appends was holds (lines_told told)
   pub is_first : first ≡ slice_get told 0
 
+-- how many good cards there were, the first and the last one
+pub record AreEdges (cards : List (List ℕ)) (standing : Standing) : Type 0 where
+  pub count : standing.count ≡ length cards
+  pub first : standing.first ≡ slice_get cards 0
+  pub last : standing.last ≡ last_in cards
+
 -- How it stands behind the last line.
-pub record HasEnded (chart : Chart) (deck was holds : Option (List ℕ)) (first : Option Fault) : Type 0 where
+pub record HasEnded (chart : Chart) (deck was holds : Option (List ℕ)) (standing : Standing) (first : Option Fault) : Type 0 where
   pub told : List Fault
+  pub lines : List (List ℕ)
+  pub so_far : Option (List (List ℕ))
+  pub before : List Fault
+  pub lists : Lists chart lines so_far before
+  pub all : told ≡ before ++ totals_told chart so_far None
+  pub few : length lines ≤ most_cards
+  pub read : IfSome deck (λ text. lines_of text ≡ lines)
+  pub edges : (cards : List (List ℕ)) → so_far ≡ Some cards → AreEdges cards standing
   pub listing : IfSome deck (λ text. IsListing chart text told)
   pub written : Appends was holds (lines_told told)
   pub is_first : first ≡ slice_get told 0
@@ -57,7 +78,7 @@ pub record HasEnded (chart : Chart) (deck was holds : Option (List ℕ)) (first 
 -- it stands behind a line more, or behind the last
 abbrev pub GoesOn : Chart → (deck was left holds : Option (List ℕ)) → Standing → Option Fault → Bool → Type 0
 GoesOn chart deck was left holds standing first true = Stands chart deck was left holds standing first
-GoesOn chart deck was left holds standing first false = HasEnded chart deck was holds first
+GoesOn chart deck was left holds standing first false = HasEnded chart deck was holds standing first
 
 -- The front of some bytes was written, and this is told of the writer.
 pub record BreaksOff (bytes : List ℕ) (old new : Option (List ℕ)) (told : Fault) : Type 0 where

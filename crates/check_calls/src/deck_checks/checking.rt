@@ -1,10 +1,10 @@
 //! A check of a deck, line by line.
 
-ghost use Rattle.std.specs.Prelude.{◌≡◌, ◌+◌, ℕ, List, Option, [], codes, IfErr, IfOk, IfSome, MatchResult, OnOk, true};
+ghost use Rattle.std.specs.Prelude.{◌≡◌, ◌+◌, ◌⊎◌, ℕ, List, Option, IfErr, IfOk, MatchResult, OnOk, true};
 ghost use Rattle.std.specs.Io.KnownBytes.{Appends};
-ghost use Rattle.check_calls.specs.DeckChecks.Endings.{EndsCheck};
-ghost use Rattle.check_calls.specs.DeckChecks.HelperStanding.{GoesOn, Stands};
-ghost use Rattle.check_calls.specs.DeckChecks.Listings.{IsListing};
+ghost use Rattle.check_calls.specs.DeckChecks.Endings.{EndsCheck, WritesFine};
+ghost use Rattle.check_calls.specs.DeckChecks.Fine.{fine_words};
+ghost use Rattle.check_calls.specs.DeckChecks.HelperStanding.{BreaksOff, GoesOn, Stands};
 
 use crate::deck_checks::line::next_line;
 use crate::deck_checks::listing::{Listing, put};
@@ -12,7 +12,7 @@ use crate::deck_checks::standing::Standing;
 use arrayvec::ArrayVec;
 use card_code::{DeckFault, MOST_CARDS, without_cr};
 use chart_rules::Chart;
-use faults::Fault;
+use faults::{Fault, unprinted};
 use std::alloc::Global;
 use std::io::{BufReader, Read, Write};
 
@@ -49,6 +49,29 @@ fn step<'a, R: Read, W: Write>(
     Ok(true)
 }
 
+// The words that are told where nothing is wrong with a deck.
+fn fine_text<'a>(alloc: Global, standing: &Standing) -> Result<Vec<u8>, Fault<'a>>
+    ensures fine { IfOk result (λ text. text.items ≡ fine_words standing.now.count standing.now.first standing.now.last) }
+    ensures told { IfErr result (λ told. (told ≡ Fault.Memory) ⊎ (told ≡ Fault.Write)) }
+{
+    let mut text = Vec::new(alloc);
+    match standing.write_fine(alloc, &mut text) {
+        Ok(()) => Ok(text),
+        Err(error) => Err(unprinted(&error)),
+    }
+}
+
+// Tells that nothing is wrong with a deck, how many cards it has, and the first and the last one.
+fn tell_fine<'a, W: Write>(alloc: Global, standing: &Standing, out: &mut W) -> Result<(), Fault<'a>>
+    ensures written { OnOk result (Appends (W.contents out.old) (W.contents out.new)
+        (fine_words standing.now.count standing.now.first standing.now.last)) }
+    ensures broken { IfErr result (λ told. BreaksOff
+        (fine_words standing.now.count standing.now.first standing.now.last) (W.contents out.old) (W.contents out.new) told) }
+{
+    let text = fine_text(alloc, standing)?;
+    put(out, text.as_slice())
+}
+
 // Checks all lines that a reader has left.
 fn check_lines<'a, R: Read, W: Write>(
     alloc: Global,
@@ -56,8 +79,7 @@ fn check_lines<'a, R: Read, W: Write>(
     reader: &mut R,
     out: &mut W,
 ) -> Result<(), Fault<'a>>
-    ensures fine { OnOk result (IfSome (R.remaining reader.old) (λ text. IsListing chart.now text [])) }
-    ensures written { OnOk result (Appends (W.contents out.old) (W.contents out.new) (codes "ok\n")) }
+    ensures fine { OnOk result (WritesFine chart.now (R.remaining reader.old) (W.contents out.old) (W.contents out.new)) }
     ensures ends { IfErr result (λ told. EndsCheck chart.now (R.remaining reader.old) (W.contents out.old) (W.contents out.new) told) }
 {
     let mut standing = Standing::new(chart);
@@ -65,12 +87,12 @@ fn check_lines<'a, R: Read, W: Write>(
     while step(chart, reader, &mut standing, &mut listing, out)? {}
     match listing.first() {
         Some(fault) => Err(fault),
-        None => put(out, b"ok\n"),
+        None => tell_fine(alloc, &standing, out),
     }
 }
 
 /// Lists all cards of a deck that a chart can't be run with: writes a line for each, in the order of the deck, as a run would tell the card
-/// were it the first bad one; and `ok` where there is none.
+/// were it the first bad one; and, where there is none, `ok`, how many cards there are, and the first and the last one as they print.
 ///
 /// A line that is no card is bad, and so is a card that is not valid for the chart; of one with several faults the first is told. As long as
 /// no card was bad, each card with which a group ends that has a total that does not fit has a line too, for the first such total; behind a
@@ -87,8 +109,7 @@ pub fn check_cards<'a, R: Read + Drop, W: Write>(
     deck: R,
     out: &mut W,
 ) -> Result<(), Fault<'a>>
-    ensures fine { OnOk result (IfSome (R.remaining deck) (λ text. IsListing chart.now text [])) }
-    ensures written { OnOk result (Appends (W.contents out.old) (W.contents out.new) (codes "ok\n")) }
+    ensures fine { OnOk result (WritesFine chart.now (R.remaining deck) (W.contents out.old) (W.contents out.new)) }
     ensures ends { IfErr result (λ told. EndsCheck chart.now (R.remaining deck) (W.contents out.old) (W.contents out.new) told) }
 {
     match BufReader::new(alloc, deck) {

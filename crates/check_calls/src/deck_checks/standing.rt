@@ -1,21 +1,27 @@
 //! What a check holds between two lines.
 
-ghost use Rattle.std.specs.Prelude.{◌≡◌, ◌+◌, ◌<◌, ◌≤◌, ℕ, List, Option, [], ◌∷◌, ◌++◌, None, Some, option_to_list, true, false};
+ghost use Rattle.std.specs.Prelude.{◌≡◌, ◌+◌, ◌<◌, ◌≤◌, ℕ, List, Option, [], ◌∷◌, ◌++◌, OnOk, None, Some, option_to_list, true, false};
 ghost use Rattle.card_code.specs.MostCards.{most_cards};
 ghost use Rattle.check_calls.specs.DeckChecks.Listings.{misfit_told, totals_told, with_card};
-ghost use Rattle.check_calls.specs.DeckChecks.HelperStanding.{AreBeforeLast, IsAt, Takes};
+ghost use Rattle.check_calls.specs.DeckChecks.Fine.{fine_words};
+ghost use Rattle.check_calls.specs.DeckChecks.HelperStanding.{AreBeforeLast, IsAt, Takes, first_card};
 ghost use Rattle.misfits.specs.Told.{told};
 
 use crate::deck_checks::card::judge;
+use crate::deck_checks::fine::write_fine;
 use card_code::Card;
 use chart_rules::Chart;
 use faults::{Fault, RunFault};
 use misfits::{Misfit, OpenSums};
+use std::alloc::Global;
+use std::io;
 
-// The sums of all cards but the last, and the last one, if there is one, while all lines were good; and how many lines there were.
+// The sums of all cards but the last, and the first and the last one, if there is one, while all lines were good; and how many lines there
+// were.
 #[derive(Drop)]
 pub(crate) struct Standing {
     sums: OpenSums,
+    first: Option<Card>,
     last: Option<Card>,
     is_good: bool,
     count: u32,
@@ -55,6 +61,16 @@ fn try_totals<'a>(
     }
 }
 
+// The first card, where there is one more.
+fn first_with(first: &Option<Card>, card: &Card) -> Option<Card>
+    ensures { result ≡ first_card first.now card.now }
+{
+    match first {
+        Some(first) => Some(*first),
+        None => Some(*card),
+    }
+}
+
 impl Standing {
     // Before the first line.
     pub(crate) fn new(chart: &Chart) -> Standing
@@ -63,6 +79,7 @@ impl Standing {
     {
         Standing {
             sums: OpenSums::new(chart),
+            first: None,
             last: None,
             is_good: true,
             count: 0,
@@ -90,6 +107,7 @@ impl Standing {
         if !self.is_good {
             return None;
         }
+        self.first = first_with(&self.first, &card);
         let next = Some(card);
         let told = try_totals(&mut self.sums, chart, &self.last, &next);
         self.last = next;
@@ -118,12 +136,22 @@ impl Standing {
     pub(crate) fn end<'a>(&mut self, chart: &Chart) -> Option<Fault<'a>>
         requires few { self.old.count ≤ most_cards }
         requires stands { (so_far : Option (List (List ℕ))) × IsAt chart.now.lines so_far self.old }
-        ensures { (so_far : Option (List (List ℕ))) → IsAt chart.now.lines so_far self.old →
+        ensures told { (so_far : Option (List (List ℕ))) → IsAt chart.now.lines so_far self.old →
             option_to_list result ≡ totals_told chart.now so_far None }
+        ensures count { self.new.count ≡ self.old.count }
+        ensures first { self.new.first ≡ self.old.first }
+        ensures last { self.new.last ≡ self.old.last }
     {
         if !self.is_good {
             return None;
         }
         try_totals(&mut self.sums, chart, &self.last, &None)
+    }
+
+    // Writes what is told where nothing is wrong with the deck: how many cards there were, the first and the last one.
+    pub(crate) fn write_fine(&self, alloc: Global, text: &mut Vec<u8>) -> io::Result<()>
+        ensures { OnOk result (text.new.items ≡ text.old.items ++ fine_words self.now.count self.now.first self.now.last) }
+    {
+        write_fine(alloc, text, self.count, &self.first, &self.last)
     }
 }

@@ -14,7 +14,6 @@ pub returns-clause-fine : goal.returns-clause-fine
 returns-clause-fine g c =
     prints_ok c.args.chart.now (g.R.Read.remaining c.args.deck) _ _ c.in_ok-compiled.compiled _ c.chart.ensures.value
     (record { read = c.in_ok-compiled.ensures.read; wired = c.in_ok-compiled.ensures.compiled }) c.check_cards.result c.check_cards.ensures.fine
-    c.check_cards.ensures.written
 
 pub returns-clause-stops : goal.returns-clause-stops
 returns-clause-stops g c =

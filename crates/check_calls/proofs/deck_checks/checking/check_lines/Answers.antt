@@ -1,5 +1,5 @@
-use Rattle.std.proofs.Common.{refl, ◌∙◌, sym, subst, codes}
-use Rattle.check_calls.proofs.DeckChecks.Whole.{begins, ends_fine, ends_told, ok_broken, ok_written}
+use Rattle.std.proofs.Common.{◌∙◌, sym, subst}
+use Rattle.check_calls.proofs.DeckChecks.Whole.{begins, ends_told, fine_broken, fine_written}
 use Rattle.check_calls.specs.DeckChecks.HelperStanding.{GoesOn}
 use Rattle.check_calls.proofs.deck_checks.checking.check_lines.Goals as goal
 
@@ -12,7 +12,7 @@ returns-in-Some-clause-ends g c =
     (GoesOn c.args.chart.now (g.R.Read.remaining c.args.reader.now) (g.W.Write.contents c.args.out.now) (g.R.Read.remaining c.step.new.reader)
     (g.W.Write.contents c.step.new.out) c.step.new.standing c.step.new.listing.first)
     c.if-branch.false (c.in_ok-step.ensures.goes_on _ _ c.loop-listing.invariant) in
-    ends_told _ _ _ _ _ c.in-Some.fault ended (sym c.first.ensures ∙ c.in-Some.is)
+    ends_told _ _ _ _ _ _ c.in-Some.fault ended (sym c.first.ensures ∙ c.in-Some.is)
 
 pub returns-clause-fine : goal.returns-clause-fine
 returns-clause-fine g c =
@@ -20,15 +20,7 @@ returns-clause-fine g c =
     (GoesOn c.args.chart.now (g.R.Read.remaining c.args.reader.now) (g.W.Write.contents c.args.out.now) (g.R.Read.remaining c.step.new.reader)
     (g.W.Write.contents c.step.new.out) c.step.new.standing c.step.new.listing.first)
     c.if-branch.false (c.in_ok-step.ensures.goes_on _ _ c.loop-listing.invariant) in
-    ends_fine _ _ _ _ (g.W.Write.contents c.put.new.out) _ ended (sym c.first.ensures ∙ c.in-None.is) (codes "ok\n") c.put.result
-
-pub returns-clause-written : goal.returns-clause-written
-returns-clause-written g c =
-    let ended = subst
-    (GoesOn c.args.chart.now (g.R.Read.remaining c.args.reader.now) (g.W.Write.contents c.args.out.now) (g.R.Read.remaining c.step.new.reader)
-    (g.W.Write.contents c.step.new.out) c.step.new.standing c.step.new.listing.first)
-    c.if-branch.false (c.in_ok-step.ensures.goes_on _ _ c.loop-listing.invariant) in
-    ok_written _ _ _ _ _ _ ended (sym c.first.ensures ∙ c.in-None.is) (codes "ok\n") c.put.result c.put.ensures.written
+    fine_written _ _ _ _ _ _ _ ended (sym c.first.ensures ∙ c.in-None.is) c.tell_fine.result c.tell_fine.ensures.written
 
 pub returns-clause-ends : goal.returns-clause-ends
 returns-clause-ends g c =
@@ -36,4 +28,4 @@ returns-clause-ends g c =
     (GoesOn c.args.chart.now (g.R.Read.remaining c.args.reader.now) (g.W.Write.contents c.args.out.now) (g.R.Read.remaining c.step.new.reader)
     (g.W.Write.contents c.step.new.out) c.step.new.standing c.step.new.listing.first)
     c.if-branch.false (c.in_ok-step.ensures.goes_on _ _ c.loop-listing.invariant) in
-    ok_broken _ _ _ _ _ _ ended (sym c.first.ensures ∙ c.in-None.is) (codes "ok\n") refl c.put.result c.put.ensures.broken
+    fine_broken _ _ _ _ _ _ _ ended (sym c.first.ensures ∙ c.in-None.is) c.tell_fine.result c.tell_fine.ensures.broken

@@ -12,13 +12,13 @@ pub returns-in_err-list-clause-goes_on : goal.returns-in_err-list-clause-goes_on
 returns-in_err-list-clause-goes_on g c = λ deck was stands.
     let p = err_from_is_err_and c.from_residual.result c.from_residual.ensures.1 in
     rw (p.1, p.2)
-    (ends_unwritten stands _ _ _ (c.in-Ok.ensures.none c.if-not-is_there.true) (c.end.ensures stands.so_far stands.at)
+    (ends_unwritten stands _ _ _ (c.in-Ok.ensures.none c.if-not-is_there.true) (c.end.ensures.told stands.so_far stands.at)
     c.in_err-list.ensures.broken)
 
 pub returns-then-not-is_there-clause-goes_on : goal.returns-then-not-is_there-clause-goes_on
 returns-then-not-is_there-clause-goes_on g c = λ deck was stands.
-    ends stands _ _ _ (c.in-Ok.ensures.none c.if-not-is_there.true) (c.end.ensures stands.so_far stands.at)
-    c.in_ok-list.ensures.written c.in_ok-list.ensures.first
+    ends stands _ _ _ _ (c.in-Ok.ensures.none c.if-not-is_there.true) (c.end.ensures.told stands.so_far stands.at) c.end.ensures.count
+    c.end.ensures.first c.end.ensures.last c.in_ok-list.ensures.written c.in_ok-list.ensures.first
 
 pub returns-then-count-clause-goes_on : goal.returns-then-count-clause-goes_on
 returns-then-count-clause-goes_on g c = λ deck was stands.

@@ -1,0 +1,3 @@
+pub mod CardSheets
+pub mod Charts
+pub mod Layouts

@@ -1,0 +1,25 @@
+-- A line of a deck as it stands, with a mark under one of its columns.
+use Rattle.std.specs.Prelude.{ℕ, ◌-◌, ◌&&◌, List, [], ◌++◌, codes, map, nat_le, nat_lt, replicate, take, if◌then◌else◌}
+use Rattle.std.specs.List.{flat_map}
+use Rattle.chart_rules.specs.Below.charts.Name.{name_text}
+use Rattle.chart_rules.specs.Below.charts.declared.statement.Field.{Field}
+
+-- a byte as it is shown: a question mark stands for one that is no character of ASCII, or doesn't print
+abbrev pub shown_byte : ℕ → ℕ
+shown_byte byte = if nat_le 32 byte && nat_lt byte 127 then byte else 63
+
+-- the front of a line, as much of it as a card has columns
+abbrev pub shown_line : List ℕ → List ℕ
+shown_line line = map shown_byte (take 80 line)
+
+-- the name of a field that has a column
+abbrev pub name_at : (column : ℕ) → Field → List ℕ
+name_at column field = if nat_le field.first column && nat_le column field.last then codes " " ++ name_text field.name else []
+
+-- the mark under a column, and the names of the fields that have it
+abbrev pub column_mark : (column : ℕ) → List Field → List ℕ
+column_mark column fields = replicate (column - 1) 32 ++ codes "^" ++ flat_map (name_at column) fields ++ codes "\n"
+
+-- a line with a mark
+abbrev pub marked_line : (line : List ℕ) → (column : ℕ) → List Field → List ℕ
+marked_line line column fields = shown_line line ++ codes "\n" ++ column_mark column fields

@@ -1,0 +1,20 @@
+//! Sheets to look at beside a chart: its printed lines under a ruler of the wheels, and what its fields read on a card.
+//!
+//! [`write_layout`] draws each line of a chart's report with its items where they stand. [`write_fields`] tells what each field reads on
+//! a card, with marks under its columns, and [`write_marked_line`] shows a line that is no card; [`column_ruler`] is the ruler to stand above them.
+#![tactic(auto)]
+
+mod fields;
+mod items;
+mod laws;
+mod layout;
+mod lines;
+mod marks;
+mod rulers;
+mod runs;
+
+pub use fields::write_fields;
+pub use laws::items_stand_on_their_wheels;
+pub use layout::write_layout;
+pub use marks::write_marked_line;
+pub use rulers::column_ruler;

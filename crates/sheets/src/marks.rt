@@ -1,0 +1,92 @@
+//! A line of a deck as it stands, with a mark under one of its columns.
+
+ghost use Rattle.std.specs.Prelude.{◌≡◌, ◌++◌, OnOk, map, take};
+ghost use Rattle.std.specs.List.{flat_map};
+ghost use Rattle.chart_rules.specs.Below.field_rules.Fields.{fields_of};
+ghost use Rattle.sheets.specs.Marks as marks;
+
+use crate::runs::write_run;
+use card_code::CARD_COLUMNS;
+use chart_rules::Chart;
+use charts::Field;
+use std::io;
+use std::io::Write;
+
+// A byte as it is shown.
+fn shown_byte(byte: u8) -> u8
+    ensures { result ≡ marks.shown_byte byte }
+{
+    if 32 <= byte && byte < 127 { byte } else { b'?' }
+}
+
+// Bytes as they are shown.
+fn write_shown(text: &mut Vec<u8>, bytes: &[u8]) -> io::Result<()>
+    ensures { OnOk result (text.new.items ≡ text.old.items ++ map marks.shown_byte bytes.now) }
+{
+    for byte in bytes {
+        text.push(shown_byte(*byte))?;
+    }
+    Ok(())
+}
+
+// As much of a line as a card has columns.
+fn front_of(line: &[u8]) -> &[u8]
+    ensures { result.now ≡ take 80 line.now }
+{
+    if line.len() < CARD_COLUMNS {
+        line
+    } else {
+        &line[..CARD_COLUMNS]
+    }
+}
+
+// The name of a field that has a column.
+fn write_name_at(text: &mut Vec<u8>, column: u32, field: &Field) -> io::Result<()>
+    ensures { OnOk result (text.new.items ≡ text.old.items ++ marks.name_at column field.now) }
+{
+    if u32::from(field.first) <= column && column <= u32::from(field.last) {
+        text.write_all(b" ")?;
+        text.write_all(field.name.as_bytes())?;
+    }
+    Ok(())
+}
+
+#[tactic(auto, using(crate::proofs::Growing::piece_more))]
+// The names of the fields that have a column.
+fn write_names_at(text: &mut Vec<u8>, column: u32, fields: &[Field]) -> io::Result<()>
+    ensures { OnOk result (text.new.items ≡ text.old.items ++ flat_map (marks.name_at column) fields.now) }
+{
+    for field in fields {
+        write_name_at(text, column, field)?;
+    }
+    Ok(())
+}
+
+// The mark under a column, and the names of the fields that have it.
+fn write_column_mark(text: &mut Vec<u8>, column: u32, fields: &[Field]) -> io::Result<()>
+    ensures { OnOk result (text.new.items ≡ text.old.items ++ marks.column_mark column fields.now) }
+{
+    write_run(text, b' ', column.saturating_sub(1) as usize)?;
+    text.write_all(b"^")?;
+    write_names_at(text, column, fields)?;
+    text.write_all(b"\n")
+}
+
+/// Writes behind a text a line of a deck as it stands, its first 80 bytes, and under it a mark at a column, from 1, with the names of the
+/// chart's fields that have the column. A question mark stands for a byte that doesn't print.
+///
+/// # Errors
+///
+/// `OutOfMemory` alone. The text may then have gained a part of this.
+pub fn write_marked_line(
+    text: &mut Vec<u8>,
+    chart: &Chart,
+    line: &[u8],
+    column: u32,
+) -> io::Result<()>
+    ensures { OnOk result (text.new.items ≡ text.old.items ++ marks.marked_line line.now column (fields_of chart.now.lines)) }
+{
+    write_shown(text, front_of(line))?;
+    text.write_all(b"\n")?;
+    write_column_mark(text, column, chart.fields())
+}
