@@ -1,0 +1,14 @@
+-- Laws of decks in a row.
+use Rattle.std.specs.Prelude.{◌≡◌, ℕ, List, [], ◌∷◌, ◌++◌, true}
+use Rattle.card_code.specs.Lines.{lines_of}
+use Rattle.decks_in_row.specs.InRow.{ended, in_row}
+
+-- the lines of decks, one behind the other; the last line of each has an end
+abbrev pub lines_of_all : List (List ℕ) → List (List ℕ)
+lines_of_all [] = []
+lines_of_all (deck ∷ decks) = lines_of (ended true deck) ++ lines_of_all decks
+
+-- The cards of decks in a row are those of the first, then those of the second, and so on: no card is joined to the next, and none comes
+-- between.
+abbrev pub DecksKeepTheirLines : Type 0
+DecksKeepTheirLines = (decks : List (List ℕ)) → lines_of (in_row decks) ≡ lines_of_all decks

@@ -1,0 +1,3 @@
+pub mod InRow
+pub mod Laws
+pub mod Rows

@@ -1,0 +1,11 @@
+//! Several decks in a row, read as one.
+//!
+//! [`DecksInRow`] reads its readers one behind the other. Each begins on a line of its own: if the last line of a deck has no end, it gets
+//! one. So the cards of the decks follow one another, and [`decks_keep_their_lines`] is the law.
+#![tactic(auto)]
+
+mod laws;
+mod row;
+
+pub use laws::decks_keep_their_lines;
+pub use row::DecksInRow;

@@ -1,0 +1,2 @@
+mod LongLines
+mod Refusing

@@ -1,0 +1,2 @@
+pub mod LongCards
+pub mod Served

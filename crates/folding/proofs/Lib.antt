@@ -1,0 +1,3 @@
+mod Bounds
+mod KeptLines
+mod Punched

@@ -1,0 +1,4 @@
+pub mod Changes
+pub mod Folded
+pub mod Laws
+pub mod Told
