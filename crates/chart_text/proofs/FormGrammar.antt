@@ -25,8 +25,8 @@ use Rattle.charts.specs.declared.statement.DetailOption.{DetailOption}
 use Rattle.charts.specs.declared.statement.DetailOption.TheVariants.{Plain, Indicated, Marked}
 use Rattle.charts.specs.declared.statement.Statement.{Statement}
 use Rattle.charts.specs.declared.statement.Statement.TheVariants as says
+use Rattle.charts.specs.declared.statement.TotalLine.{TotalLine}
 use Rattle.charts.specs.Levels.{level_number}
-use Rattle.charts.specs.declared.level.Level.{Level}
 use Rattle.charts.specs.declared.chart.Version.{Version}
 use Rattle.charts.specs.declared.chart.Version.TheVariants.{First, Second}
 use Rattle.chart_text.specs.ChartText.{SaysIn, in_both, in_second}
@@ -253,17 +253,13 @@ detail_is (wheel ∷ item ∷ others) s read = detail_item_is wheel item others 
 
 -- a total
 record IsAmount (level wheel name digits : List ℕ) (mark : List (List ℕ)) (s : Statement) : Type 0 where
-  l : Level
-  w : ℕ
-  n : List ℕ
-  g : ℕ
-  m : Option Mark
-  is_level : IsNumber level (level_number l)
-  is_wheel : IsNumber wheel w
-  is_name : IsName name n
-  is_digits : IsNumber digits g
-  is_mark : SaysMark mark m
-  same : says.TotalAmount l w n g m ≡ s
+  total : TotalLine
+  is_level : IsNumber level (level_number total.level)
+  is_wheel : IsNumber wheel total.wheel
+  is_name : IsName name total.name
+  is_digits : IsNumber digits total.digits
+  is_mark : SaysMark mark total.mark
+  same : says.TotalAmount total ≡ s
 
 amount_is : (level wheel name digits : List ℕ) (mark : List (List ℕ)) (s : Statement) → total_amount_of level wheel name digits mark ≡ Some s
     → IsAmount level wheel name digits mark s
@@ -275,11 +271,7 @@ amount_is level wheel name digits mark s read =
     let g = bound (number_of digits) _ s n.2 in
     let m = bound (total_mark_of mark) _ s g.2 in
     record {
-      l = l.0;
-      w = w.0;
-      n = n.0;
-      g = g.0;
-      m = m.0;
+      total = record { level = l.0; wheel = w.0; name = n.0; digits = g.0; mark = m.0 };
       is_level = level_is level l.0 l.1;
       is_wheel = number_is wheel w.0 w.1;
       is_name = name_is name n.0 n.1;
@@ -307,7 +299,7 @@ total_item_is level wheel item [] s None found read =
 total_item_is level wheel item (digits ∷ mark) s None found read =
     let t = amount_is level wheel item digits mark s read in
     subst (Says (codes "TOTAL" ∷ level ∷ wheel ∷ item ∷ digits ∷ mark)) t.same
-    (total_amount t.is_level t.is_wheel t.is_name t.is_digits t.is_mark)
+    (total_amount {total = t.total} t.is_level t.is_wheel t.is_name t.is_digits t.is_mark)
 
 total_is : (operands : List (List ℕ)) (s : Statement) → total_statement operands ≡ Some s → Says (codes "TOTAL" ∷ operands) s
 unfolding total_statement
@@ -466,13 +458,13 @@ read_what_it_says (total_literal {level} {wheel} {literal} {characters} {l} {w} 
 read_what_it_says (total_text {level} {wheel} {name} {n} {l} {w} is_l is_w is_n) =
     rw (name_no_literal name n is_n, level_read level l is_l, number_read wheel w is_w, name_read name n is_n)
     refl
-read_what_it_says (total_amount {level} {wheel} {name} {digits} {n} {mark} {l} {w} {g} {m} is_l is_w is_n is_g said) =
+read_what_it_says (total_amount {level} {wheel} {name} {digits} {mark} {total} is_l is_w is_n is_g said) =
     rw (
-      name_no_literal name n is_n,
-      level_read level l is_l,
-      number_read wheel w is_w,
-      name_read name n is_n,
-      number_read digits g is_g,
+      name_no_literal name total.name is_n,
+      level_read level total.level is_l,
+      number_read wheel total.wheel is_w,
+      name_read name total.name is_n,
+      number_read digits total.digits is_g,
       total_mark_read said,
     ) refl
 read_what_it_says (space {kind} {count} {line} {n} said is) = rw
@@ -501,17 +493,17 @@ coupled_is (total ∷ level ∷ wheel ∷ name ∷ digits ∷ word ∷ mark) s r
     subst (λ (w : List ℕ). SaysCoupled (w ∷ level ∷ wheel ∷ name ∷ digits ∷ word ∷ mark) s) (sym (is_word total (codes "TOTAL") words.0))
     (subst (λ (w : List ℕ). SaysCoupled (codes "TOTAL" ∷ level ∷ wheel ∷ name ∷ digits ∷ w ∷ mark) s) (sym (is_word word (codes "COUPLED") words.1))
     (subst (SaysCoupled (codes "TOTAL" ∷ level ∷ wheel ∷ name ∷ digits ∷ codes "COUPLED" ∷ mark)) t.same
-    (coupled_amount t.is_level t.is_wheel t.is_name t.is_digits t.is_mark)))
+    (coupled_amount {total = t.total} t.is_level t.is_wheel t.is_name t.is_digits t.is_mark)))
 coupled_is other s read = cc
 
 coupled_read : {tokens : List (List ℕ)} {s : Statement} → SaysCoupled tokens s → coupled_of tokens ≡ Some s
 unfolding coupled_of total_amount_of
-coupled_read (coupled_amount {level} {wheel} {name} {digits} {n} {mark} {l} {w} {g} {m} is_l is_w is_n is_g said) =
+coupled_read (coupled_amount {level} {wheel} {name} {digits} {mark} {total} is_l is_w is_n is_g said) =
     rw (
-      level_read level l is_l,
-      number_read wheel w is_w,
-      name_read name n is_n,
-      number_read digits g is_g,
+      level_read level total.level is_l,
+      number_read wheel total.wheel is_w,
+      name_read name total.name is_n,
+      number_read digits total.digits is_g,
       total_mark_read said,
     ) refl
 
@@ -523,13 +515,13 @@ no_mark (total_marked is) = refl
 
 coupled_in_both : {tokens : List (List ℕ)} {s : Statement} → SaysCoupled tokens s → statement_of tokens ≡ None
 unfolding statement_of total_statement total_field_of total_amount_of
-coupled_in_both (coupled_amount {level} {wheel} {name} {digits} {n} {mark} {l} {w} {g} {m} is_l is_w is_n is_g said) =
+coupled_in_both (coupled_amount {level} {wheel} {name} {digits} {mark} {total} is_l is_w is_n is_g said) =
     rw (
-      name_no_literal name n is_n,
-      level_read level l is_l,
-      number_read wheel w is_w,
-      name_read name n is_n,
-      number_read digits g is_g,
+      name_no_literal name total.name is_n,
+      level_read level total.level is_l,
+      number_read wheel total.wheel is_w,
+      name_read name total.name is_n,
+      number_read digits total.digits is_g,
       no_mark said,
     ) refl
 

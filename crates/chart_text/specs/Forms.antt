@@ -23,6 +23,7 @@ use Rattle.charts.specs.declared.statement.DetailOption.{DetailOption}
 use Rattle.charts.specs.declared.statement.DetailOption.TheVariants.{Plain, Indicated, Marked}
 use Rattle.charts.specs.declared.statement.Statement.{Statement}
 use Rattle.charts.specs.declared.statement.Statement.TheVariants as says
+use Rattle.charts.specs.declared.statement.TotalLine.{TotalLine}
 
 -- the token is the literal of these characters
 pub record IsLiteral (token characters : List ℕ) : Type 0 where
@@ -82,9 +83,10 @@ pub data Says : List (List ℕ) → Statement → Type 0 where
       → Says (codes "TOTAL" ∷ level ∷ wheel ∷ literal ∷ []) (says.TotalLiteral l w characters)
   total_text : {level wheel name n : List ℕ} {l : Level} {w : ℕ} → IsNumber level (level_number l) → IsNumber wheel w → IsName name n
       → Says (codes "TOTAL" ∷ level ∷ wheel ∷ name ∷ []) (says.TotalText l w n)
-  total_amount : {level wheel name digits n : List ℕ} {mark : List (List ℕ)} {l : Level} {w g : ℕ} {m : Option Mark}
-      → IsNumber level (level_number l) → IsNumber wheel w → IsName name n → IsNumber digits g → SaysMark mark m
-      → Says (codes "TOTAL" ∷ level ∷ wheel ∷ name ∷ digits ∷ mark) (says.TotalAmount l w n g m)
+  total_amount : {level wheel name digits : List ℕ} {mark : List (List ℕ)} {total : TotalLine}
+      → IsNumber level (level_number total.level) → IsNumber wheel total.wheel → IsName name total.name
+      → IsNumber digits total.digits → SaysMark mark total.mark
+      → Says (codes "TOTAL" ∷ level ∷ wheel ∷ name ∷ digits ∷ mark) (says.TotalAmount total)
   space : {kind : List (List ℕ)} {count : List ℕ} {line : BodyLine} {n : Spacing} → SaysKind kind line → IsNumber count (spacing_number n)
       → Says (codes "SPACE" ∷ (kind ++ count ∷ [])) (says.Space line n)
   page_after : {kind : List (List ℕ)} {line : BodyLine} → SaysKind kind line
@@ -100,6 +102,7 @@ pub data Says : List (List ℕ) → Statement → Type 0 where
 
 -- a total with the word COUPLED after its digits, which version 2 has, and what it says but for that word
 pub data SaysCoupled : List (List ℕ) → Statement → Type 0 where
-  coupled_amount : {level wheel name digits n : List ℕ} {mark : List (List ℕ)} {l : Level} {w g : ℕ} {m : Option Mark}
-      → IsNumber level (level_number l) → IsNumber wheel w → IsName name n → IsNumber digits g → SaysMark mark m
-      → SaysCoupled (codes "TOTAL" ∷ level ∷ wheel ∷ name ∷ digits ∷ codes "COUPLED" ∷ mark) (says.TotalAmount l w n g m)
+  coupled_amount : {level wheel name digits : List ℕ} {mark : List (List ℕ)} {total : TotalLine}
+      → IsNumber level (level_number total.level) → IsNumber wheel total.wheel → IsName name total.name
+      → IsNumber digits total.digits → SaysMark mark total.mark
+      → SaysCoupled (codes "TOTAL" ∷ level ∷ wheel ∷ name ∷ digits ∷ codes "COUPLED" ∷ mark) (says.TotalAmount total)

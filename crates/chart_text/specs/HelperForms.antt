@@ -156,7 +156,7 @@ total_amount_of level wheel name digits mark = do
   n ← name_of name
   g ← number_of digits
   m ← total_mark_of mark
-  Some (says.TotalAmount l w n g m)
+  Some (says.TotalAmount (record { level = l; wheel = w; name = n; digits = g; mark = m }))
 
 -- what a field on a total line says
 unfoldable pub total_field_of : List ℕ → List ℕ → List ℕ → List (List ℕ) → Option Statement

@@ -6,17 +6,16 @@ ghost use Rattle.tokens.specs.NumberReading.{numbers_of};
 ghost use Rattle.tokens.specs.Texts.{texts};
 ghost use Rattle.chart_text.specs.HelperForms.{sign_of, total_mark_of, option_of, kind_of, stops_of, field_kind_of, field_of, control_of, print_of, head_of, detail_literal_of, detail_field_of, detail_of, total_literal_of, total_amount_of, total_field_of, total_statement, coupled_of, said_coupled, said_of, spacing_of, space_of, follower_of, after_of, form_of, tape_of, said_after, statement_of};
 
-use crate::scanner::read_number;
 use crate::words::{
     Keyword, read_control_level, read_heading_line, read_keyword, read_level, read_literal,
     read_mark, read_name, read_spacing_lines,
 };
 use charts::{
     After, BodyLine, DetailOption, Field, FieldKind, Literal, MAX_STOPS, Mark, Printing, SignRule,
-    Statement, Stops, Version,
+    Statement, Stops, TotalLine, Version,
 };
 use std::alloc::{AllocError, Global};
-use tokens::is;
+use tokens::{is, read_number};
 
 /// What a line of a chart says.
 #[derive(Drop)]
@@ -330,13 +329,13 @@ fn read_total_amount(
     let name = read_name(name)?;
     let digits = read_number(digits)?;
     let mark = read_total_mark(mark)?;
-    Some(Statement::TotalAmount {
+    Some(Statement::TotalAmount(TotalLine {
         level,
         wheel,
         name,
         digits,
         mark,
-    })
+    }))
 }
 
 /// The mark of a total: nothing, or `MARK m`.

@@ -17,7 +17,6 @@ mod fault;
 mod forms;
 mod laws;
 mod read;
-mod scanner;
 mod words;
 
 pub use charts::{Name, RawChart};

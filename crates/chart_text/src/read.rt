@@ -12,11 +12,10 @@ ghost use Rattle.chart_text.specs.HelperText.{content_of, version_of, chart_from
 
 use crate::fault::TextFault;
 use crate::forms::{Said, read_said};
-use crate::scanner::{is_larger, is_title_line, split_line};
 use card_code::next_line;
 use charts::{Line, RawChart, Version};
 use std::alloc::{AllocError, Global};
-use tokens::{Content, is};
+use tokens::{Content, is, is_larger, is_title_line, split_line};
 
 /// How many lines a chart has at most.
 const MAX_LINES: usize = 500;

@@ -7,11 +7,10 @@ ghost use Rattle.chart_text.specs.HelperWords.{name_of, literal_of, is_literal_t
 ghost use Rattle.charts.specs.Name.{begins_with_letter, is_letter, is_letter_or_digit};
 ghost use Rattle.charts.specs.Literal.{is_printable};
 
-use crate::scanner::read_number;
 use card_code::Column;
 use charts::{ControlLevel, HeadingLine, Level, Literal, MAX_LITERAL, Mark, Name, Spacing};
 use std::alloc::{AllocError, Global};
-use tokens::is;
+use tokens::{is, read_number};
 
 /// The words that forms begin with.
 #[derive(Clone, Copy, Debug, PartialEq, Eq)]

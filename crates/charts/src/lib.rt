@@ -24,5 +24,5 @@ pub use name::Name;
 pub use spacing::Spacing;
 pub use statement::{
     After, BodyLine, DetailOption, Field, FieldKind, Literal, MAX_LITERAL, MAX_STOPS, Mark,
-    Printing, SignRule, Statement, Stops,
+    Printing, SignRule, Statement, Stops, TotalLine,
 };

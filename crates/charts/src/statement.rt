@@ -233,6 +233,21 @@ pub enum DetailOption {
     Marked(Mark),
 }
 
+/// A total that a chart asks for.
+#[derive(Clone, Copy, Debug, PartialEq, Eq)]
+pub struct TotalLine {
+    /// The level of its total line.
+    pub level: Level,
+    /// Its first wheel.
+    pub wheel: u16,
+    /// The amount's name.
+    pub name: Name,
+    /// How many digits it has.
+    pub digits: u16,
+    /// Its mark if it is negative.
+    pub mark: Option<Mark>,
+}
+
 /// What one line of a planning chart says. Numbers of columns, digits, wheels, channels and lines are 0 to 999 as a text gives them; the
 /// rules judge any.
 #[derive(Drop)]
@@ -292,18 +307,7 @@ pub enum Statement {
         name: Name,
     },
     /// `TOTAL` with a total.
-    TotalAmount {
-        /// The level of the total line.
-        level: Level,
-        /// Its first wheel.
-        wheel: u16,
-        /// The amount's name.
-        name: Name,
-        /// How many digits the total has.
-        digits: u16,
-        /// The mark that it has where it is negative.
-        mark: Option<Mark>,
-    },
+    TotalAmount(TotalLine),
     /// `SPACE`: the spacing of a kind of line.
     Space {
         /// The kind of line.

@@ -100,8 +100,8 @@ power_some zero = omega arith
 power_some (suc digits) = let less = power_some digits in omega (arith, less)
 
 blank_fits : (lines : List Line) (level : ℕ) (group : List (List ℕ)) → All IsBlank group → GroupFits lines level group
-blank_fits lines level group blank line its_level wheel name digits mark field stands says_so same named =
-    subst (λ total. unsigned_abs total < 10 ^ digits) (sym (blank_total field group blank)) (power_some digits)
+blank_fits lines level group blank line asked field stands says_so same named =
+    subst (λ total. unsigned_abs total < 10 ^ asked.digits) (sym (blank_total field group blank)) (power_some asked.digits)
 
 -- a fact of all cards of some groups is one of all cards of each
 each_group : (P : List ℕ → Type 0) (groups : List (List (List ℕ))) → All P (cards_of groups) → All (All P) groups

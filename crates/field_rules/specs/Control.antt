@@ -15,7 +15,7 @@ abbrev pub level_needed : Statement → Option ControlLevel
 level_needed (says.DetailField wheel name (shown.Indicated level)) = Some level
 level_needed (says.TotalLiteral level wheel literal) = control_level level
 level_needed (says.TotalText level wheel name) = control_level level
-level_needed (says.TotalAmount level wheel name digits mark) = control_level level
+level_needed (says.TotalAmount total) = control_level total.level
 level_needed other = None
 
 -- whether a line is CONTROL of a level

@@ -25,7 +25,7 @@ needs_two need = nat_lt 8 need
 
 -- whether a line is a total that takes two counter groups
 abbrev pub takes_two : List Field → Statement → Bool
-takes_two fields (says.TotalAmount level wheel name digits mark) = needs_two (positions_of (first_named fields name) digits)
+takes_two fields (says.TotalAmount total) = needs_two (positions_of (first_named fields total.name) total.digits)
 takes_two fields other = false
 
 -- whether a number is that of a line with the word COUPLED
@@ -39,7 +39,7 @@ is_mismarked false two = two
 
 -- whether a line is a total of an amount
 abbrev pub is_total : Statement → Bool
-is_total (says.TotalAmount level wheel name digits mark) = true
+is_total (says.TotalAmount total) = true
 is_total other = false
 
 -- Coupled mark: in version 2, a total with COUPLED that needs 8 positions or fewer, or without it that needs more.

@@ -13,5 +13,5 @@ is_out_of_digits None digits = false
 
 -- Digits range: a total in fewer digits than its field, in more than 16, or in more than 15 with a sign column.
 abbrev pub breaks_digits_range : List Field → Statement → Bool
-breaks_digits_range fields (says.TotalAmount level wheel name digits mark) = is_out_of_digits (first_named fields name) digits
+breaks_digits_range fields (says.TotalAmount total) = is_out_of_digits (first_named fields total.name) total.digits
 breaks_digits_range fields other = false

@@ -17,7 +17,7 @@ abbrev pub name_used : Statement → Option (List ℕ)
 name_used (says.Control level name) = Some name
 name_used (says.DetailField wheel name shown) = Some name
 name_used (says.TotalText level wheel name) = Some name
-name_used (says.TotalAmount level wheel name digits mark) = Some name
+name_used (says.TotalAmount total) = Some total.name
 name_used other = None
 
 -- whether a name has no FIELD line
@@ -45,5 +45,5 @@ breaks_wrong_kind fields (says.Control level name) = names_amount (first_named f
 breaks_wrong_kind fields (says.DetailField wheel name (shown.Indicated level)) = names_amount (first_named fields name)
 breaks_wrong_kind fields (says.DetailField wheel name (shown.Marked mark)) = names_text (first_named fields name)
 breaks_wrong_kind fields (says.TotalText level wheel name) = names_amount (first_named fields name)
-breaks_wrong_kind fields (says.TotalAmount level wheel name digits mark) = names_text (first_named fields name)
+breaks_wrong_kind fields (says.TotalAmount total) = names_text (first_named fields total.name)
 breaks_wrong_kind fields other = false

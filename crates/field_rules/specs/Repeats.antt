@@ -19,7 +19,7 @@ is_same_body one other = false
 -- the level and the name of a field on a total line, as a text or as an amount
 abbrev pub total_field : Statement → Option (Level × List ℕ)
 total_field (says.TotalText level wheel name) = Some (level, name)
-total_field (says.TotalAmount level wheel name digits mark) = Some (level, name)
+total_field (says.TotalAmount total) = Some (total.level, total.name)
 total_field other = None
 
 -- whether two fields on total lines have the same level and name

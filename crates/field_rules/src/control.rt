@@ -14,9 +14,10 @@ fn level_needed(statement: &Statement) -> Option<ControlLevel>
             shown: DetailOption::Indicated(level),
             ..
         } => Some(*level),
-        Statement::TotalLiteral { level, .. }
-        | Statement::TotalText { level, .. }
-        | Statement::TotalAmount { level, .. } => level.control(),
+        Statement::TotalLiteral { level, .. } | Statement::TotalText { level, .. } => {
+            level.control()
+        }
+        Statement::TotalAmount(total) => total.level.control(),
         _ => None,
     }
 }

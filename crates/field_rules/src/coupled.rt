@@ -31,8 +31,8 @@ fn takes_two(fields: &Fields, statement: &Statement) -> bool
     ensures { result ≡ rule.takes_two fields.now statement.now }
 {
     match statement {
-        Statement::TotalAmount { name, digits, .. } => {
-            positions_of(fields.get(*name), *digits) > WIDEST
+        Statement::TotalAmount(total) => {
+            positions_of(fields.get(total.name), total.digits) > WIDEST
         }
         _ => false,
     }
@@ -49,7 +49,7 @@ fn is_coupled(coupled: &[u16], number: u16) -> bool
 fn is_total(statement: &Statement) -> bool
     ensures { result ≡ rule.is_total statement.now }
 {
-    matches!(statement, Statement::TotalAmount { .. })
+    matches!(statement, Statement::TotalAmount(_))
 }
 
 /// Whether a line is a total with the word COUPLED that needs 8 positions or fewer, or one without it that needs more, in a

@@ -24,9 +24,7 @@ pub fn breaks_digits_range(fields: &Fields, statement: &Statement) -> bool
     ensures { result ≡ rule.breaks_digits_range fields.now statement.now }
 {
     match statement {
-        Statement::TotalAmount { name, digits, .. } => {
-            is_out_of_digits(fields.get(*name), *digits)
-        }
+        Statement::TotalAmount(total) => is_out_of_digits(fields.get(total.name), total.digits),
         _ => false,
     }
 }

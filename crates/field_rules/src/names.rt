@@ -37,8 +37,8 @@ fn name_used(statement: &Statement) -> Option<Name>
     match statement {
         Statement::Control { name, .. }
         | Statement::DetailField { name, .. }
-        | Statement::TotalText { name, .. }
-        | Statement::TotalAmount { name, .. } => Some(*name),
+        | Statement::TotalText { name, .. } => Some(*name),
+        Statement::TotalAmount(total) => Some(total.name),
         _ => None,
     }
 }
@@ -89,8 +89,8 @@ pub fn breaks_wrong_kind(fields: &Fields, statement: &Statement) -> bool
             name,
             shown: DetailOption::Marked(_),
             ..
-        }
-        | Statement::TotalAmount { name, .. } => names_text(fields.get(*name)),
+        } => names_text(fields.get(*name)),
+        Statement::TotalAmount(total) => names_text(fields.get(total.name)),
         _ => false,
     }
 }

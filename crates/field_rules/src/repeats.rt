@@ -17,9 +17,8 @@ fn total_field(statement: &Statement) -> Option<(Level, Name)>
     ensures { result ≡ rule.total_field statement.now }
 {
     match statement {
-        Statement::TotalText { level, name, .. } | Statement::TotalAmount { level, name, .. } => {
-            Some((*level, *name))
-        }
+        Statement::TotalText { level, name, .. } => Some((*level, *name)),
+        Statement::TotalAmount(total) => Some((total.level, total.name)),
         _ => None,
     }
 }

@@ -3,28 +3,29 @@
 ghost use Rattle.std.specs.Prelude.{◌≡◌};
 ghost use Rattle.field_rules.specs.Shrink as rule;
 
-use charts::{Level, Line, Name, Statement};
+use charts::{Line, Statement, TotalLine};
 
-/// Whether a line is a total of an amount at a lower level than a given one, and in more digits.
-fn is_wider_below(above: Level, wanted: Name, least: u16, statement: &Statement) -> bool
-    ensures { result ≡ rule.is_wider_below above wanted least statement.now }
+/// Whether a line is a total of the same amount as a given total, at a lower level and in more digits.
+fn is_wider_below(above: TotalLine, statement: &Statement) -> bool
+    ensures { result ≡ rule.is_wider_below above statement.now }
 {
     match statement {
-        Statement::TotalAmount {
-            level,
-            name,
-            digits,
-            ..
-        } => level.number() < above.number() && name.is(wanted) && least < *digits,
+        Statement::TotalAmount(total) => {
+            total.level.number() < above.level.number()
+                && total.name.is(above.name)
+                && above.digits < total.digits
+        }
         _ => false,
     }
 }
 
-/// Whether a chart has a total of an amount at a lower level than a given one, and in more digits.
-fn has_wider_below(lines: &[Line], above: Level, wanted: Name, least: u16) -> bool
-    ensures { result ≡ rule.has_wider_below lines.now above wanted least }
+/// Whether a chart has a total of the same amount as a given total, at a lower level and in more digits.
+fn has_wider_below(lines: &[Line], above: TotalLine) -> bool
+    ensures { result ≡ rule.has_wider_below lines.now above }
 {
-    lines.iter().any(|line| is_wider_below(above, wanted, least, &line.statement))
+    lines
+        .iter()
+        .any(|line| is_wider_below(above, &line.statement))
 }
 
 /// Whether a line of a chart is a total in fewer digits than a total of the same amount at a lower level.
@@ -32,12 +33,7 @@ pub fn breaks_digits_shrink(lines: &[Line], statement: &Statement) -> bool
     ensures { result ≡ rule.breaks_digits_shrink lines.now statement.now }
 {
     match statement {
-        Statement::TotalAmount {
-            level,
-            name,
-            digits,
-            ..
-        } => { has_wider_below(lines, *level, *name, *digits) }
+        Statement::TotalAmount(total) => has_wider_below(lines, *total),
         _ => false,
     }
 }

@@ -31,7 +31,7 @@ level-range levels.Final number is = (grind (arith, nat_tests, is), grind (arith
 item-range : (number : ℕ) (statement : Statement) → is_total_item number statement ≡ true → (1 ≤ number) × (number < 5)
 item-range number (says.TotalLiteral its_level wheel text) is = level-range its_level number is
 item-range number (says.TotalText its_level wheel name) is = level-range its_level number is
-item-range number (says.TotalAmount its_level wheel name digits mark) is = level-range its_level number is
+item-range number (says.TotalAmount total) is = level-range total.level number is
 item-range number other is = cc
 
 totals-range : (lines : List Line) (number : ℕ) → prints_totals lines number ≡ true → (1 ≤ number) × (number < 5)

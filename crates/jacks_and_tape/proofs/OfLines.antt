@@ -35,8 +35,8 @@ totalled level (says.TotalLiteral its wheel text) is = same level its is
     same level its is = let e : level ≡ level_number its = grind (arith, nat_tests, is) in ap jack.Total e
 totalled level (says.TotalText its wheel name) is =
     let e : level ≡ level_number its = grind (arith, nat_tests, is) in ap jack.Total e
-totalled level (says.TotalAmount its wheel name digits mark) is =
-    let e : level ≡ level_number its = grind (arith, nat_tests, is) in ap jack.Total e
+totalled level (says.TotalAmount total) is =
+    let e : level ≡ level_number total.level = grind (arith, nat_tests, is) in ap jack.Total e
 totalled level other is = cc
 
 -- a HEAD line asks for HEAD of the heading lines up to its own
@@ -121,8 +121,8 @@ module _ (lines : List Line) (line : Line) (listed : Contains lines line) where
       total-back level each (ap (is_total_item (level_number level)) is ∙ eq-eqb (level_number level) (level_number level) refl) asks
   print-back each (says.TotalText level wheel name) is asks =
       total-back level each (ap (is_total_item (level_number level)) is ∙ eq-eqb (level_number level) (level_number level) refl) asks
-  print-back each (says.TotalAmount level wheel name digits mark) is asks =
-      total-back level each (ap (is_total_item (level_number level)) is ∙ eq-eqb (level_number level) (level_number level) refl) asks
+  print-back each (says.TotalAmount total) is asks =
+      total-back total.level each (ap (is_total_item (level_number total.level)) is ∙ eq-eqb (level_number total.level) (level_number total.level) refl) asks
   print-back each other is asks = absurd asks
 
   figure-back : (each : Jack) → LineJacks lines line.statement each → ChartJack lines each

@@ -19,7 +19,7 @@ PrintJack (says.Print prints.Detail) each = each ≡ jack.List
 PrintJack (says.Head line wheel literal) each = Ranged jack.Head 1 (heading_number line + 1) each
 PrintJack (says.TotalLiteral level wheel literal) each = each ≡ jack.Total (level_number level)
 PrintJack (says.TotalText level wheel name) each = each ≡ jack.Total (level_number level)
-PrintJack (says.TotalAmount level wheel name digits mark) each = each ≡ jack.Total (level_number level)
+PrintJack (says.TotalAmount total) each = each ≡ jack.Total (level_number total.level)
 PrintJack other each = ⊥
 
 -- A line asks for a jack: one by which cycles print, or one of zero control on the wheels of its amount.

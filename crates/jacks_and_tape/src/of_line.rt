@@ -27,7 +27,7 @@ fn plug_printing(setup: &mut Setup, statement: &Statement)
         Statement::Head { line, .. } => plug_heads(setup, line.number() + 1),
         Statement::TotalLiteral { level, .. } => plug_level(setup, *level),
         Statement::TotalText { level, .. } => plug_level(setup, *level),
-        Statement::TotalAmount { level, .. } => plug_level(setup, *level),
+        Statement::TotalAmount(total) => plug_level(setup, total.level),
         _ => {}
     }
 }

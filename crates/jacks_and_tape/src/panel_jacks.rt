@@ -63,9 +63,10 @@ fn is_total_item(wanted: u8, statement: &Statement) -> bool
     ensures { result ≡ form.is_total_item wanted statement.now }
 {
     match statement {
-        Statement::TotalLiteral { level, .. }
-        | Statement::TotalText { level, .. }
-        | Statement::TotalAmount { level, .. } => level.number() == wanted,
+        Statement::TotalLiteral { level, .. } | Statement::TotalText { level, .. } => {
+            level.number() == wanted
+        }
+        Statement::TotalAmount(total) => total.level.number() == wanted,
         _ => false,
     }
 }

@@ -143,7 +143,7 @@ impl Row {
             ),
             Statement::TotalLiteral { .. } => Row::TotalLiteral,
             Statement::TotalText { .. } => Row::TotalText,
-            Statement::TotalAmount { name, .. } => total_row(kind_named(chart, *name)),
+            Statement::TotalAmount(total) => total_row(kind_named(chart, total.name)),
             Statement::Space {
                 spacing: Spacing::Single,
                 ..

@@ -1,7 +1,7 @@
 mod Answering
 mod Finding
 mod Pairs
-mod Refusing
+pub mod Refusing
 mod Telling
 mod TellingOver
 pub mod MatchReports

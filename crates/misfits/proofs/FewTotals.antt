@@ -10,10 +10,10 @@ use Rattle.charts.specs.Chart.{Chart}
 use Rattle.charts.specs.Field.{decimals_of}
 use Rattle.charts.specs.Levels.{level_number}
 use Rattle.charts.specs.declared.chart.Line.{Line}
-use Rattle.charts.specs.declared.level.Level.{Level}
 use Rattle.charts.specs.declared.statement.Field.{Field}
 use Rattle.charts.specs.declared.statement.Mark.{Mark}
 use Rattle.charts.specs.declared.statement.Statement.{Statement}
+use Rattle.charts.specs.declared.statement.TotalLine.{TotalLine}
 use Rattle.charts.specs.declared.statement.Statement.TheVariants as says
 use Rattle.charts.proofs.Listed.{Place, given-by, listed-first, listed-place, none-any}
 use Rattle.field_rules.specs.Fields.{field_named, fields_of}
@@ -30,24 +30,20 @@ use Rattle.misfits.specs.declared.open_total.OpenTotal.{OpenTotal}
 
 -- where the items of total lines begin: no two begin at one place
 begins : List Line → Statement → Option ℕ
-begins lines (says.TotalAmount level wheel name digits mark) =
-    option_map (λ (field : Field). 120 * (level_number level - 1) + (wheel - 1)) (field_named lines name)
+begins lines (says.TotalAmount total) =
+    option_map (λ (field : Field). 120 * (level_number total.level - 1) + (total.wheel - 1)) (field_named lines total.name)
 begins lines other = None
 
 -- What begins at a place is a total of a field, on the wheels of its total line.
 record Begins (chart : Chart) (line : Line) (place : ℕ) : Type 0 where
-  level : Level
-  wheel : ℕ
-  name : List ℕ
-  digits : ℕ
-  mark : Option Mark
+  total : TotalLine
   field : Field
-  says_so : line.statement ≡ says.TotalAmount level wheel name digits mark
-  named : field_named chart.lines name ≡ Some field
-  is_place : place ≡ 120 * (level_number level - 1) + (wheel - 1)
-  from : 1 ≤ wheel
-  to : wheel ≤ 120
-  some : 1 ≤ digits
+  says_so : line.statement ≡ says.TotalAmount total
+  named : field_named chart.lines total.name ≡ Some field
+  is_place : place ≡ 120 * (level_number total.level - 1) + (total.wheel - 1)
+  from : 1 ≤ total.wheel
+  to : total.wheel ≤ 120
+  some : 1 ≤ total.digits
 
 -- the width of a total's item is at least its digits
 wide : (digits : ℕ) (b : Bool) (mark : Option Mark) → digits ≤ digits + (if b then 1 else 0) + mark_width mark
@@ -64,30 +60,25 @@ line_begins chart line place lawful there stands = by line.statement refl stands
     parts : Place chart.lines line
     parts = listed-place line chart.lines there
 
-    of : (level : Level) (wheel : ℕ) (name : List ℕ) (digits : ℕ) (mark : Option Mark) (o : Option Field)
-        → line.statement ≡ says.TotalAmount level wheel name digits mark → field_named chart.lines name ≡ o
-        → option_map (λ (field : Field). 120 * (level_number level - 1) + (wheel - 1)) o ≡ Some place → Begins chart line place
-    of level wheel name digits mark None is named none = cc
-    of level wheel name digits mark (Some field) is named some =
-        let same : 120 * (level_number level - 1) + (wheel - 1) ≡ place = cc in
-        let good = good_total chart parts.earlier line parts.later level wheel name digits mark field lawful parts.parts is named in
+    of : (total : TotalLine) (o : Option Field) → line.statement ≡ says.TotalAmount total → field_named chart.lines total.name ≡ o
+        → option_map (λ (field : Field). 120 * (level_number total.level - 1) + (total.wheel - 1)) o ≡ Some place → Begins chart line place
+    of total None is named none = cc
+    of total (Some field) is named some =
+        let same : 120 * (level_number total.level - 1) + (total.wheel - 1) ≡ place = cc in
+        let good = good_total chart parts.earlier line parts.later total field lawful parts.parts is named in
         let order = good.0.on_card.order in
         let enough = good.1.enough in
-        let one : 1 ≤ digits = omega (arith, order, enough) in
-        let figure : Figure = record { digits = digits; decimals = decimals_of field.kind; mark = mark } in
-        let long : 1 ≤ figure_width figure = (let w = wide digits (nat_lt 0 (decimals_of field.kind)) mark in omega (arith, w, one)) in
-        let range : breaks rule.WheelRange chart.lines parts.earlier (says.TotalAmount level wheel name digits mark) ≡ false
+        let one : 1 ≤ total.digits = omega (arith, order, enough) in
+        let figure : Figure = record { digits = total.digits; decimals = decimals_of field.kind; mark = total.mark } in
+        let long : 1 ≤ figure_width figure = (let w = wide total.digits (nat_lt 0 (decimals_of field.kind)) total.mark in omega (arith, w, one)) in
+        let range : breaks rule.WheelRange chart.lines parts.earlier (says.TotalAmount total) ≡ false
         = sym (ap (breaks rule.WheelRange chart.lines parts.earlier) is)
         ∙ breaks-lawful rule.WheelRange chart parts.earlier line parts.later lawful parts.parts in
-        let off : is_off_wheels (option_map (λ (f : Field). total_item level wheel digits mark f.kind) (Some field)) ≡ false
-        = ap (λ o. is_off_wheels (option_map (λ (f : Field). total_item level wheel digits mark f.kind) o)) (sym named) ∙ range in
-        let within = on_wheels wheel (figure_width figure) off long in
+        let off : is_off_wheels (option_map (λ (f : Field). total_item total f.kind) (Some field)) ≡ false
+        = ap (λ o. is_off_wheels (option_map (λ (f : Field). total_item total f.kind) o)) (sym named) ∙ range in
+        let within = on_wheels total.wheel (figure_width figure) off long in
         record {
-          level = level;
-          wheel = wheel;
-          name = name;
-          digits = digits;
-          mark = mark;
+          total = total;
           field = field;
           says_so = is;
           named = named;
@@ -98,15 +89,15 @@ line_begins chart line place lawful there stands = by line.statement refl stands
         }
 
     by : (statement : Statement) → line.statement ≡ statement → begins chart.lines statement ≡ Some place → Begins chart line place
-    by (says.TotalAmount level wheel name digits mark) is some = of level wheel name digits mark (field_named chart.lines name) is refl some
+    by (says.TotalAmount total) is some = of total (field_named chart.lines total.name) is refl some
     by other is none = cc
 
 -- the item of a total that begins at a place
 item_at : (chart : Chart) (line : Line) (place : ℕ) (at : Begins chart line place)
-    → item_of (fields_of chart.lines) line.statement ≡ Some (total_item at.level at.wheel at.digits at.mark at.field.kind)
+    → item_of (fields_of chart.lines) line.statement ≡ Some (total_item at.total at.field.kind)
 item_at chart line place at =
     ap (item_of (fields_of chart.lines)) at.says_so
-    ∙ ap (option_map (λ (field : Field). total_item at.level at.wheel at.digits at.mark field.kind)) at.named
+    ∙ ap (option_map (λ (field : Field). total_item at.total field.kind)) at.named
 
 -- places are one for one with levels and wheels
 same_place : (one other wheel its : ℕ) → 1 ≤ one → 1 ≤ other → 1 ≤ wheel → wheel ≤ 120 → 1 ≤ its → its ≤ 120
@@ -124,16 +115,16 @@ apart chart earlier later one other place lawful split there at its =
     let none : overlap (item_of (fields_of chart.lines) one.statement) (item_of (fields_of chart.lines) other.statement) ≡ false
     = none-any (λ (line : Line). overlap (item_of (fields_of chart.lines) line.statement) (item_of (fields_of chart.lines) other.statement))
     earlier one (breaks-lawful rule.WheelOverlap chart earlier other later lawful split) there in
-    let same = same_place (level_number at.level) (level_number its.level) at.wheel its.wheel (level_range at.level).0
-    (level_range its.level).0 at.from at.to its.from its.to (sym at.is_place ∙ its.is_place) in
+    let same = same_place (level_number at.total.level) (level_number its.total.level) at.total.wheel its.total.wheel (level_range at.total.level).0
+    (level_range its.total.level).0 at.from at.to its.from its.to (sym at.is_place ∙ its.is_place) in
     both_ways (overlap (item_of (fields_of chart.lines) one.statement) (item_of (fields_of chart.lines) other.statement)) none
     (ap₂ overlap (item_at chart one place at) (item_at chart other place its)
-    ∙ meeting (level_number at.level) (level_number its.level) at.wheel its.wheel
-    (figure_width (record { digits = at.digits; decimals = decimals_of at.field.kind; mark = at.mark }))
-    (figure_width (record { digits = its.digits; decimals = decimals_of its.field.kind; mark = its.mark }))
+    ∙ meeting (level_number at.total.level) (level_number its.total.level) at.total.wheel its.total.wheel
+    (figure_width (record { digits = at.total.digits; decimals = decimals_of at.field.kind; mark = at.total.mark }))
+    (figure_width (record { digits = its.total.digits; decimals = decimals_of its.field.kind; mark = its.total.mark }))
     same.0 same.1
-    (long at.digits (nat_lt 0 (decimals_of at.field.kind)) at.mark at.some)
-    (long its.digits (nat_lt 0 (decimals_of its.field.kind)) its.mark its.some))
+    (long at.total.digits (nat_lt 0 (decimals_of at.field.kind)) at.total.mark at.some)
+    (long its.total.digits (nat_lt 0 (decimals_of its.field.kind)) its.total.mark its.some))
   where
     long : (digits : ℕ) (b : Bool) (mark : Option Mark) → 1 ≤ digits → 1 ≤ digits + (if b then 1 else 0) + mark_width mark
     long digits b mark some = omega (arith, some)
@@ -145,7 +136,7 @@ places lines some = filter_map (λ (line : Line). begins lines line.statement) s
 -- they are below 480
 below : (chart : Chart) (line : Line) (place : ℕ) → Begins chart line place → place < 480
 below chart line place at =
-    let range = level_range at.level in
+    let range = level_range at.total.level in
     let is = at.is_place in
     let from = at.from in
     let to = at.to in
@@ -233,10 +224,10 @@ as_many lines so_far [] = refl
 as_many lines so_far (line ∷ some) = by (open_on lines so_far line.statement) (begins lines line.statement) (each line.statement) (as_many lines so_far some)
   where
     each : (statement : Statement) → is_some (open_on lines so_far statement) ≡ is_some (begins lines statement)
-    each (says.TotalAmount level wheel name digits mark) = of (field_named lines name)
+    each (says.TotalAmount total) = of (field_named lines total.name)
       where
-        of : (o : Option Field) → is_some (option_map (open_of level digits so_far) o)
-            ≡ is_some (option_map (λ (field : Field). 120 * (level_number level - 1) + (wheel - 1)) o)
+        of : (o : Option Field) → is_some (option_map (open_of total so_far) o)
+            ≡ is_some (option_map (λ (field : Field). 120 * (level_number total.level - 1) + (total.wheel - 1)) o)
         of None = refl
         of (Some field) = refl
     each other = refl

@@ -7,12 +7,10 @@ use Rattle.std.proofs.lemmas.Int.{ints}
 use Rattle.std.proofs.lemmas.List.Elements.{All-nil, All-cons}
 use Rattle.charts.specs.Chart.{Chart}
 use Rattle.charts.specs.Field.{sign_column, is_amount}
-use Rattle.charts.specs.Levels.{level_number}
 use Rattle.charts.specs.declared.chart.Line.{Line}
-use Rattle.charts.specs.declared.level.Level.{Level}
 use Rattle.charts.specs.declared.statement.Field.{Field}
-use Rattle.charts.specs.declared.statement.Mark.{Mark}
 use Rattle.charts.specs.declared.statement.Statement.{Statement}
+use Rattle.charts.specs.declared.statement.TotalLine.{TotalLine}
 use Rattle.charts.specs.declared.statement.Statement.TheVariants as says
 use Rattle.charts.proofs.Listed.{listed-after, listed-first, listed-place}
 use Rattle.field_rules.specs.Columns.{has_good_sign}
@@ -24,14 +22,13 @@ use Rattle.chart_rules.specs.Rules.{breaks, IsLawful}
 use Rattle.chart_rules.specs.declared.rule.Rule.TheVariants as rule
 use Rattle.chart_rules.proofs.Laws.{breaks-lawful, field-line, good-field}
 use Rattle.report.specs.Breaks.{no_cards}
-use Rattle.report.specs.Totals.{total_of}
 use Rattle.misfits.specs.HelperAmounts.{IsColumn, IsGoodAmount}
 use Rattle.misfits.specs.HelperTotals.{IsKept, IsWithin}
 use Rattle.misfits.specs.OpenTotals.{open_of, open_on, open_totals}
 use Rattle.misfits.specs.declared.open_total.OpenTotal.{OpenTotal}
 
 -- a good sign column is on the card
-good_column : (sign : Option ℕ) → has_good_sign sign ≡ true → IsColumn sign
+pub good_column : (sign : Option ℕ) → has_good_sign sign ≡ true → IsColumn sign
 good_column None good = tt
 good_column (Some column) good = (grind (arith, nat_tests, good), grind (arith, nat_tests, good))
 
@@ -43,15 +40,14 @@ good_amount chart lawful name field named amount =
     record { on_card = good.card; few = good.few amount; sign = good_column (sign_column field.kind) good.sign }
 
 -- a total of a field of a lawful chart keeps the bounds
-pub good_total : (chart : Chart) (earlier : List Line) (line : Line) (later : List Line) (level : Level) (wheel : ℕ) (name : List ℕ) (digits : ℕ)
-    (mark : Option Mark) (field : Field) → IsLawful chart → chart.lines ≡ earlier ++ line ∷ later
-    → line.statement ≡ says.TotalAmount level wheel name digits mark → field_named chart.lines name ≡ Some field
-    → IsGoodAmount field × AreGoodDigits field digits
-good_total chart earlier line later level wheel name digits mark field lawful split is named =
+pub good_total : (chart : Chart) (earlier : List Line) (line : Line) (later : List Line) (total : TotalLine) (field : Field)
+    → IsLawful chart → chart.lines ≡ earlier ++ line ∷ later → line.statement ≡ says.TotalAmount total → field_named chart.lines total.name ≡ Some field
+    → IsGoodAmount field × AreGoodDigits field total.digits
+good_total chart earlier line later total field lawful split is named =
     let kind = sym (ap (breaks rule.WrongKind chart.lines earlier) is) ∙ breaks-lawful rule.WrongKind chart earlier line later lawful split in
     let range = sym (ap (breaks rule.DigitsRange chart.lines earlier) is) ∙ breaks-lawful rule.DigitsRange chart earlier line later lawful split in (
-      good_amount chart lawful name field named (amount (field_named chart.lines name) named kind),
-      digits-kept field digits (ap (λ o. is_out_of_digits o digits) (sym named) ∙ range),
+      good_amount chart lawful total.name field named (amount (field_named chart.lines total.name) named kind),
+      digits-kept field total.digits (ap (λ o. is_out_of_digits o total.digits) (sym named) ∙ range),
     )
   where
     amount : (o : Option Field) → o ≡ Some field → names_text o ≡ false → is_amount field.kind ≡ true
@@ -61,29 +57,26 @@ good_total chart earlier line later level wheel name digits mark field lawful sp
 
 -- An open total is that of a total line of the chart.
 pub record FromLine (chart : Chart) (so_far : ℕ → List (List ℕ)) (line : Line) (total : OpenTotal) : Type 0 where
-  pub wheel : ℕ
-  pub name : List ℕ
-  pub mark : Option Mark
-  pub says_so : line.statement ≡ says.TotalAmount total.level wheel name total.digits mark
-  pub named : field_named chart.lines name ≡ Some total.field
-  pub is_sum : total.sum ≡ total_of total.field (so_far (level_number total.level))
+  pub asked : TotalLine
+  pub says_so : line.statement ≡ says.TotalAmount asked
+  pub named : field_named chart.lines asked.name ≡ Some total.field
+  pub is_open : total ≡ open_of asked so_far total.field
 
 from_line : (chart : Chart) (so_far : ℕ → List (List ℕ)) (line : Line) (total : OpenTotal)
     → open_on chart.lines so_far line.statement ≡ Some total → FromLine chart so_far line total
 from_line chart so_far line total opens = by line.statement refl opens
   where
-    of : (level : Level) (wheel : ℕ) (name : List ℕ) (digits : ℕ) (mark : Option Mark) (o : Option Field)
-        → line.statement ≡ says.TotalAmount level wheel name digits mark → field_named chart.lines name ≡ o
-        → option_map (open_of level digits so_far) o ≡ Some total → FromLine chart so_far line total
-    of level wheel name digits mark None is named none = cc
-    of level wheel name digits mark (Some field) is named some =
-        let same : open_of level digits so_far field ≡ total = cc in
+    of : (asked : TotalLine) (o : Option Field) → line.statement ≡ says.TotalAmount asked → field_named chart.lines asked.name ≡ o
+        → option_map (open_of asked so_far) o ≡ Some total → FromLine chart so_far line total
+    of asked None is named none = cc
+    of asked (Some field) is named some =
+        let same : open_of asked so_far field ≡ total = cc in
         subst (FromLine chart so_far line) same
-        (record { wheel = wheel; name = name; mark = mark; says_so = is; named = named; is_sum = refl })
+        (record { asked = asked; says_so = is; named = named; is_open = refl })
 
     by : (statement : Statement) → line.statement ≡ statement → open_on chart.lines so_far statement ≡ Some total
         → FromLine chart so_far line total
-    by (says.TotalAmount level wheel name digits mark) is some = of level wheel name digits mark (field_named chart.lines name) is refl some
+    by (says.TotalAmount total) is some = of total (field_named chart.lines total.name) is refl some
     by other is none = cc
 
 -- before the first card the open total of a line keeps the bounds
@@ -92,13 +85,13 @@ pub kept_line : (chart : Chart) (line : Line) (total : OpenTotal) → IsLawful c
 kept_line chart line total lawful there opens =
     let from = from_line chart no_cards line total opens in
     let place = listed-place line chart.lines there in
-    let good = good_total chart place.earlier line place.later total.level from.wheel from.name total.digits from.mark total.field lawful
-    place.parts from.says_so from.named in
+    let good = good_total chart place.earlier line place.later from.asked total.field lawful place.parts from.says_so from.named in
     let few = good.1.few in
+    let digits : total.digits ≡ from.asked.digits = ap (λ (each : OpenTotal). each.digits) from.is_open in
     record {
       amount = good.0;
-      few_digits = omega (arith, few);
-      small = subst (IsWithin 0) (sym from.is_sum) (omega (arith, ints), omega (arith, ints));
+      few_digits = omega (arith, few, digits);
+      small = subst (IsWithin 0) (sym (ap (λ (each : OpenTotal). each.sum) from.is_open)) (omega (arith, ints), omega (arith, ints));
     }
 
 -- and its amount is what its name stands for
@@ -106,7 +99,7 @@ pub named_line : (chart : Chart) (line : Line) (total : OpenTotal) → open_on c
     → field_named chart.lines total.field.name ≡ Some total.field
 named_line chart line total opens =
     let from = from_line chart no_cards line total opens in
-    ap (field_named chart.lines) (field-line chart.lines from.name total.field from.named).own_name ∙ from.named
+    ap (field_named chart.lines) (field-line chart.lines from.asked.name total.field from.named).own_name ∙ from.named
 
 -- before the first card the open totals of a lawful chart keep the bounds
 pub kept_at_first : (chart : Chart) → IsLawful chart → All (IsKept 0) (open_totals chart.lines no_cards chart.lines)

@@ -5,9 +5,9 @@ use Rattle.std.proofs.lemmas.Int.{ints}
 use Rattle.std.proofs.lemmas.Bool.Decides.{nat_tests}
 use Rattle.charts.specs.Levels.{level_number}
 use Rattle.charts.specs.declared.chart.Line.{Line}
-use Rattle.charts.specs.declared.level.Level.{Level}
 use Rattle.charts.specs.declared.statement.Field.{Field}
 use Rattle.charts.specs.declared.statement.Statement.{Statement}
+use Rattle.charts.specs.declared.statement.TotalLine.{TotalLine}
 use Rattle.charts.specs.declared.statement.Statement.TheVariants as says
 use Rattle.field_rules.specs.Fields.{field_named}
 use Rattle.chart_rules.proofs.Laws.{field-line}
@@ -48,35 +48,35 @@ taken-total field group card =
 pub cards_add : CardsAddToOpenTotals
 cards_add lines so_far card = map-open lines so_far (taking card so_far) (with_card card) each lines
   where
-    by : (level : Level) (digits : ℕ) (o : Option Field)
-        → option_map (with_card card) (option_map (open_of level digits so_far) o)
-        ≡ option_map (open_of level digits (taking card so_far)) o
-    by level digits None = refl
-    by level digits (Some field) =
-        ap (λ t. Some (record { level = level; digits = digits; field = field; sum = t }))
-        (taken-total field (so_far (level_number level)) card)
+    by : (asked : TotalLine) (o : Option Field)
+        → option_map (with_card card) (option_map (open_of asked so_far) o)
+        ≡ option_map (open_of asked (taking card so_far)) o
+    by asked None = refl
+    by asked (Some field) =
+        ap (λ t. Some (record { level = asked.level; digits = asked.digits; field = field; sum = t }))
+        (taken-total field (so_far (level_number asked.level)) card)
 
     each : (statement : Statement) → option_map (with_card card) (open_on lines so_far statement) ≡ open_on lines (taking card so_far) statement
-    each (says.TotalAmount level wheel name digits mark) = by level digits (field_named lines name)
+    each (says.TotalAmount total) = by total (field_named lines total.name)
     each other = refl
 
 pub groups_close : EndedGroupsClose
 groups_close lines so_far ended = map-open lines so_far (cleared ended so_far) (closed_to ended) each lines
   where
-    on : (level : Level) (digits : ℕ) (field : Field) (b : Bool)
-        → (if b then record (open_of level digits so_far field) { sum = pos 0 } else open_of level digits so_far field)
-        ≡ record { level = level; digits = digits; field = field; sum = total_of field (if b then [] else so_far (level_number level)) }
-    on level digits field true = refl
-    on level digits field false = refl
+    on : (asked : TotalLine) (field : Field) (b : Bool)
+        → (if b then record (open_of asked so_far field) { sum = pos 0 } else open_of asked so_far field)
+        ≡ record { level = asked.level; digits = asked.digits; field = field; sum = total_of field (if b then [] else so_far (level_number asked.level)) }
+    on asked field true = refl
+    on asked field false = refl
 
-    by : (level : Level) (digits : ℕ) (o : Option Field)
-        → option_map (closed_to ended) (option_map (open_of level digits so_far) o)
-        ≡ option_map (open_of level digits (cleared ended so_far)) o
-    by level digits None = refl
-    by level digits (Some field) = ap Some (on level digits field (nat_le (level_number level) ended))
+    by : (asked : TotalLine) (o : Option Field)
+        → option_map (closed_to ended) (option_map (open_of asked so_far) o)
+        ≡ option_map (open_of asked (cleared ended so_far)) o
+    by asked None = refl
+    by asked (Some field) = ap Some (on asked field (nat_le (level_number asked.level) ended))
 
     each : (statement : Statement) → option_map (closed_to ended) (open_on lines so_far statement) ≡ open_on lines (cleared ended so_far) statement
-    each (says.TotalAmount level wheel name digits mark) = by level digits (field_named lines name)
+    each (says.TotalAmount total) = by total (field_named lines total.name)
     each other = refl
 
 pub groups_tell : EndedGroupsTellMisfits
@@ -85,32 +85,32 @@ groups_tell lines so_far level card = all lines
     tells : OpenTotal → Option Misfit
     tells = misfit_at level card
 
-    on : (its_level : Level) (name : List ℕ) (digits : ℕ) (o : Option Field)
-        → ((field : Field) → o ≡ Some field → field.name ≡ name) → (b : Bool) → (level_number its_level == level) ≡ b
+    on : (asked : TotalLine) (o : Option Field)
+        → ((field : Field) → o ≡ Some field → field.name ≡ asked.name) → (b : Bool) → (level_number asked.level == level) ≡ b
         → option_and_then (λ (field : Field). if b
-        then (if fits_in digits (total_of field (so_far (level_number its_level)))
+        then (if fits_in asked.digits (total_of field (so_far (level_number asked.level)))
         then None
-        else Some (record { level = its_level; name = field.name; card = card }))
+        else Some (record { level = asked.level; name = field.name; card = card }))
         else None) o
-        ≡ (if b then option_and_then (misfit_of its_level name digits card (so_far level)) o else None)
-    on its_level name digits None own true is = refl
-    on its_level name digits None own false is = refl
-    on its_level name digits (Some field) own false is = refl
-    on its_level name digits (Some field) own true is =
-        let same : level_number its_level ≡ level = grind (arith, nat_tests, is) in
-        ap₂ (λ n (other : List ℕ). if fits_in digits (total_of field (so_far n)) then None else Some (record { level = its_level; name = other; card = card }))
+        ≡ (if b then option_and_then (misfit_of asked card (so_far level)) o else None)
+    on asked None own true is = refl
+    on asked None own false is = refl
+    on asked (Some field) own false is = refl
+    on asked (Some field) own true is =
+        let same : level_number asked.level ≡ level = grind (arith, nat_tests, is) in
+        ap₂ (λ n (other : List ℕ). if fits_in asked.digits (total_of field (so_far n)) then None else Some (record { level = asked.level; name = other; card = card }))
         same (own field refl)
 
-    opened : (its_level : Level) (digits : ℕ) (o : Option Field)
-        → option_and_then tells (option_map (open_of its_level digits so_far) o) ≡ option_and_then (λ field. tells (open_of its_level digits so_far field)) o
-    opened its_level digits None = refl
-    opened its_level digits (Some field) = refl
+    opened : (asked : TotalLine) (o : Option Field)
+        → option_and_then tells (option_map (open_of asked so_far) o) ≡ option_and_then (λ field. tells (open_of asked so_far field)) o
+    opened asked None = refl
+    opened asked (Some field) = refl
 
     each : (statement : Statement) → option_and_then tells (open_on lines so_far statement) ≡ misfit_on lines level card (so_far level) statement
-    each (says.TotalAmount its_level wheel name digits mark) =
-        opened its_level digits (field_named lines name)
-        ∙ on its_level name digits (field_named lines name) (λ field named. (field-line lines name field named).own_name)
-        (level_number its_level == level) refl
+    each (says.TotalAmount total) =
+        opened total (field_named lines total.name)
+        ∙ on total (field_named lines total.name) (λ field named. (field-line lines total.name field named).own_name)
+        (level_number total.level == level) refl
     each other = refl
 
     all : (some : List Line) → filter_map tells (open_totals lines so_far some)

@@ -4,10 +4,10 @@ use Rattle.std.specs.Prelude.{ℕ, ℤ, pos, ◌+ℤ◌, ◌==◌, nat_le, List,
 use Rattle.std.specs.List.{filter_map}
 use Rattle.charts.specs.Levels.{level_number}
 use Rattle.charts.specs.declared.chart.Line.{Line}
-use Rattle.charts.specs.declared.level.Level.{Level}
 use Rattle.charts.specs.declared.statement.Field.{Field}
 use Rattle.charts.specs.declared.statement.Statement.{Statement}
 use Rattle.charts.specs.declared.statement.Statement.TheVariants as says
+use Rattle.charts.specs.declared.statement.TotalLine.{TotalLine}
 use Rattle.field_rules.specs.Fields.{field_named}
 use Rattle.report.specs.Amounts.{value_of}
 use Rattle.report.specs.Misfits.{fits_in, Misfit}
@@ -15,14 +15,14 @@ use Rattle.report.specs.Totals.{total_of}
 use Rattle.misfits.specs.declared.open_total.OpenTotal.{OpenTotal}
 
 -- the open total of an amount, given the unfinished groups
-abbrev pub open_of : Level → ℕ → (ℕ → List (List ℕ)) → Field → OpenTotal
-open_of level digits so_far field =
-    record { level = level; digits = digits; field = field; sum = total_of field (so_far (level_number level)) }
+abbrev pub open_of : TotalLine → (ℕ → List (List ℕ)) → Field → OpenTotal
+open_of asked so_far field =
+    record { level = asked.level; digits = asked.digits; field = field; sum = total_of field (so_far (level_number asked.level)) }
 
 -- the open total of a line of the chart, if the line is a total of an amount
 abbrev pub open_on : List Line → (ℕ → List (List ℕ)) → Statement → Option OpenTotal
-open_on lines so_far (says.TotalAmount level wheel name digits mark) =
-    option_map (open_of level digits so_far) (field_named lines name)
+open_on lines so_far (says.TotalAmount total) =
+    option_map (open_of total so_far) (field_named lines total.name)
 open_on lines so_far other = None
 
 -- the open totals of some lines of the chart, in the order of the lines

@@ -62,20 +62,12 @@ fn open_total(chart: &Chart, statement: &Statement) -> Option<OpenTotal>
     ensures { result ≡ open_on chart.now.lines no_cards statement.now }
 {
     match statement {
-        Statement::TotalAmount {
-            level,
-            name,
-            digits,
-            ..
-        } => {
-            let field = chart.field(*name)?;
-            Some(OpenTotal {
-                level: *level,
-                digits: *digits,
-                field,
-                sum: 0,
-            })
-        }
+        Statement::TotalAmount(total) => Some(OpenTotal {
+            level: total.level,
+            digits: total.digits,
+            field: chart.field(total.name)?,
+            sum: 0,
+        }),
         _ => None,
     }
 }

@@ -80,8 +80,9 @@ fn is_negated(kind: FieldKind, card: &Card) -> bool
     }
 }
 
-/// The value of an amount on a card.
-pub(crate) fn value_of(field: &Field, card: &Card) -> i64
+/// The value of an amount on a card: its digits as a whole number, a blank column counting 0, and below 0 where its sign rule says so.
+/// The card need not be valid.
+pub fn value_of(field: &Field, card: &Card) -> i64
     requires { IsGoodAmount field.now }
     ensures value { result ≡ value_of field.now card.now }
     ensures small { unsigned_abs result < 10 ^ 8 }

@@ -40,19 +40,15 @@ found_total lines name level line found =
   where
     by : (statement : Statement) → line.statement ≡ statement → Contains lines line → is_total_at name level statement ≡ true
         → (total : HasTotal lines name level line.number) × (total.line ≡ line)
-    by (says.TotalAmount its wheel its_name digits mark) is listed on = (
+    by (says.TotalAmount total) is listed on = (
       record {
         line = line;
         listed = listed;
         is_number = refl;
-        its_level = its;
-        wheel = wheel;
-        its_name = its_name;
-        digits = digits;
-        mark = mark;
+        asked = total;
         says_total = is;
         same_level = grind (arith, nat_tests, on);
-        same_name = (and_parts (level_number its == level) (is_same_name its_name name) on).1;
+        same_name = (and_parts (level_number total.level == level) (is_same_name total.name name) on).1;
       },
       refl,
     )
@@ -62,7 +58,7 @@ found_total lines name level line found =
 pub total_found : (lines : List Line) (name : List ℕ) (level number : ℕ) → HasTotal lines name level number
     → (line : Line) × (total_line lines name level ≡ Some line)
 total_found lines name level number total =
-    let levels : (level_number total.its_level == level) ≡ true = grind (arith, nat_tests, total.same_level) in
+    let levels : (level_number total.asked.level == level) ≡ true = grind (arith, nat_tests, total.same_level) in
     let on : is_total_at name level total.line.statement ≡ true =
     ap (is_total_at name level) total.says_total ∙ rw (levels, total.same_name) refl in
     found-passing (λ (l : Line). is_total_at name level l.statement) lines total.line total.listed on
@@ -82,11 +78,11 @@ has_from lines plan name level is = by (total_line lines name level) refl is
 
 -- levels with totals are 1 and up
 pub total_level : {lines : List Line} {name : List ℕ} {level number : ℕ} → HasTotal lines name level number → 1 ≤ level
-total_level total = omega (arith, level_some total.its_level, total.same_level)
+total_level total = omega (arith, level_some total.asked.level, total.same_level)
 
 -- the digits and the counter of a total
 pub digits_are : (chart : Chart) (plan : Lists) (name : List ℕ) (level number : ℕ) → IsLawful chart
-    → (total : HasTotal chart.lines name level number) → (amount_of chart.lines plan name).digits level ≡ total.digits
+    → (total : HasTotal chart.lines name level number) → (amount_of chart.lines plan name).digits level ≡ total.asked.digits
 digits_are chart plan name level number lawful total =
     let (line, found) = total_found chart.lines name level number total in
     let (its, is_line) = found_total chart.lines name level line found in
@@ -211,7 +207,7 @@ unsigned_from lines name field amount unsigned = by field.kind refl (sym (ap has
 pub total_field : (chart : Chart) (name : List ℕ) (level number : ℕ) → IsLawful chart → HasTotal chart.lines name level number
     → (field : Field) × IsAmount chart.lines name field
 total_field chart name level number lawful total =
-    let same = is_same_name-equal total.its_name name total.same_name in
+    let same = is_same_name-equal total.asked.name name total.same_name in
     let (before, known) = kept-line chart lawful total.line total.listed rule.UnknownName in
     let (earlier, right_kind) = kept-line chart lawful total.line total.listed rule.WrongKind in
     by (field_named chart.lines name) refl

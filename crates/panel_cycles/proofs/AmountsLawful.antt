@@ -39,7 +39,7 @@ lawful_amount chart plan name lawful rise planned = record {
   room = λ level from has.
       let (number, total) = has_from chart.lines plan name level has in
       let (counter, there) = counter-given chart.lines plan name level number planned total in
-      let need : ℕ = need_of (field_named chart.lines name) total.digits in
+      let need : ℕ = need_of (field_named chart.lines name) total.asked.digits in
       let room : need ≤ positions_of (Some counter) =
       enough_room need counter (counter-enough chart.lines plan planned chart.end name level number counter rise total there) in
       let digits = digits_are chart plan name level number lawful total in

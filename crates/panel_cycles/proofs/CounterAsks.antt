@@ -221,7 +221,7 @@ module _ (chart : Chart) (plan : Lists) (wiring : Wiring) (rise : NumbersRise ch
           let held : state (level_number l) ≡ held_in old (Some lower_counter) =
           counter_held old chart plan name (level_number l) lower_counter at.panel.lawful
           (record { number = under.number; total = under.total; served = there }) in
-          let few : number_held old lower_counter < 10 ^ under.total.digits =
+          let few : number_held old lower_counter < 10 ^ under.total.asked.digits =
           subst (λ d. number_held old lower_counter < 10 ^ d)
           (digits_are chart plan name (level_number l) under.number at.panel.lawful under.total)
           (subst (λ h. h.number < 10 ^ amount.digits (level_number l)) held (small.1 has)) in

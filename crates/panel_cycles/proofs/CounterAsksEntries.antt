@@ -351,7 +351,7 @@ module _ (chart : Chart) (plan : Lists) (wiring : Wiring) (rise : NumbersRise ch
   -- in the third program cycle of a lower level a total enters the number of the lower one, if that has no more digits than it may
   up_enters : (l : ProgramLevel) → IsPanelCycle chart plan wiring old (Prog l Third) pictures
       → (under : IsUnder chart.lines name (level_number l) level) (lower : TotalCounter)
-      → counter_for chart.lines plan under.number ≡ Some lower → number_held old lower < 10 ^ under.total.digits
+      → counter_for chart.lines plan under.number ≡ Some lower → number_held old lower < 10 ^ under.total.asked.digits
       → (row : CardRow) → 1 ≤ row_number row → row_number row ≤ 9 → (position : ℕ) (group : Group) (place : ℕ)
       → IsPlaceOf counter position group place
       → pictures (Row row) (GE group place) ≡ (digit_of (number_held old lower) position == row_number row)
@@ -392,7 +392,7 @@ module _ (chart : Chart) (plan : Lists) (wiring : Wiring) (rise : NumbersRise ch
       given : (digit_of (number_held old lower) position == row_number row) ≡ true → pictures (Row row) (GE group place) ≡ true
       given same =
           gives_entry chart plan wiring old (Prog l Third) pictures at rise name level group its_group row place
-          (by (nat_le position under.total.digits) refl)
+          (by (nat_le position under.total.asked.digits) refl)
         where
           is : digit_of (number_held old lower) position ≡ row_number row
           is = grind (arith, nat_tests, same)
@@ -400,14 +400,14 @@ module _ (chart : Chart) (plan : Lists) (wiring : Wiring) (rise : NumbersRise ch
           from : 1 ≤ position
           from = position_some counter position group place at_place
 
-          by : (b : Bool) → nat_le position under.total.digits ≡ b
+          by : (b : Bool) → nat_le position under.total.asked.digits ≡ b
               → Enters chart.lines plan old pictures (Prog l Third) row name level group place
           by false above =
-              let more : under.total.digits < position = grind (arith, nat_tests, above) in
-              let none = digit_of-above (number_held old lower) under.total.digits position small more in
+              let more : under.total.asked.digits < position = grind (arith, nat_tests, above) in
+              let none = digit_of-above (number_held old lower) under.total.asked.digits position small more in
               absurd (omega (arith, none, is, some))
           by true below =
-              let within : position ≤ under.total.digits = grind (arith, nat_tests, below) in
+              let within : position ≤ under.total.asked.digits = grind (arith, nat_tests, below) in
               let (other, other_place, serves) = position-given chart.lines plan at.panel.planned chart.end name (level_number l) under.number
               lower rise under.total lower_there position from within in
               let other_serves = position-serves chart.lines plan under.number position other other_place serves in
@@ -422,7 +422,7 @@ module _ (chart : Chart) (plan : Lists) (wiring : Wiring) (rise : NumbersRise ch
 
   pub up_spells : (l : ProgramLevel) → IsPanelCycle chart plan wiring old (Prog l Third) pictures
       → (under : IsUnder chart.lines name (level_number l) level) (lower : TotalCounter)
-      → counter_for chart.lines plan under.number ≡ Some lower → number_held old lower < 10 ^ under.total.digits
+      → counter_for chart.lines plan under.number ≡ Some lower → number_held old lower < 10 ^ under.total.asked.digits
       → SpellsCounter counter (digit_of (number_held old lower)) pictures
   up_spells l at under lower lower_there small =
       places_spell counter (digit_of (number_held old lower)) pictures (up_enters l at under lower lower_there small)

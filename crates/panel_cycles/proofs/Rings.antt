@@ -26,7 +26,7 @@ use Rattle.printed_lines.proofs.Below.wiring_table.Groups.{pair-apart, serves-ow
 use Rattle.panel_cycles.proofs.AmountFacts.{signed_from, signed_is, total_field}
 use Rattle.panel_cycles.proofs.Counters.{grouped}
 use Rattle.wired_panels.proofs.Chains.{ToCarry, from_itself, from_lower, from_upper, to_carry}
-use Rattle.wired_panels.proofs.CounterAsksTold.{wire_of}
+use Rattle.wired_panels.proofs.CounterAsksTold.{named_so, wire_of}
 use Rattle.wired_panels.proofs.PlanOwners.{one_owner}
 use Rattle.wired_panels.proofs.ToCounters.{IsLine, itself, on_line}
 use Rattle.wired_panels.proofs.Ways.{same_tests}
@@ -71,11 +71,11 @@ pub data SaysCarry (lines : List Line) (plan : Lists) (number : ℕ) (exit : Hub
 
 says_carry : (lines : List Line) (plan : Lists) (number : ℕ) {statement : Statement} {exit : Hub} {group : Group}
     → IsLine lines number statement → LineWire lines plan number statement exit (CI group) → SaysCarry lines plan number exit group
-says_carry lines plan number at (ring level wheel name digits mark rule group is signed) =
-    is_signed name (level_number level) rule (on_line lines plan level wheel name digits mark number at) signed
-says_carry lines plan number at (carry_up level wheel name digits mark lower upper there) = goes_up lower upper there refl refl
-says_carry lines plan number at (carry_round level wheel name digits mark rule lower upper there signed) =
-    is_signed name (level_number level) rule (on_line lines plan level wheel name digits mark number at) signed
+says_carry lines plan number at (ring total rule group is signed) =
+    is_signed total.name (level_number total.level) rule (on_line lines plan total number at) signed
+says_carry lines plan number at (carry_up total lower upper there) = goes_up lower upper there refl refl
+says_carry lines plan number at (carry_round total rule lower upper there signed) =
+    is_signed total.name (level_number total.level) rule (on_line lines plan total number at) signed
 
 module _ (chart : Chart) (plan : Lists) (wiring : Wiring) (panel : IsPanel chart plan wiring) {name : List ℕ} {level : ℕ}
     {counter : TotalCounter} (own : IsCounterOf chart.lines plan name level counter) where
@@ -148,7 +148,7 @@ module _ (chart : Chart) (plan : Lists) (wiring : Wiring) (panel : IsPanel chart
           ap (λ o. option_map panel_group (option_and_then single_group o)) own.served in
           on_panel chart plan wiring panel own (CO (panel_group group)) (CI (panel_group group))
           (wire_of chart.lines plan name level own.number (CO (panel_group group)) (CI (panel_group group)) own.total
-          (λ its wheel mark same. ring its wheel name own.total.digits mark rule (panel_group group) served its_sign))
+          (ring (named_so own.total) rule (panel_group group) served its_sign))
 
 module _ (chart : Chart) (plan : Lists) (wiring : Wiring) (panel : IsPanel chart plan wiring) (rise : NumbersRise chart.lines chart.end)
     {name : List ℕ} {level : ℕ} (lower upper : CounterGroup)
@@ -179,7 +179,7 @@ module _ (chart : Chart) (plan : Lists) (wiring : Wiring) (panel : IsPanel chart
   goes_through =
       on_panel chart plan wiring panel own (CO (panel_group lower)) (CI (panel_group upper))
       (wire_of chart.lines plan name level own.number (CO (panel_group lower)) (CI (panel_group upper)) own.total
-      (λ its wheel mark same. carry_up its wheel name own.total.digits mark lower upper own.served))
+      (carry_up (named_so own.total) lower upper own.served))
 
   pub ring_pair : is_wired wiring (CO (panel_group upper)) (CI (panel_group lower)) ≡ has_sign (field_named chart.lines name)
   ring_pair = same_tests _ _ (λ on. told (says_of chart plan wiring panel own (panel_group lower) (inl refl) (CO (panel_group upper)) on) refl) given
@@ -201,4 +201,4 @@ module _ (chart : Chart) (plan : Lists) (wiring : Wiring) (panel : IsPanel chart
           let (rule, its_sign) = ruled chart plan wiring panel own on in
           on_panel chart plan wiring panel own (CO (panel_group upper)) (CI (panel_group lower))
           (wire_of chart.lines plan name level own.number (CO (panel_group upper)) (CI (panel_group lower)) own.total
-          (λ its wheel mark same. carry_round its wheel name own.total.digits mark rule lower upper own.served its_sign))
+          (carry_round (named_so own.total) rule lower upper own.served its_sign))

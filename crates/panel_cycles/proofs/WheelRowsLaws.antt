@@ -176,16 +176,16 @@ module _ (wiring : Wiring) (content : Content) (at : CycleRow) (row : IsPrintedR
       let is = card_of at.cycle emits in
       in_cycle Card is (card.point-sends wiring content.card content.opens at (row.cards is) line place wheel name how field listed says_it amount
       some punch)
-  straight_sends line there says_it (point _ _ wheel figure _ (figure_on_total its _ name digits mark field amount) some punch) (emitter e emits) =
+  straight_sends line there says_it (point _ _ wheel figure _ (figure_on_total asked field amount) some punch) (emitter e emits) =
       let (place, listed) = place_of line there in
-      let (level, is, same) = total_of at.cycle its emits in
-      in_cycle (Prog level Third) is (total.amount-row wiring level content.held content.card at (row.totals level is) line place its wheel name
-      digits mark field listed says_it amount.named same (figure_point some punch))
-  straight_sends line there says_it (total_digit its wheel name digits mark field _ position p serves amount low high) (digit counter _ among out _ long shows) =
+      let (level, is, same) = total_of at.cycle asked.level emits in
+      in_cycle (Prog level Third) is (total.amount-row wiring level content.held content.card at (row.totals level is) line place asked field
+      listed says_it amount.named same (figure_point some punch))
+  straight_sends line there says_it (total_digit asked field _ position p serves amount low high) (digit counter _ among out _ long shows) =
       let (place, listed) = place_of line there in
       let (level, is) = group-third wiring at row.on_panel row.rises counter.name row.prints out in
-      in_cycle (Prog level Third) is (total.digit-sends wiring level content.held content.card at (row.totals level is) line place its wheel name
-      digits mark field counter position p listed there says_it serves amount low high among out long shows)
+      in_cycle (Prog level Third) is (total.digit-sends wiring level content.held content.card at (row.totals level is) line place asked field
+      counter position p listed there says_it serves amount low high among out long shows)
   straight_sends line there says_it (total_text_out its wheel name field _ j text within served) (column storage c among out held) =
       let (level, is) = unit-third wiring at row.on_panel storage.place row.prints out in
       in_cycle (Prog level Third) is (total.text-sends wiring level content.held content.card at (row.totals level is) line its wheel name field
@@ -194,7 +194,7 @@ module _ (wiring : Wiring) (content : Content) (at : CycleRow) (row : IsPrintedR
   straight_sends line there says_it (split_digit_out wheel name how field position split p0 p1 p2 p3 p4) emits = silent at _ emits refl
   straight_sends line there says_it (detail_mark_out wheel name mark (sign.X c) field pilot k r p0 p1 p2 p3) emits = silent at _ emits refl
   straight_sends line there says_it (detail_mark_out wheel name mark (sign.NX c) field pilot k r p0 p1 p2 p3) emits = silent at _ emits refl
-  straight_sends line there says_it (total_mark_out its wheel name digits mark rule field group k r p0 p1 p2 p3) emits = silent at _ emits refl
+  straight_sends line there says_it (total_mark_out asked mark rule field group k r p0 p1 p2 p3 p4) emits = silent at _ emits refl
 
   -- what comes after a contact
   after_sends : (line other : Line) {statement its : Statement} {x common contact : Hub} {v : ℕ}
@@ -216,18 +216,18 @@ module _ (wiring : Wiring) (content : Content) (at : CycleRow) (row : IsPrintedR
       let is = card_of at.cycle emitting in
       in_cycle Card is (card.mark-sends wiring content.card content.opens at (row.cards is) wheel name mark rule field pilot k signed named served
       punched shut)
-  after_sends line other there among says_it says_its emits wire leads shut (total_mark_out its wheel name digits mark rule field group k _ served signed named punch) =
+  after_sends line other there among says_it says_its emits wire leads shut (total_mark_out asked mark rule field group k _ marked served signed named punch) =
       let (place, listed) = place_of line there in
-      let (punched, emitting) = through_balance wiring at row.on_panel row.rises line other its wheel k digits group name mark there among says_it
+      let (punched, emitting) = through_balance wiring at row.on_panel row.rises line other asked k group mark there among says_it marked
       says_its wire emits leads served in
-      let (level, is, same) = total_of at.cycle its emitting in
-      in_cycle (Prog level Third) is (total.mark-sends wiring level content.held content.card at (row.totals level is) line place its wheel name
-      digits mark field group k listed there says_it served named same punched shut)
+      let (level, is, same) = total_of at.cycle asked.level emitting in
+      in_cycle (Prog level Third) is (total.mark-sends wiring level content.held content.card at (row.totals level is) line place asked mark field
+      group k listed there says_it marked served named same punched shut)
   after_sends line other there among says_it says_its emits wire leads shut (detail_text wheel name field j text within) = cc
   after_sends line other there among says_it says_its emits wire leads shut (literal statement e wheel characters j r is punch) = cc
   after_sends line other there among says_it says_its emits wire leads shut (point statement e wheel figure r is some punch) = cc
   after_sends line other there among says_it says_its emits wire leads shut (detail_digit wheel name how field position is low high apart) = cc
-  after_sends line other there among says_it says_its emits wire leads shut (total_digit its wheel name digits mark field group position p is amount low high) = cc
+  after_sends line other there among says_it says_its emits wire leads shut (total_digit asked field group position p is amount low high) = cc
   after_sends line other there among says_it says_its emits wire leads shut (total_text_out its wheel name field unit j text within served) = cc
 
   -- and all that lines send arrives

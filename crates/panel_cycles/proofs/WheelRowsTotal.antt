@@ -20,6 +20,7 @@ use Rattle.wired_panels.specs.Below.charts.declared.level.Level.{Level}
 use Rattle.wired_panels.specs.Below.charts.declared.statement.Field.{Field}
 use Rattle.wired_panels.specs.Below.charts.declared.statement.Mark.{Mark}
 use Rattle.wired_panels.specs.Below.charts.declared.statement.Statement.TheVariants as says
+use Rattle.wired_panels.specs.Below.charts.declared.statement.TotalLine.{TotalLine}
 use Rattle.wired_panels.specs.Below.charts.declared.statement.Statement.{Statement}
 use Rattle.totals.specs.Below.counters.Counters.{Counter}
 use Rattle.wired_panels.specs.Below.hub_table.Ranges.{is_within}
@@ -71,12 +72,12 @@ top-counter None top same = cc
 top-counter (Some counter) top same = (counter, refl, same_Some (top_group counter) top same)
 
 -- a total in a chart that breaks no rule is of an amount, in as many digits as its field has columns at least
-pub total-amount : (chart : Chart) (place : ℕ) (line : Line) (its : Level) (wheel : ℕ) (name : List ℕ) (digits : ℕ) (mark : Option Mark)
-    (field : Field) → IsLawful chart → slice_get chart.lines place ≡ Some line → line.statement ≡ says.TotalAmount its wheel name digits mark
-    → field_named chart.lines name ≡ Some field → is_amount field.kind ≡ true
-total-amount chart place line its wheel name digits mark field lawful at says_it named =
+pub total-amount : (chart : Chart) (place : ℕ) (line : Line) (total : TotalLine) (field : Field)
+    → IsLawful chart → slice_get chart.lines place ≡ Some line → line.statement ≡ says.TotalAmount total
+    → field_named chart.lines total.name ≡ Some field → is_amount field.kind ≡ true
+total-amount chart place line total field lawful at says_it named =
     let kept = kept-at rule.WrongKind chart place line lawful at in
-    let e : names_text (field_named chart.lines name) ≡ false = sym (ap (λ s. breaks rule.WrongKind chart.lines chart.lines s) says_it) ∙ kept in
+    let e : names_text (field_named chart.lines total.name) ≡ false = sym (ap (λ s. breaks rule.WrongKind chart.lines chart.lines s) says_it) ∙ kept in
     let f : not (is_amount field.kind) ≡ false = sym (ap names_text named) ∙ e in
     by (is_amount field.kind) f
   where
@@ -84,15 +85,15 @@ total-amount chart place line its wheel name digits mark field lawful at says_it
     by true h = refl
     by false h = cc
 
-pub total-digits : (chart : Chart) (place : ℕ) (line : Line) (its : Level) (wheel : ℕ) (name : List ℕ) (digits : ℕ) (mark : Option Mark)
-    (field : Field) → IsLawful chart → slice_get chart.lines place ≡ Some line → line.statement ≡ says.TotalAmount its wheel name digits mark
-    → field_named chart.lines name ≡ Some field → decimals_of field.kind ≤ digits
-total-digits chart place line its wheel name digits mark field lawful at says_it named =
+pub total-digits : (chart : Chart) (place : ℕ) (line : Line) (total : TotalLine) (field : Field)
+    → IsLawful chart → slice_get chart.lines place ≡ Some line → line.statement ≡ says.TotalAmount total
+    → field_named chart.lines total.name ≡ Some field → decimals_of field.kind ≤ total.digits
+total-digits chart place line total field lawful at says_it named =
     let kept = kept-at rule.DigitsRange chart place line lawful at in
-    let e : is_out_of_digits (field_named chart.lines name) digits ≡ false
+    let e : is_out_of_digits (field_named chart.lines total.name) total.digits ≡ false
     = sym (ap (λ s. breaks rule.DigitsRange chart.lines chart.lines s) says_it) ∙ kept in
-    let f : nat_lt digits (columns_of field) ≡ false = first (nat_lt digits (columns_of field)) (nat_lt 16 digits) (is_some (sign_column field.kind) && nat_lt 15 digits) (sym (ap (λ o. is_out_of_digits o digits) named) ∙ e) in
-    let good = (good-field chart lawful name field named).decimals in
+    let f : nat_lt total.digits (columns_of field) ≡ false = first (nat_lt total.digits (columns_of field)) (nat_lt 16 total.digits) (is_some (sign_column field.kind) && nat_lt 15 total.digits) (sym (ap (λ o. is_out_of_digits o total.digits) named) ∙ e) in
+    let good = (good-field chart lawful total.name field named).decimals in
     grind (arith, nat_tests, f, good)
   where
     first : (a b c : Bool) → (a || b || c) ≡ false → a ≡ false
@@ -125,40 +126,39 @@ module _ (wiring : Wiring) (its : ProgramLevel) (held : List ℕ → Printed) (c
       ∙ ap Some (last-at digits (held name).figure position from to))
       ∙ digit-row (digit_of (held name).figure position) r (digit_of-small (held name).figure position)
 
-  pub amount-row : (line : Line) (place : ℕ) (level : Level) (wheel : ℕ) (name : List ℕ) (digits : ℕ) (mark : Option Mark) (field : Field) {v : ℕ}
-      → slice_get at.chart.lines place ≡ Some line → line.statement ≡ says.TotalAmount level wheel name digits mark
-      → field_named at.chart.lines name ≡ Some field → chart_number level ≡ level_number its
-      → FigureSends wheel digits (decimals_of field.kind) mark (map Some (last_digits digits (held name).figure)) (held name).latch (row_number at.row) v
-      → Sends (says.TotalAmount level wheel name digits mark) v
-  amount-row line place level wheel name digits mark field listed says_it named same sends =
-      let few = total-digits at.chart place line level wheel name digits mark field row.on_panel.panel.lawful listed says_it named in
-      let sent = figure-sent wheel digits (decimals_of field.kind) mark (map Some (last_digits digits (held name).figure)) (held name).latch
-      (row_number at.row) few (digits-long digits name) sends in
+  pub amount-row : (line : Line) (place : ℕ) (total : TotalLine) (field : Field) {v : ℕ}
+      → slice_get at.chart.lines place ≡ Some line → line.statement ≡ says.TotalAmount total
+      → field_named at.chart.lines total.name ≡ Some field → chart_number total.level ≡ level_number its
+      → FigureSends total.wheel total.digits (decimals_of field.kind) total.mark (map Some (last_digits total.digits (held total.name).figure)) (held total.name).latch (row_number at.row) v
+      → Sends (says.TotalAmount total) v
+  amount-row line place total field listed says_it named same sends =
+      let few = total-digits at.chart place line total field row.on_panel.panel.lawful listed says_it named in
+      let sent = figure-sent total.wheel total.digits (decimals_of field.kind) total.mark (map Some (last_digits total.digits (held total.name).figure)) (held total.name).latch
+      (row_number at.row) few (digits-long total.digits total.name) sends in
       record {
-        shown = amount_shown wheel digits (decimals_of field.kind) mark (map Some (last_digits digits (held name).figure)) (held name).latch;
-        is_sent = ap (λ b. cond b (option_map shown_of (field_named at.chart.lines name)) None) (tested level same) ∙ ap (option_map shown_of) named;
+        shown = amount_shown total.wheel total.digits (decimals_of field.kind) total.mark (map Some (last_digits total.digits (held total.name).figure)) (held total.name).latch;
+        is_sent = ap (λ b. cond b (option_map shown_of (field_named at.chart.lines total.name)) None) (tested total.level same) ∙ ap (option_map shown_of) named;
         there = sent.0;
         on = sent.1;
       }
     where
       shown_of : Field → Shown
-      shown_of each = amount_shown wheel digits (decimals_of each.kind) mark (map Some (last_digits digits (held name).figure)) (held name).latch
+      shown_of each = amount_shown total.wheel total.digits (decimals_of each.kind) total.mark (map Some (last_digits total.digits (held total.name).figure)) (held total.name).latch
 
   -- the level of a total whose group reads out, and of a text whose unit does
-  group-level : (line : Line) (level : Level) (wheel : ℕ) (name : List ℕ) (digits : ℕ) (mark : Option Mark) (group : Group)
-      → Contains at.chart.lines line → line.statement ≡ says.TotalAmount level wheel name digits mark
-      → ServesTotal at.chart.lines at.plan line.number group → at.pictures C (RO group) ≡ true → chart_number level ≡ level_number its
-  group-level line level wheel name digits mark group listed says_it served out =
+  group-level : (line : Line) (total : TotalLine) (group : Group) → Contains at.chart.lines line
+      → line.statement ≡ says.TotalAmount total
+      → ServesTotal at.chart.lines at.plan line.number group → at.pictures C (RO group) ≡ true → chart_number total.level ≡ level_number its
+  group-level line asked group listed says_it served out =
       let (its_name, own) = total-read wiring at row.on_panel row.rises its row.cycle group out in
       let n = groups.serves-own at.chart.lines at.plan row.on_panel.panel.planned own.number line.number group own.served served in
       let total = own.total in
       let e = one-line total.line line total.listed listed (total.is_number ∙ n) in
-      by total.its_level total.wheel total.its_name total.digits total.mark (sym total.says_total ∙ ap (λ l. l.statement) e ∙ says_it)
-      total.same_level
+      by total.asked (sym total.says_total ∙ ap (λ l. l.statement) e ∙ says_it) total.same_level
     where
-      by : (other : Level) (w : ℕ) (n : List ℕ) (d : ℕ) (m : Option Mark) → says.TotalAmount other w n d m ≡ says.TotalAmount level wheel name digits mark
-          → chart_number other ≡ level_number its → chart_number level ≡ level_number its
-      by other w n d m same is = let e : other ≡ level = cc in sym (ap chart_number e) ∙ is
+      by : (other : TotalLine) → says.TotalAmount other ≡ says.TotalAmount asked → chart_number other.level ≡ level_number its
+          → chart_number asked.level ≡ level_number its
+      by other same is = let e : other ≡ asked = cc in sym (ap (λ (t : TotalLine). chart_number t.level) e) ∙ is
 
   unit-level : (line : Line) (level : Level) (wheel : ℕ) (name : List ℕ) (unit : ℕ)
       → Contains at.chart.lines line → line.statement ≡ says.TotalText level wheel name
@@ -193,47 +193,45 @@ module _ (wiring : Wiring) (its : ProgramLevel) (held : List ℕ → Printed) (c
       → is_closed at (BAT group position) ≡ (is_within position 4 && (group_at at.old group).latch)
   closed-BAT group position is = (units-by_name.groups at.old group row.on_panel.between is).transferred at.cycle (Row at.row) position
 
-  pub digit-sends : (line : Line) (place : ℕ) (level : Level) (wheel : ℕ) (name : List ℕ) (digits : ℕ) (mark : Option Mark) (field : Field)
-      (counter : Counter) (position its_place : ℕ)
-      → slice_get at.chart.lines place ≡ Some line → Contains at.chart.lines line → line.statement ≡ says.TotalAmount level wheel name digits mark
-      → ServesPosition at.chart.lines at.plan line.number position counter.name its_place → IsAmount at.chart.lines name field
-      → 1 ≤ position → position ≤ digits
+  pub digit-sends : (line : Line) (place : ℕ) (total : TotalLine) (field : Field) (counter : Counter)
+      (position its_place : ℕ) → slice_get at.chart.lines place ≡ Some line → Contains at.chart.lines line → line.statement ≡ says.TotalAmount total
+      → ServesPosition at.chart.lines at.plan line.number position counter.name its_place → IsAmount at.chart.lines total.name field
+      → 1 ≤ position → position ≤ total.digits
       → Contains at.old.groups counter → at.pictures C (RO counter.name) ≡ true → its_place ≤ length counter.digits
       → digit_at counter.digits its_place ≡ row_number at.row
-      → Sends (says.TotalAmount level wheel name digits mark) (digit_wheel wheel digits (decimals_of field.kind) position)
-  digit-sends line place level wheel name digits mark field counter position its_place listed there says_it serves is from to among out long shows =
+      → Sends (says.TotalAmount total) (digit_wheel total.wheel total.digits (decimals_of field.kind) position)
+  digit-sends line place total field counter position its_place listed there says_it serves is from to among out long shows =
       let served = groups.position-serves at.chart.lines at.plan line.number position counter.name its_place serves in
-      let same = group-level line level wheel name digits mark counter.name there says_it served out in
+      let same = group-level line total counter.name there says_it served out in
       let named = group-named at.chart.lines at.plan line.number counter.name row.on_panel.panel.planned served in
-      let holds = row.totals line level wheel name digits mark serves.counter there says_it same serves.there in
+      let holds = row.totals line total serves.counter there says_it same serves.there in
       let own : counter ≡ group_at at.old counter.name = group-own at.old row.on_panel.between counter among in
-      let digit_is : digit_at counter.digits its_place ≡ digit_of (held name).figure position
+      let digit_is : digit_at counter.digits its_place ≡ digit_of (held total.name).figure position
       = ap (λ c. digit_at c.digits its_place) own
-      ∙ held-digit line.number serves.counter name position counter.name its_place serves.there serves.at named holds
+      ∙ held-digit line.number serves.counter total.name position counter.name its_place serves.there serves.at named holds
       (subst (λ c. its_place ≤ length c.digits) own long) in
-      let e : digit_of (held name).figure position ≡ row_number at.row = sym digit_is ∙ shows in
-      let test : (digit_of (held name).figure position == row_number at.row) ≡ true = equal (digit_of (held name).figure position) (row_number at.row) e in
-      amount-row line place level wheel name digits mark field listed says_it is.named same
-      (figure_digit position from to (digit-shown digits name position (row_number at.row) from to ∙ test))
+      let e : digit_of (held total.name).figure position ≡ row_number at.row = sym digit_is ∙ shows in
+      let test : (digit_of (held total.name).figure position == row_number at.row) ≡ true = equal (digit_of (held total.name).figure position) (row_number at.row) e in
+      amount-row line place total field listed says_it is.named same
+      (figure_digit position from to (digit-shown total.digits total.name position (row_number at.row) from to ∙ test))
     where
       equal : (a b : ℕ) → a ≡ b → (a == b) ≡ true
       equal a b e = grind (arith, nat_tests, e)
 
-  pub mark-sends : (line : Line) (place : ℕ) (level : Level) (wheel : ℕ) (name : List ℕ) (digits : ℕ) (mark : Mark) (field : Field)
-      (top : Group) (k : ℕ)
+  pub mark-sends : (line : Line) (place : ℕ) (total : TotalLine) (mark : Mark) (field : Field) (top : Group) (k : ℕ)
       → slice_get at.chart.lines place ≡ Some line → Contains at.chart.lines line
-      → line.statement ≡ says.TotalAmount level wheel name digits (Some mark) → top_for at.chart.lines at.plan line.number ≡ Some top
-      → field_named at.chart.lines name ≡ Some field → chart_number level ≡ level_number its
+      → line.statement ≡ says.TotalAmount total → total.mark ≡ Some mark → top_for at.chart.lines at.plan line.number ≡ Some top
+      → field_named at.chart.lines total.name ≡ Some field → chart_number total.level ≡ level_number its
       → HasPunchAt (mark_text mark) k (row_number at.row) → is_closed at (BAT top (3 + k)) ≡ true
-      → Sends (says.TotalAmount level wheel name digits (Some mark)) (mark_wheel wheel digits (decimals_of field.kind) + k)
-  mark-sends line place level wheel name digits mark field top k listed there says_it served named same punch shut =
+      → Sends (says.TotalAmount total) (mark_wheel total.wheel total.digits (decimals_of field.kind) + k)
+  mark-sends line place total mark field top k listed there says_it marked served named same punch shut =
       let group_is = group-named at.chart.lines at.plan line.number top row.on_panel.panel.planned
       (groups.top-serves at.chart.lines at.plan line.number top served) in
       let (counter, is_counter, is_top) = top-counter (counter_for at.chart.lines at.plan line.number) top served in
-      let holds = row.totals line level wheel name digits (Some mark) counter there says_it same is_counter in
+      let holds = row.totals line total counter there says_it same is_counter in
       let latch = right-of (is_within (3 + k) 4) (group_at at.old top).latch (sym (closed-BAT top (3 + k) group_is) ∙ shut) in
-      amount-row line place level wheel name digits (Some mark) field listed says_it named same
-      (figure_marked mark k refl (sym holds.latch ∙ ap (λ g. (group_at at.old g).latch) is_top ∙ latch) punch)
+      amount-row line place total field listed says_it named same
+      (figure_marked mark k marked (sym holds.latch ∙ ap (λ g. (group_at at.old g).latch) is_top ∙ latch) punch)
 
   pub text-sends : (line : Line) (level : Level) (wheel : ℕ) (name : List ℕ) (field : Field) (storage : StorageState) (j : ℕ)
       → Contains at.chart.lines line → line.statement ≡ says.TotalText level wheel name → IsText at.chart.lines name field → j < columns_of field

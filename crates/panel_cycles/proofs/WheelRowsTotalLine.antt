@@ -1,5 +1,5 @@
 -- In the third program cycle of a level what lines send to its total line arrives at its wheels.
-use Rattle.std.proofs.Common.{◌≡◌, ◌∙◌, refl, sym, ap, subst, ℕ, ◌+◌, ◌<◌, ◌≤◌, ◌==◌, Bool, true, false, cond, List, Contains, Option, Some, None, length, map, slice_get, option_map, arith}
+use Rattle.std.proofs.Common.{◌≡◌, ◌∙◌, refl, sym, ap, ap₂, subst, ℕ, ◌+◌, ◌<◌, ◌≤◌, ◌==◌, Bool, true, false, cond, List, Contains, Option, Some, None, length, map, slice_get, option_map, arith}
 use Rattle.std.proofs.lemmas.Bool.Decides.{nat_tests}
 use Rattle.std.proofs.lemmas.List.{length-map}
 use Rattle.totals.specs.CounterCycles.Acts.{digit_of}
@@ -27,6 +27,7 @@ use Rattle.wired_panels.specs.Below.charts.declared.statement.FieldKind.{FieldKi
 use Rattle.wired_panels.specs.Below.charts.declared.statement.Mark.{Mark}
 use Rattle.wired_panels.specs.Below.charts.declared.statement.SignRule.{SignRule}
 use Rattle.wired_panels.specs.Below.charts.declared.statement.Statement.TheVariants as says
+use Rattle.wired_panels.specs.Below.charts.declared.statement.TotalLine.{TotalLine}
 use Rattle.wired_panels.specs.Below.charts.declared.statement.Statement.{Statement}
 use Rattle.wired_panels.specs.Below.hub_table.Ranges.{is_within}
 use Rattle.wired_panels.specs.Below.setups.Wiring.{Wiring}
@@ -45,7 +46,7 @@ use Rattle.wired_panels.proofs.Below.whole_cycles.Units.{units-by_name}
 use Rattle.wired_panels.specs.Below.whole_cycles.Units.{group_at, storage_at}
 use Rattle.printed_lines.specs.Below.wiring_table.Figures.IsFigure.{on_total as figure_on_total}
 use Rattle.printed_lines.specs.Below.wiring_table.Figures.IsLiteral.{on_total}
-use Rattle.printed_lines.specs.Below.wiring_table.Figures.{IsText, IsAmount, IsSigned, HasPunchAt, rule_of, mark_text}
+use Rattle.printed_lines.specs.Below.wiring_table.Figures.{IsText, IsAmount, IsSigned, rule_of}
 use Rattle.wired_panels.specs.Below.plans.declared.counter.TotalCounter.{TotalCounter}
 use Rattle.printed_lines.specs.Below.wiring_table.Parts.{ServesPosition, counter_for, top_for, top_group}
 use Rattle.printed_lines.specs.Below.wiring_table.Wires.LineWire.{literal, point, total_digit, total_mark_in, total_mark_out, total_text_out}
@@ -74,21 +75,20 @@ use Rattle.panel_cycles.proofs.WheelRowsUnits.{group-named, group-listed, counte
 use Rattle.report.proofs.EditLaws.{last_digits-length}
 
 -- what a total line's line sends
-pub record SendsTotal (lines : List Line) (number : ℕ) (held : List ℕ → Printed) (its : Level) (wheel : ℕ) (name : List ℕ) (digits : ℕ)
-    (mark : Option Mark) (sent : Shown) : Type 0 where
+pub record SendsTotal (lines : List Line) (number : ℕ) (held : List ℕ → Printed) (total : TotalLine) (sent : Shown) : Type 0 where
   pub field : Field
-  pub same : chart_number its ≡ number
-  pub named : field_named lines name ≡ Some field
-  pub is : sent ≡ amount_shown wheel digits (decimals_of field.kind) mark (map Some (last_digits digits (held name).figure)) (held name).latch
+  pub same : chart_number total.level ≡ number
+  pub named : field_named lines total.name ≡ Some field
+  pub is : sent ≡ amount_shown total.wheel total.digits (decimals_of field.kind) total.mark (map Some (last_digits total.digits (held total.name).figure)) (held total.name).latch
 
-pub total-tested : (lines : List Line) (number : ℕ) (held : List ℕ → Printed) (card : List ℕ) (its : Level) (wheel : ℕ) (name : List ℕ) (digits : ℕ)
-    (mark : Option Mark) (sent : Shown) → total_sends lines number held card (says.TotalAmount its wheel name digits mark) ≡ Some sent
-    → SendsTotal lines number held its wheel name digits mark sent
-total-tested lines number held card its wheel name digits mark sent is = by (chart_number its == number) (field_named lines name) refl refl is
+pub total-tested : (lines : List Line) (number : ℕ) (held : List ℕ → Printed) (card : List ℕ) (total : TotalLine) (sent : Shown)
+    → total_sends lines number held card (says.TotalAmount total) ≡ Some sent
+    → SendsTotal lines number held total sent
+total-tested lines number held card total sent is = by (chart_number total.level == number) (field_named lines total.name) refl refl is
   where
-    by : (b : Bool) (o : Option Field) → (chart_number its == number) ≡ b → field_named lines name ≡ o
-        → cond b (option_map (λ each. amount_shown wheel digits (decimals_of each.kind) mark (map Some (last_digits digits (held name).figure)) (held name).latch) o) None
-        ≡ Some sent → SendsTotal lines number held its wheel name digits mark sent
+    by : (b : Bool) (o : Option Field) → (chart_number total.level == number) ≡ b → field_named lines total.name ≡ o
+        → cond b (option_map (λ each. amount_shown total.wheel total.digits (decimals_of each.kind) total.mark (map Some (last_digits total.digits (held total.name).figure)) (held total.name).latch) o) None
+        ≡ Some sent → SendsTotal lines number held total sent
     by true (Some field) same named there = record { field = field; same = grind (arith, nat_tests, same); named = named; is = cc }
     by true None same named there = cc
     by false o same named there = cc
@@ -121,14 +121,14 @@ literal-tested lines number held card its wheel characters sent is = by (chart_n
     by false same there = cc
 
 -- a total with a mark is of an amount with a sign rule
-total-ruled : (chart : Chart) (place : ℕ) (line : Line) (its : Level) (wheel : ℕ) (name : List ℕ) (digits : ℕ) (own : Mark) (field : Field)
-    → IsLawful chart → slice_get chart.lines place ≡ Some line → line.statement ≡ says.TotalAmount its wheel name digits (Some own)
-    → field_named chart.lines name ≡ Some field → is_amount field.kind ≡ true → (r : SignRule) × (rule_of field.kind ≡ Some r)
-total-ruled chart place line its wheel name digits own field lawful at says_it named amount =
+total-ruled : (chart : Chart) (place : ℕ) (line : Line) (total : TotalLine) (own : Mark) (field : Field)
+    → IsLawful chart → slice_get chart.lines place ≡ Some line → line.statement ≡ says.TotalAmount total → total.mark ≡ Some own
+    → field_named chart.lines total.name ≡ Some field → is_amount field.kind ≡ true → (r : SignRule) × (rule_of field.kind ≡ Some r)
+total-ruled chart place line total own field lawful at says_it marked named amount =
     let kept = kept-at rule.MarkMismatch chart place line lawful at in
-    let e : is_mismatched (field_named chart.lines name) (Some own) ≡ false
+    let e : is_mismatched (field_named chart.lines total.name) total.mark ≡ false
     = sym (ap (λ s. breaks rule.MarkMismatch chart.lines chart.lines s) says_it) ∙ kept in
-    by field.kind amount (sym (ap (λ o. is_mismatched o (Some own)) named) ∙ e)
+    by field.kind amount (sym (ap₂ is_mismatched named marked) ∙ e)
   where
     by : (kind : FieldKind) → is_amount kind ≡ true → is_mismatched_kind kind (Some own) ≡ false → (r : SignRule) × (rule_of kind ≡ Some r)
     by holds.Text amount kept = cc
@@ -148,67 +148,61 @@ module _ (wiring : Wiring) (its : ProgramLevel) (held : List ℕ → Printed) (c
   emits-its : (level : Level) → chart_number level ≡ level_number its → Emits at (EM (4 + chart_number level) (row_number at.row))
   emits-its level same = emitter (4 + chart_number level) (ap emitter_of row.cycle ∙ ap (λ n. Some (4 + n)) (sym same))
 
-  figure-arrives : (line : Line) (place : ℕ) (level : Level) (wheel : ℕ) (name : List ℕ) (digits : ℕ) (mark : Option Mark) (field : Field)
-      (counter : TotalCounter) {v : ℕ} → slice_get at.chart.lines place ≡ Some line → Contains at.chart.lines line
-      → line.statement ≡ says.TotalAmount level wheel name digits mark → IsAmount at.chart.lines name field → chart_number level ≡ level_number its
+  figure-arrives : (line : Line) (place : ℕ) (total : TotalLine) (field : Field) (counter : TotalCounter) {v : ℕ} → slice_get at.chart.lines place ≡ Some line → Contains at.chart.lines line
+      → line.statement ≡ says.TotalAmount total → IsAmount at.chart.lines total.name field → chart_number total.level ≡ level_number its
       → counter_for at.chart.lines at.plan line.number ≡ Some counter
-      → FigureSends wheel digits (decimals_of field.kind) mark (map Some (last_digits digits (held name).figure)) (held name).latch (row_number at.row) v
+      → FigureSends total.wheel total.digits (decimals_of field.kind) total.mark (map Some (last_digits total.digits (held total.name).figure)) (held total.name).latch (row_number at.row) v
       → ArrivesThere at (W v)
-  figure-arrives line place level wheel name digits mark field counter listed there says_it is same served (figure_digit position from to on) =
+  figure-arrives line place total field counter listed there says_it is same served (figure_digit position from to on) =
       let planned = row.on_panel.panel.planned in
-      let (group, its_place, serves) = groups.position-given at.chart.lines at.plan planned at.chart.end name (chart_number level) line.number
-      counter row.rises (total-of at.chart.lines line level wheel name digits mark there says_it) served position from to in
+      let (group, its_place, serves) = groups.position-given at.chart.lines at.plan planned at.chart.end total.name (chart_number total.level) line.number
+      counter row.rises (total-of at.chart.lines line total there says_it) served position from to in
       let serving = groups.position-serves at.chart.lines at.plan line.number position group its_place serves in
       let named = group-named at.chart.lines at.plan line.number group planned serving in
-      let holds = row.totals line level wheel name digits mark serves.counter there says_it same serves.there in
+      let holds = row.totals line total serves.counter there says_it same serves.there in
       let by_name : (group_at at.old group).name ≡ group = (units-by_name.groups at.old group row.on_panel.between named).named in
       let wide = serves.at.to in
       let some_place = serves.at.from in
       let positions : length (group_at at.old group).digits ≡ group.width
       = (counter-is at.old row.on_panel.between group named).positions ∙ ap (λ g. g.width) by_name in
       let long : its_place ≤ length (group_at at.old group).digits = omega (arith, wide, positions) in
-      let own : IsGroupOf at.chart.lines at.plan name (level_number its) group
-      = subst (λ n. IsGroupOf at.chart.lines at.plan name n group) same
-      (with_group at.chart.lines at.plan level wheel name digits mark line.number group
+      let own : IsGroupOf at.chart.lines at.plan total.name (level_number its) group
+      = subst (λ n. IsGroupOf at.chart.lines at.plan total.name n group) same
+      (with_group at.chart.lines at.plan total line.number group
       (record { line = line; listed = there; numbered = refl; says_it = says_it }) serving) in
-      let out : at.pictures C (RO group) ≡ true = reads-total wiring at row.on_panel row.rises its row.cycle name group own in
-      let test : (digit_of (held name).figure position == row_number at.row) ≡ true
-      = sym (digit-shown wiring its held card at row digits name position (row_number at.row) from to) ∙ on in
+      let out : at.pictures C (RO group) ≡ true = reads-total wiring at row.on_panel row.rises its row.cycle total.name group own in
+      let test : (digit_of (held total.name).figure position == row_number at.row) ≡ true
+      = sym (digit-shown wiring its held card at row total.digits total.name position (row_number at.row) from to) ∙ on in
       let shows : digit_at (group_at at.old group).digits its_place ≡ row_number at.row
-      = held-digit wiring its held card at row line.number serves.counter name position group its_place serves.there serves.at named holds long
-      ∙ equal (digit_of (held name).figure position) (row_number at.row) test in
+      = held-digit wiring its held card at row line.number serves.counter total.name position group its_place serves.there serves.at named holds long
+      ∙ equal (digit_of (held total.name).figure position) (row_number at.row) test in
       along wiring at row.on_panel row.rises line there says_it
-      (total_digit level wheel name digits mark field (group_at at.old group).name position its_place
+      (total_digit total field (group_at at.old group).name position its_place
       (subst (λ g. ServesPosition at.chart.lines at.plan line.number position g its_place) (sym by_name) serves) is from to)
       (digit (group_at at.old group) its_place (group-listed at.old row.on_panel.between group named)
       (ap (λ g. at.pictures C (RO g)) by_name ∙ out) some_place long shows)
     where
       equal : (a b : ℕ) → (a == b) ≡ true → a ≡ b
       equal a b e = grind (arith, nat_tests, e)
-  figure-arrives line place level wheel name digits mark field counter listed there says_it is same served (figure_point some punch) =
+  figure-arrives line place total field counter listed there says_it is same served (figure_point some punch) =
       along wiring at row.on_panel row.rises line there says_it
-      (point (says.TotalAmount level wheel name digits mark) (4 + chart_number level) wheel
-      (record { digits = digits; decimals = decimals_of field.kind; mark = mark }) (row_number at.row)
-      (figure_on_total level wheel name digits mark field is) some punch) (emits-its level same)
-  figure-arrives line place level wheel name digits None field counter listed there says_it is same served (figure_marked own k marked below punch) = cc
-  figure-arrives line place level wheel name digits (Some mark) field counter listed there says_it is same served (figure_marked own k marked below punch) =
+      (point (says.TotalAmount total) (4 + chart_number total.level) total.wheel
+      (record { digits = total.digits; decimals = decimals_of field.kind; mark = total.mark }) (row_number at.row)
+      (figure_on_total total field is) some punch) (emits-its total.level same)
+  figure-arrives line place total field counter listed there says_it is same served (figure_marked own k marked below punch) =
       let balance : top_for at.chart.lines at.plan line.number ≡ Some (top_group counter) = ap (option_map top_group) served in
       let named = group-named at.chart.lines at.plan line.number (top_group counter) row.on_panel.panel.planned
       (groups.top-serves at.chart.lines at.plan line.number (top_group counter) balance) in
-      let holds = row.totals line level wheel name digits (Some mark) counter there says_it same served in
-      let (rule, ruled) = total-ruled at.chart place line level wheel name digits mark field row.on_panel.panel.lawful listed says_it is.named is.holds_amount in
-      let e : own ≡ mark = cc in
+      let holds = row.totals line total counter there says_it same served in
+      let (rule, ruled) = total-ruled at.chart place line total own field row.on_panel.panel.lawful listed says_it marked is.named is.holds_amount in
       let few = mark-few own k (row_number at.row) punch in
       let within : is_within (3 + k) 4 ≡ true = grind (arith, nat_tests, few) in
-      let signed : IsSigned at.chart.lines name rule = record { field = field; named = is.named; ruled = ruled } in
-      let its_punch : HasPunchAt (mark_text mark) k (row_number at.row) = subst (λ m. HasPunchAt (mark_text m) k (row_number at.row)) e punch in
+      let signed : IsSigned at.chart.lines total.name rule = record { field = field; named = is.named; ruled = ruled } in
       along_contact wiring at row.on_panel row.rises line there says_it
-      (total_mark_in level wheel name digits mark rule (top_group counter) k (row_number at.row)
-      balance signed its_punch) (emits-its level same) refl
+      (total_mark_in total own rule (top_group counter) k (row_number at.row) marked balance signed punch) (emits-its total.level same) refl
       (closed-BAT wiring its held card at row (top_group counter) (3 + k) named
       ∙ both-of (is_within (3 + k) 4) (group_at at.old (top_group counter)).latch within (holds.latch ∙ below))
-      (total_mark_out level wheel name digits mark rule field (top_group counter) k (row_number at.row)
-      balance signed is.named its_punch)
+      (total_mark_out total own rule field (top_group counter) k (row_number at.row) marked balance signed is.named punch)
 
   -- a text by its storage unit
   text-arrives : (line : Line) (place : ℕ) (level : Level) (wheel : ℕ) (name : List ℕ) (field : Field) (j : ℕ)
@@ -259,17 +253,17 @@ module _ (wiring : Wiring) (its : ProgramLevel) (held : List ℕ → Printed) (c
       ∙ ap (λ x. has_row x (row_number at.row)) (columns-sent wheel card t.field s.j s.within)) ∙ sent.on in
       subst (λ w. ArrivesThere at (W w)) (sym s.is)
       (text-arrives line place level wheel name t.field s.j listed there says_it (record { named = t.named; holds_text = text_kind }) t.same s.within punched)
-  sends-arrives line place (says.TotalAmount level wheel name digits mark) v listed there says_it sent =
-      let t = total-tested at.chart.lines (level_number its) held card level wheel name digits mark sent.shown sent.is_sent in
+  sends-arrives line place (says.TotalAmount total) v listed there says_it sent =
+      let t = total-tested at.chart.lines (level_number its) held card total sent.shown sent.is_sent in
       let lawful = row.on_panel.panel.lawful in
-      let amount = total-amount at.chart place line level wheel name digits mark t.field lawful listed says_it t.named in
-      let few = total-digits at.chart place line level wheel name digits mark t.field lawful listed says_it t.named in
-      let (counter, served) = groups.counter-given at.chart.lines at.plan name (chart_number level) line.number row.on_panel.panel.planned
-      (total-of at.chart.lines line level wheel name digits mark there says_it) in
-      figure-arrives line place level wheel name digits mark t.field counter listed there says_it
+      let amount = total-amount at.chart place line total t.field lawful listed says_it t.named in
+      let few = total-digits at.chart place line total t.field lawful listed says_it t.named in
+      let (counter, served) = groups.counter-given at.chart.lines at.plan total.name (chart_number total.level) line.number row.on_panel.panel.planned
+      (total-of at.chart.lines line total there says_it) in
+      figure-arrives line place total t.field counter listed there says_it
       (record { named = t.named; holds_amount = amount }) t.same served
-      (figure-of wheel digits (decimals_of t.field.kind) mark (map Some (last_digits digits (held name).figure)) (held name).latch at.row v few
-      (digits-long wiring its held card at row digits name) (sym (ap (λ x. stands_on x v) t.is) ∙ sent.there)
+      (figure-of total.wheel total.digits (decimals_of t.field.kind) total.mark (map Some (last_digits total.digits (held total.name).figure)) (held total.name).latch at.row v few
+      (digits-long wiring its held card at row total.digits total.name) (sym (ap (λ x. stands_on x v) t.is) ∙ sent.there)
       (sym (ap (λ x. has_row (sent_on x v) (row_number at.row)) t.is) ∙ sent.on))
   sends-arrives line place other v listed there says_it sent = let none = sent.is_sent in cc
 
@@ -290,17 +284,17 @@ item-of chart its held card v place line (says.TotalText level wheel name) sent 
       (omega (arith, s.is), omega (arith, s.is, s.within)),
       its_total its level t.same,
     )
-item-of chart its held card v place line (says.TotalAmount level wheel name digits mark) sent lawful listed says_it is there =
-    let t = total-tested chart.lines (level_number its) held card level wheel name digits mark sent is in
-    let few = total-digits chart place line level wheel name digits mark t.field lawful listed says_it t.named in
-    let s = standing (amount_shown wheel digits (decimals_of t.field.kind) mark (map Some (last_digits digits (held name).figure)) (held name).latch) v
+item-of chart its held card v place line (says.TotalAmount total) sent lawful listed says_it is there =
+    let t = total-tested chart.lines (level_number its) held card total sent is in
+    let few = total-digits chart place line total t.field lawful listed says_it t.named in
+    let s = standing (amount_shown total.wheel total.digits (decimals_of t.field.kind) total.mark (map Some (last_digits total.digits (held total.name).figure)) (held total.name).latch) v
     (sym (ap (λ x. stands_on x v) t.is) ∙ there) in
-    let long = length-map (last_digits digits (held name).figure) Some ∙ last_digits-length digits (held name).figure in
-    let n = length-sets digits (decimals_of t.field.kind) mark (map Some (last_digits digits (held name).figure)) (held name).latch few long in
-    let within : s.j < figure_width (record { digits = digits; decimals = decimals_of t.field.kind; mark = mark }) = subst (λ m. s.j < m) n s.within in (
-      total_item level wheel digits mark t.field.kind,
-      ap (option_map (λ field. total_item level wheel digits mark field.kind)) t.named,
+    let long = length-map (last_digits total.digits (held total.name).figure) Some ∙ last_digits-length total.digits (held total.name).figure in
+    let n = length-sets total.digits (decimals_of t.field.kind) total.mark (map Some (last_digits total.digits (held total.name).figure)) (held total.name).latch few long in
+    let within : s.j < figure_width (record { digits = total.digits; decimals = decimals_of t.field.kind; mark = total.mark }) = subst (λ m. s.j < m) n s.within in (
+      total_item total t.field.kind,
+      ap (option_map (λ field. total_item total field.kind)) t.named,
       (omega (arith, s.is), omega (arith, s.is, within)),
-      its_total its level t.same,
+      its_total its total.level t.same,
     )
 item-of chart its held card v place line other sent lawful listed says_it is there = cc

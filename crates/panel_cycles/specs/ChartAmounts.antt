@@ -13,7 +13,7 @@ use Rattle.printed_lines.specs.Below.wiring_table.Parts.{counter_for, total_line
 
 -- the digits in which a line has its total
 abbrev pub digits_of : Statement → ℕ
-digits_of (says.TotalAmount level wheel name digits mark) = digits
+digits_of (says.TotalAmount total) = total.digits
 digits_of other = 0
 
 -- the digits of the total on a line, if there is one

@@ -1,5 +1,5 @@
 -- The rows of the cycles that print, on a panel that is wired for a chart.
-use Rattle.std.specs.Prelude.{◌≡◌, ℕ, ◌<◌, ◌+◌, List, Contains, Option, Some}
+use Rattle.std.specs.Prelude.{◌≡◌, ℕ, ◌<◌, ◌+◌, List, Contains, Some}
 use Rattle.wired_panels.specs.Below.card_code.CardCode.{has_row}
 use Rattle.wired_panels.specs.Below.card_code.Rows.{row_number}
 use Rattle.wired_panels.specs.Below.field_rules.Fields.{field_named}
@@ -10,8 +10,8 @@ use Rattle.wired_panels.specs.Below.charts.Levels.{level_number as chart_number}
 use Rattle.wired_panels.specs.Below.charts.declared.chart.Line.{Line}
 use Rattle.wired_panels.specs.Below.charts.declared.level.Level.{Level}
 use Rattle.wired_panels.specs.Below.charts.declared.statement.Field.{Field}
-use Rattle.wired_panels.specs.Below.charts.declared.statement.Mark.{Mark}
 use Rattle.wired_panels.specs.Below.charts.declared.statement.Statement.TheVariants as says
+use Rattle.wired_panels.specs.Below.charts.declared.statement.TotalLine.{TotalLine}
 use Rattle.wired_panels.specs.Below.plans.declared.counter.TotalCounter.{TotalCounter}
 use Rattle.wired_panels.specs.Below.setups.Wiring.{Wiring}
 use Rattle.totals.specs.Below.net.Cycles.{level_number}
@@ -54,11 +54,10 @@ pub record IsTotalRow (wiring : Wiring) (level : ProgramLevel) (held : List ℕ 
   pub rises : NumbersRise at.chart.lines at.chart.end
   pub cycle : at.cycle ≡ Prog level Third
   pub totals :
-      (line : Line) (its_level : Level) (wheel : ℕ) (name : List ℕ) (digits : ℕ) (mark : Option Mark)
-      (counter : TotalCounter)
-      → Contains at.chart.lines line → line.statement ≡ says.TotalAmount its_level wheel name digits mark
-      → chart_number its_level ≡ level_number level → counter_for at.chart.lines at.plan line.number ≡ Some counter
-      → CounterHoldsTotal at counter (held name)
+      (line : Line) (total : TotalLine) (counter : TotalCounter)
+      → Contains at.chart.lines line → line.statement ≡ says.TotalAmount total
+      → chart_number total.level ≡ level_number level → counter_for at.chart.lines at.plan line.number ≡ Some counter
+      → CounterHoldsTotal at counter (held total.name)
   pub texts :
       (line : Line) (its_level : Level) (wheel : ℕ) (name : List ℕ) (field : Field) (unit j : ℕ)
       → Contains at.chart.lines line → line.statement ≡ says.TotalText its_level wheel name

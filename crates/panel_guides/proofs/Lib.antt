@@ -1,5 +1,5 @@
-mod Explaining
+pub mod Explaining
 mod Legending
 mod OnPages
 mod PanelFaults
-mod Stopping
+pub mod Stopping

@@ -44,4 +44,4 @@ pub on_pages : WiredSetupsPrintReports → PlacedLinesArePrinted → ExplainedLi
 on_pages reports placed text deck place answer is =
     let told = is.explains.told in
     of_run reports text deck is.cards is.run told.line
-    (placed is.wiring is.cards told.cards told.cycle told.line is.explains.right.run)
+    (placed is.wiring is.cards told.cards told.cycle told.line is.explains.is.right.run)

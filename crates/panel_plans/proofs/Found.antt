@@ -1,7 +1,6 @@
 -- What is shown of each total of a chart on a panel that is wired for it is the counter of the plan.
-use Rattle.std.proofs.Common.{◌≡◌, ◌∙◌, refl, sym, ap, subst, ℕ, ◌<◌, ◌≤◌, false, true≢false, List, Contains, Option, Some, None, IfNone, IfSome, is_none, arith}
+use Rattle.std.proofs.Common.{◌≡◌, ◌∙◌, refl, sym, ap, ℕ, ◌<◌, ◌≤◌, false, true≢false, Contains, Option, Some, None, IfNone, IfSome, is_none, arith}
 use Rattle.std.proofs.lemmas.Bool.{not-false}
-use Rattle.capacity.specs.Capacities.{standard}
 use Rattle.chart_rules.specs.Rules.{IsLawful, breaks}
 use Rattle.chart_rules.specs.declared.rule.Rule.TheVariants as rule
 use Rattle.chart_rules.proofs.Laws.{field-line, good-listed, kept-line}
@@ -13,19 +12,16 @@ use Rattle.charts.specs.declared.statement.Field.{Field}
 use Rattle.field_rules.specs.Fields.{field_named}
 use Rattle.field_rules.specs.Names.{names_text}
 use Rattle.hubs.proofs.HubLemmas.{W-number}
-use Rattle.plans.specs.Counters.{HasCounter}
 use Rattle.plans.specs.Plans.{Lists}
 use Rattle.plans.specs.declared.counter.TotalCounter.{TotalCounter}
 use Rattle.plans.specs.declared.counter.TotalCounter.TheVariants as of
 use Rattle.setups.specs.Wiring.{Wiring}
 use Rattle.wanted.specs.ChartTotals.{line_total}
 use Rattle.wanted.specs.declared.total.Total.{Total}
-use Rattle.wiring_table.specs.Figures.{IsAmount}
 use Rattle.wiring_table.specs.Parts.{counter_for}
 use Rattle.wiring_table.proofs.Groups.{counter-enough, is-served}
 use Rattle.wiring_table.proofs.Totals.{total-digits, total-of}
 use Rattle.panel_plans.specs.NamingWires.{ShowsPartsOf}
-use Rattle.panel_plans.specs.Shown.{IsShown}
 use Rattle.panel_plans.specs.Totals.{IsShownOn, its_need}
 use Rattle.panel_plans.specs.Wired.{IsWiredBy, TotalOn, served_by, served_on, units_wheel}
 use Rattle.panel_plans.proofs.Alike.{back, if-none, if-some, is-shown}
@@ -47,29 +43,25 @@ module _ (chart : Chart) (lawful : IsLawful chart) (rise : NumbersRise chart.lin
       let t = is-total chart.lines line total is in
       let (before, known) = kept-line chart lawful line listed rule.UnknownName in
       let (earlier, right_kind) = kept-line chart lawful line listed rule.WrongKind in
-      by t (field_named chart.lines t.name) refl
+      by t (field_named chart.lines t.asked.name) refl
       (sym (ap (breaks rule.UnknownName chart.lines before) t.says_total) ∙ known)
       (sym (ap (breaks rule.WrongKind chart.lines earlier) t.says_total) ∙ right_kind)
     where
-      by : (t : IsTotal chart.lines line total) (o : Option Field) → field_named chart.lines t.name ≡ o → is_none (field_named chart.lines t.name) ≡ false
-          → names_text (field_named chart.lines t.name) ≡ false → TotalOn chart.lines line
+      by : (t : IsTotal chart.lines line total) (o : Option Field) → field_named chart.lines t.asked.name ≡ o → is_none (field_named chart.lines t.asked.name) ≡ false
+          → names_text (field_named chart.lines t.asked.name) ≡ false → TotalOn chart.lines line
       by t None named some right = absurd (true≢false (sym (ap is_none named) ∙ some))
       by t (Some field) named some right = record {
-        level = t.level;
-        wheel = t.wheel;
-        name = t.name;
-        digits = t.digits;
-        mark = t.mark;
+        asked = t.asked;
         field = field;
         says_total = t.says_total;
         amount = record { named = named; holds_amount = not-false (is_amount field.kind) (sym (ap names_text named) ∙ right) };
       }
 
-  some-digits : (line : Line) (total : TotalOn chart.lines line) → Contains chart.lines line → 1 ≤ total.digits
+  some-digits : (line : Line) (total : TotalOn chart.lines line) → Contains chart.lines line → 1 ≤ total.asked.digits
   some-digits line total listed =
-      let its = total-of chart.lines line total.level total.wheel total.name total.digits total.mark listed total.says_total in
-      let good = total-digits chart total.name lawful (level_number total.level) line.number total.field its total.amount.named in
-      let card = (good-listed chart lawful total.field (field-line chart.lines total.name total.field total.amount.named).among).card in
+      let its = total-of chart.lines line total.asked listed total.says_total in
+      let good = total-digits chart total.asked.name lawful (level_number total.asked.level) line.number total.field its total.amount.named in
+      let card = (good-listed chart lawful total.field (field-line chart.lines total.asked.name total.field total.amount.named).among).card in
       omega (arith, good.enough, card.order)
 
   module _ (setup : Wiring) (its : Lists) (wired : IsWiredBy chart.lines setup its) where
@@ -80,8 +72,8 @@ module _ (chart : Chart) (lawful : IsLawful chart) (rise : NumbersRise chart.lin
     shown line listed total counter served =
         let a = is-served chart.lines its line.number counter served in
         let there = wired.planned.counters.there a.place counter a.there in
-        let of_line = total-of chart.lines line total.level total.wheel total.name total.digits total.mark listed total.says_total in
-        let enough = counter-enough chart.lines its wired.planned chart.end total.name (level_number total.level) line.number counter rise of_line served in
+        let of_line = total-of chart.lines line total.asked listed total.says_total in
+        let enough = counter-enough chart.lines its wired.planned chart.end total.asked.name (level_number total.asked.level) line.number counter rise of_line served in
         let some = some-digits line total listed in (
           its-shown chart its setup lawful rise wired.planned wired.wired line listed total counter some served there enough,
           λ other is. only-shown chart its setup lawful rise wired.planned wired.wired line listed total counter other some served there enough is,
@@ -129,11 +121,11 @@ module _ (chart : Chart) (lawful : IsLawful chart) (rise : NumbersRise chart.lin
       found-on other its shows.wired line result total listed is
       (λ on less.
       if-some (IsShownOn chart.lines setup line on) (IsShownOn chart.lines other line on)
-      (is-shown shows.alike (level_number on.level) (units_wheel chart.lines line on) (its_need chart.lines line on)) result (some on less))
+      (is-shown shows.alike (level_number on.asked.level) (units_wheel chart.lines line on) (its_need chart.lines line on)) result (some on less))
       (λ on less.
       if-none ((counter : TotalCounter) → ¬ IsShownOn chart.lines setup line on counter)
       ((counter : TotalCounter) → ¬ IsShownOn chart.lines other line on counter)
       (λ no counter there.
       no counter
-      (is-shown (back shows.alike) (level_number on.level) (units_wheel chart.lines line on) (its_need chart.lines line on) counter there))
+      (is-shown (back shows.alike) (level_number on.asked.level) (units_wheel chart.lines line on) (its_need chart.lines line on) counter there))
       result (none on less))

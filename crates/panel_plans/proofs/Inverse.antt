@@ -1,13 +1,12 @@
 -- The wires that name a counter group, read off the wiring table: which total asks for them.
-use Rattle.std.proofs.Common.{◌≡◌, ◌∙◌, refl, sym, ap, subst, ℕ, ◌+◌, ◌≤◌, List, Option, Some}
+use Rattle.std.proofs.Common.{◌≡◌, ◌∙◌, refl, sym, subst, ℕ, ◌+◌, ◌≤◌, List, Some}
 use Rattle.capacity.specs.declared.group.CounterGroup.{CounterGroup}
 use Rattle.charts.specs.Field.{decimals_of}
 use Rattle.charts.specs.Levels.{level_number}
 use Rattle.charts.specs.declared.chart.Line.{Line}
-use Rattle.charts.specs.declared.level.Level.{Level}
 use Rattle.charts.specs.declared.statement.Field.{Field}
-use Rattle.charts.specs.declared.statement.Mark.{Mark}
 use Rattle.charts.specs.declared.statement.Statement.{Statement}
+use Rattle.charts.specs.declared.statement.TotalLine.{TotalLine}
 use Rattle.charts.specs.declared.statement.Statement.TheVariants as says
 use Rattle.hubs.specs.declared.hub.Group.{Group}
 use Rattle.hubs.specs.declared.hub.Hub.{Hub}
@@ -15,7 +14,7 @@ use Rattle.hubs.specs.declared.hub.Hub.TheVariants.{CI, CO, GX, PX, RO, W}
 use Rattle.plans.specs.Plans.{Lists}
 use Rattle.plans.specs.declared.counter.TotalCounter.TheVariants as of
 use Rattle.wiring_table.specs.Figures.{IsAmount, digit_wheel}
-use Rattle.wiring_table.specs.Parts.{ServesPosition, ServesTotal, counter_for, group_for, panel_group}
+use Rattle.wiring_table.specs.Parts.{ServesPosition, ServesTotal, counter_for, panel_group}
 use Rattle.wiring_table.specs.Wires.{LineWire}
 use Rattle.wiring_table.specs.Wires.LineWire.{carry_round, carry_up, detail_mark_out, read_out, ring, total_digit}
 use Rattle.panel_plans.proofs.Clashes.{apart, clash, is_carried, is_digit, is_program, is_side, side-is, to_read_out, to_wheel}
@@ -23,32 +22,24 @@ use Rattle.panel_plans.proofs.Clashes.{apart, clash, is_carried, is_digit, is_pr
 module _ (lines : List Line) (plan : Lists) where
   -- a total that puts the digit at the first place of a group on a wheel
   pub record DigitOf (number : ℕ) (statement : Statement) (group : Group) (v : ℕ) : Type 0 where
-    pub level : Level
-    pub wheel : ℕ
-    pub name : List ℕ
-    pub digits : ℕ
-    pub mark : Option Mark
+    pub asked : TotalLine
     pub field : Field
     pub position : ℕ
-    pub says_total : statement ≡ says.TotalAmount level wheel name digits mark
+    pub says_total : statement ≡ says.TotalAmount asked
     pub served : ServesPosition lines plan number position group 1
-    pub amount : IsAmount lines name field
+    pub amount : IsAmount lines asked.name field
     pub from : 1 ≤ position
-    pub to : position ≤ digits
-    pub at : digit_wheel wheel digits (decimals_of field.kind) position ≡ v
+    pub to : position ≤ asked.digits
+    pub at : digit_wheel asked.wheel asked.digits (decimals_of field.kind) position ≡ v
 
   pub digit-of : {number : ℕ} {statement : Statement} {exit entry : Hub} (group : Group) (v : ℕ)
       → LineWire lines plan number statement exit entry → exit ≡ GX group 1 → entry ≡ W v → DigitOf number statement group v
-  digit-of {number} group v (total_digit level wheel name digits mark field its position place served amount from to) e f =
+  digit-of {number} group v (total_digit total field its position place served amount from to) e f =
       let same_group : its ≡ group = cc in
       let same_place : place ≡ 1 = cc in
-      let same_wheel : digit_wheel wheel digits (decimals_of field.kind) position ≡ v = cc in
+      let same_wheel : digit_wheel total.wheel total.digits (decimals_of field.kind) position ≡ v = cc in
       record {
-        level = level;
-        wheel = wheel;
-        name = name;
-        digits = digits;
-        mark = mark;
+        asked = total;
         field = field;
         position = position;
         says_total = refl;
@@ -64,26 +55,18 @@ module _ (lines : List Line) (plan : Lists) where
 
   -- a total whose printing cycle reads a group out
   pub record ReadOutOf (number : ℕ) (statement : Statement) (cycle : ℕ) (group : Group) : Type 0 where
-    pub level : Level
-    pub wheel : ℕ
-    pub name : List ℕ
-    pub digits : ℕ
-    pub mark : Option Mark
-    pub says_total : statement ≡ says.TotalAmount level wheel name digits mark
+    pub asked : TotalLine
+    pub says_total : statement ≡ says.TotalAmount asked
     pub served : ServesTotal lines plan number group
-    pub at : level_number level ≡ cycle
+    pub at : level_number asked.level ≡ cycle
 
   pub read-out-of : {number : ℕ} {statement : Statement} {exit entry : Hub} (cycle : ℕ) (group : Group)
       → LineWire lines plan number statement exit entry → exit ≡ PX cycle 3 → entry ≡ RO group → ReadOutOf number statement cycle group
-  read-out-of {number} cycle group (read_out level wheel name digits mark its served) e f =
+  read-out-of {number} cycle group (read_out total its served) e f =
       let same_group : its ≡ group = cc in
-      let same_cycle : level_number level ≡ cycle = cc in
+      let same_cycle : level_number total.level ≡ cycle = cc in
       record {
-        level = level;
-        wheel = wheel;
-        name = name;
-        digits = digits;
-        mark = mark;
+        asked = total;
         says_total = refl;
         served = subst (ServesTotal lines plan number) same_group served;
         at = same_cycle;
@@ -100,15 +83,15 @@ module _ (lines : List Line) (plan : Lists) where
 
   pub carry-of : {number : ℕ} {statement : Statement} {exit entry : Hub} (from to : Group)
       → LineWire lines plan number statement exit entry → exit ≡ CO from → entry ≡ CI to → CarryOf number from to
-  carry-of from to (carry_up level wheel name digits mark lower upper served) e f =
+  carry-of from to (carry_up total lower upper served) e f =
       let one : panel_group lower ≡ from = cc in
       let other : panel_group upper ≡ to = cc in
       up lower upper served one other
-  carry-of from to (ring level wheel name digits mark rule group served signed) e f =
+  carry-of from to (ring total rule group served signed) e f =
       let one : group ≡ from = cc in
       let other : group ≡ to = cc in
       around (sym one ∙ other)
-  carry-of from to (carry_round level wheel name digits mark rule lower upper served signed) e f =
+  carry-of from to (carry_round total rule lower upper served signed) e f =
       let one : panel_group upper ≡ from = cc in
       let other : panel_group lower ≡ to = cc in
       round lower upper served one other

@@ -5,7 +5,6 @@ use Rattle.std.proofs.lemmas.Bool.Decides.{nat_tests}
 use Rattle.charts.specs.Levels.{level_number}
 use Rattle.charts.specs.Name.{is_same_name}
 use Rattle.charts.specs.declared.chart.Line.{Line}
-use Rattle.charts.specs.declared.level.Level.{Level}
 use Rattle.charts.specs.declared.statement.Statement.{Statement}
 use Rattle.charts.specs.declared.statement.Statement.TheVariants as says
 use Rattle.charts.proofs.Listed.{listed-after, listed-cases, listed-first, listed-none}
@@ -17,18 +16,14 @@ module _ (lines : List Line) (name : List ℕ) where
   total-here level line listed is = by line.statement refl is
     where
       by : (statement : Statement) → line.statement ≡ statement → is_total_at name level statement ≡ true → HasTotal lines name level line.number
-      by (says.TotalAmount its wheel its_name digits mark) said is =
-          let (levels, names) = and_parts (level_number its == level) (is_same_name its_name name) is in
-          let same_level : level_number its ≡ level = grind (arith, nat_tests, levels) in
+      by (says.TotalAmount total) said is =
+          let (levels, names) = and_parts (level_number total.level == level) (is_same_name total.name name) is in
+          let same_level : level_number total.level ≡ level = grind (arith, nat_tests, levels) in
           record {
             line = line;
             listed = listed;
             is_number = refl;
-            its_level = its;
-            wheel = wheel;
-            its_name = its_name;
-            digits = digits;
-            mark = mark;
+            asked = total;
             says_total = said;
             same_level = same_level;
             same_name = names;
@@ -37,7 +32,7 @@ module _ (lines : List Line) (name : List ℕ) where
 
   total-is : (level number : ℕ) (total : HasTotal lines name level number) → is_total_at name level total.line.statement ≡ true
   total-is level number total =
-      let same : (level_number total.its_level == level) ≡ true = grind (arith, nat_tests, total.same_level) in
+      let same : (level_number total.asked.level == level) ≡ true = grind (arith, nat_tests, total.same_level) in
       ap (is_total_at name level) total.says_total ∙ rw (same, total.same_name) refl
 
   -- a total of a level, if there is one
@@ -109,6 +104,6 @@ module _ (lines : List Line) (name : List ℕ) where
       record {
         line = t.line;
         listed = t.listed;
-        tells = lowest t.its_level t.wheel t.its_name t.digits t.mark t.says_total t.same_name
+        tells = lowest t.asked t.says_total t.same_name
             (subst (IsLowest lines name) (sym t.same_level) l.lowest_one);
       }

@@ -12,7 +12,6 @@ use Rattle.charts.specs.Field.{column_of_rule, columns_of, decimals_of, sign_col
 use Rattle.charts.specs.Levels.{level_number}
 use Rattle.charts.specs.Name.{is_same_name}
 use Rattle.charts.specs.declared.chart.Line.{Line}
-use Rattle.charts.specs.declared.level.Level.{Level}
 use Rattle.charts.specs.declared.statement.DetailOption.{DetailOption}
 use Rattle.charts.specs.declared.statement.DetailOption.TheVariants as shown
 use Rattle.charts.specs.declared.statement.Field.{Field}
@@ -22,6 +21,7 @@ use Rattle.charts.specs.declared.statement.Mark.{Mark}
 use Rattle.charts.specs.declared.statement.Mark.TheVariants as mark_kind
 use Rattle.charts.specs.declared.statement.SignRule.{SignRule}
 use Rattle.charts.specs.declared.statement.Statement.{Statement}
+use Rattle.charts.specs.declared.statement.TotalLine.{TotalLine}
 use Rattle.charts.specs.declared.statement.Statement.TheVariants as says
 use Rattle.charts.proofs.Listed.{any-passing, given-by}
 use Rattle.charts.proofs.Rising.{one-line as line-by-number}
@@ -111,24 +111,16 @@ mark-punched mark_kind.Minus = record { character = 45; there = refl; punch = re
 module _ (lines : List Line) (plan : Lists) where
   -- a total that a pilot has a group subtract from
   record MinusOf (number : ℕ) (statement : Statement) (pilot : ℕ) (group : Group) : Type 0 where
-    level : Level
-    wheel : ℕ
-    name : List ℕ
-    digits : ℕ
-    mark : Option Mark
-    says_total : statement ≡ says.TotalAmount level wheel name digits mark
+    asked : TotalLine
+    says_total : statement ≡ says.TotalAmount asked
     served : ServesTotal lines plan number group
-    its_pilot : pilot_for plan name ≡ Some pilot
+    its_pilot : pilot_for plan asked.name ≡ Some pilot
 
-  minus-by : {number : ℕ} (level : Level) (wheel : ℕ) (name : List ℕ) (digits : ℕ) (mark : Option Mark) (its pilot : ℕ) (its_group group : Group)
-      → ServesTotal lines plan number its_group → pilot_for plan name ≡ Some its → its ≡ pilot → its_group ≡ group
-      → MinusOf number (says.TotalAmount level wheel name digits mark) pilot group
-  minus-by {number} level wheel name digits mark its pilot its_group group served its_pilot same_pilot same_group = record {
-    level = level;
-    wheel = wheel;
-    name = name;
-    digits = digits;
-    mark = mark;
+  minus-by : {number : ℕ} (total : TotalLine) (its pilot : ℕ) (its_group group : Group)
+      → ServesTotal lines plan number its_group → pilot_for plan total.name ≡ Some its → its ≡ pilot → its_group ≡ group
+      → MinusOf number (says.TotalAmount total) pilot group
+  minus-by {number} total its pilot its_group group served its_pilot same_pilot same_group = record {
+    asked = total;
     says_total = refl;
     served = subst (ServesTotal lines plan number) same_group served;
     its_pilot = its_pilot ∙ ap Some same_pilot;
@@ -137,10 +129,10 @@ module _ (lines : List Line) (plan : Lists) where
   minus-of : {number : ℕ} {statement : Statement} {exit entry : Hub} (rule : SignRule) (pilot : ℕ) (group : Group)
       → LineWire lines plan number statement exit entry → exit ≡ negative_side rule pilot 1 → entry ≡ MI group
       → MinusOf number statement pilot group
-  minus-of rule pilot group (entry_minus level wheel name digits mark own its its_group low served signed its_pilot) e f =
+  minus-of rule pilot group (entry_minus total own its its_group low served signed its_pilot) e f =
       let same_pilot : its ≡ pilot = (same-side own rule its pilot 1 1 e).0 in
       let same_group : its_group ≡ group = cc in
-      minus-by level wheel name digits mark its pilot its_group group served its_pilot same_pilot same_group
+      minus-by total its pilot its_group group served its_pilot same_pilot same_group
   minus-of rule pilot group other e f = apart (to_minus is_side) e f (side-is rule pilot 1) refl
 
   -- an amount whose mark a pilot puts on a wheel
@@ -193,10 +185,9 @@ module _ (chart : Chart) (setup : Wiring) (lawful : IsLawful chart) (rise : Numb
       })
 
   -- the pilot that subtracts from the counter of a total is that of its amount
-  pub total-tells : (line : Line) (level : Level) (wheel : ℕ) (name : List ℕ) (digits : ℕ) (mark : Option Mark) (rule : SignRule) (pilot : ℕ)
-      → Contains chart.lines line → line.statement ≡ says.TotalAmount level wheel name digits mark
-      → LeadsToTotal chart.lines its setup rule pilot line.number → pilot_for its name ≡ Some pilot
-  total-tells line level wheel name digits mark rule pilot listed said leads =
+  pub total-tells : (line : Line) (total : TotalLine) (rule : SignRule) (pilot : ℕ) → Contains chart.lines line
+      → line.statement ≡ says.TotalAmount total → LeadsToTotal chart.lines its setup rule pilot line.number → pilot_for its total.name ≡ Some pilot
+  total-tells line total rule pilot listed said leads =
       let group = panel_group (units_group leads.counter) in
       let wire : ChartWire chart.lines its (negative_side rule pilot 1) (MI group) =
       (wired.wired.wires (negative_side rule pilot 1) (MI group)).0 leads.leads in
@@ -204,9 +195,9 @@ module _ (chart : Chart) (setup : Wiring) (lawful : IsLawful chart) (rise : Numb
       let numbers = serves-own chart.lines its wired.planned wire.line.number line.number group m.served
       (record { counter = leads.counter; there = leads.served; has = units-of leads.counter }) in
       let lines = line-by-number chart.lines chart.end wire.line line rise wire.listed listed numbers in
-      let says_same : says.TotalAmount m.level m.wheel m.name m.digits m.mark ≡ says.TotalAmount level wheel name digits mark =
+      let says_same : says.TotalAmount m.asked ≡ says.TotalAmount total =
       sym m.says_total ∙ ap (λ (l : Line). l.statement) lines ∙ said in
-      let names : m.name ≡ name = cc in
+      let names : m.asked.name ≡ total.name = cc in
       ap (pilot_for its) (sym names) ∙ m.its_pilot
 
   -- and so is the one that leads to the wheel of its mark
@@ -235,15 +226,15 @@ module _ (chart : Chart) (setup : Wiring) (lawful : IsLawful chart) (rise : Numb
       ap (pilot_for its) names ∙ m.its_pilot
 
   -- the lowest total tells the pilot
-  pub lowest-told : (line : Line) (level : Level) (wheel : ℕ) (name : List ℕ) (digits : ℕ) (mark : Option Mark) (rule : SignRule) (pilot : ℕ)
-      (counter : TotalCounter) → Contains chart.lines line → line.statement ≡ says.TotalAmount level wheel name digits mark
-      → IsLowest chart.lines name (level_number level) → IsSigned chart.lines name rule → pilot_for its name ≡ Some pilot
+  pub lowest-told : (line : Line) (total : TotalLine) (rule : SignRule) (pilot : ℕ) (counter : TotalCounter)
+      → Contains chart.lines line → line.statement ≡ says.TotalAmount total
+      → IsLowest chart.lines total.name (level_number total.level) → IsSigned chart.lines total.name rule → pilot_for its total.name ≡ Some pilot
       → counter_for chart.lines its line.number ≡ Some counter → LeadsToTotal chart.lines its setup rule pilot line.number
-  lowest-told line level wheel name digits mark rule pilot counter listed said low signed its_pilot served = record {
+  lowest-told line total rule pilot counter listed said low signed its_pilot served = record {
     counter = counter;
     served = served;
     leads = asks line listed said
-        (entry_minus level wheel name digits mark rule pilot (panel_group (units_group counter)) low
+        (entry_minus total rule pilot (panel_group (units_group counter)) low
         (record { counter = counter; there = served; has = units-of counter }) signed its_pilot);
   }
 
@@ -292,24 +283,26 @@ module _ (chart : Chart) (setup : Wiring) (lawful : IsLawful chart) (rise : Numb
         subst (λ w. HasWire setup (negative_side amount.rule pilot 2) (W w)) (sym at)
         (mark-told line wheel name mark amount.field amount.rule pilot listed said its-field is.ruled (ap (pilot_for its) equal-names ∙ served))
 
-    pub total-yes : (line : Line) (level : Level) (wheel digits : ℕ) (mark : Option Mark) (pilot : ℕ) → Contains chart.lines line
-        → line.statement ≡ says.TotalAmount level wheel name digits mark → LeadsToTotal chart.lines its setup amount.rule pilot line.number
-        → pilot_for its amount.field.name ≡ Some pilot
-    total-yes line level wheel digits mark pilot listed said leads =
-        ap (pilot_for its) (sym equal-names) ∙ total-tells line level wheel name digits mark amount.rule pilot listed said leads
+  module _ (amount : SignedAmount) (is : IsSignedOf chart.lines amount) where
+    pub total-yes : (line : Line) (total : TotalLine) (pilot : ℕ) → is_same_name total.name amount.field.name ≡ true
+        → Contains chart.lines line → line.statement ≡ says.TotalAmount total
+        → LeadsToTotal chart.lines its setup amount.rule pilot line.number → pilot_for its amount.field.name ≡ Some pilot
+    total-yes line total pilot names listed said leads =
+        ap (pilot_for its) (sym (is_same_name-equal total.name amount.field.name names))
+        ∙ total-tells line total amount.rule pilot listed said leads
 
-    pub total-no : (line : Line) (level : Level) (wheel digits : ℕ) (mark : Option Mark) (pilot : ℕ) → Contains chart.lines line
-        → line.statement ≡ says.TotalAmount level wheel name digits mark → pilot_for its amount.field.name ≡ Some pilot
+    pub total-no : (line : Line) (total : TotalLine) (pilot : ℕ) → Contains chart.lines line
+        → line.statement ≡ says.TotalAmount total → pilot_for its amount.field.name ≡ Some pilot
         → TellsPilot chart.lines amount.field.name line → LeadsToTotal chart.lines its setup amount.rule pilot line.number
-    total-no line level wheel digits mark pilot listed said served (lowest its_level its_wheel its_name its_digits its_mark says_it same low) =
-        let total = total-of chart.lines line its_level its_wheel its_name its_digits its_mark listed says_it in
-        let counter = counter-given chart.lines its its_name (level_number its_level) line.number wired.planned total in
-        let own_names = is_same_name-equal its_name amount.field.name same in
-        lowest-told line its_level its_wheel its_name its_digits its_mark amount.rule pilot counter.0 listed says_it
-        (subst (λ n. IsLowest chart.lines n (level_number its_level)) (sym own_names) low)
+    total-no line total pilot listed said served (lowest asked says_it same low) =
+        let has = total-of chart.lines line asked listed says_it in
+        let counter = counter-given chart.lines its asked.name (level_number asked.level) line.number wired.planned has in
+        let own_names = is_same_name-equal asked.name amount.field.name same in
+        lowest-told line asked amount.rule pilot counter.0 listed says_it
+        (subst (λ n. IsLowest chart.lines n (level_number asked.level)) (sym own_names) low)
         (record { field = amount.field; named = ap (field_named chart.lines) own_names ∙ is.named; ruled = is.ruled })
         (ap (pilot_for its) own_names ∙ served) counter.1
-    total-no line level wheel digits mark pilot listed said served (marked its_wheel its_name its_mark says_it same) =
+    total-no line total pilot listed said served (marked its_wheel its_name its_mark says_it same) =
         let wrong = sym said ∙ says_it in
         cc
 
@@ -390,16 +383,12 @@ module _ (chart : Chart) (lawful : IsLawful chart) where
             listed = w.listed;
             tells = marked wheel its mark (said ∙ ap (says.DetailField wheel its) is) same;
           }
-      by w (says.TotalAmount level wheel its digits mark) said same =
-          total-told chart.lines name (level_number level) w.line.number (record {
+      by w (says.TotalAmount total) said same =
+          total-told chart.lines name (level_number total.level) w.line.number (record {
             line = w.line;
             listed = w.listed;
             is_number = refl;
-            its_level = level;
-            wheel = wheel;
-            its_name = its;
-            digits = digits;
-            mark = mark;
+            asked = total;
             says_total = said;
             same_level = refl;
             same_name = same;

@@ -1,8 +1,7 @@
 -- On a panel that is wired for a chart by a plan, the wires that name a counter name that of the plan.
-use Rattle.std.proofs.Common.{◌≡◌, ◌∙◌, refl, sym, ap, subst, ℕ, ◌+◌, ◌<◌, ◌≤◌, true, List, Contains, Option, Some, ◌⊎◌, inl, inr, arith, if◌then◌else◌, nat_lt, option_map}
-use Rattle.std.proofs.lemmas.Bool.Decides.{nat_tests}
+use Rattle.std.proofs.Common.{◌≡◌, ◌∙◌, refl, sym, ap, subst, ℕ, ◌+◌, ◌<◌, ◌≤◌, true, Contains, Some, ◌⊎◌, inl, inr, arith, if◌then◌else◌, option_map}
 use Rattle.std.proofs.lemmas.Option.{same_Some}
-use Rattle.capacity.specs.Capacities.{HasGroup, standard}
+use Rattle.capacity.specs.Capacities.{standard}
 use Rattle.capacity.specs.declared.group.CounterGroup.{CounterGroup}
 use Rattle.chart_rules.specs.Rules.{IsLawful}
 use Rattle.charts.specs.Chart.{Chart, NumbersRise}
@@ -13,8 +12,6 @@ use Rattle.charts.specs.declared.level.Level.{Level}
 use Rattle.charts.specs.declared.level.Level.TheVariants as level
 use Rattle.charts.specs.declared.statement.BodyLine.TheVariants as body
 use Rattle.charts.specs.declared.statement.Field.{Field}
-use Rattle.charts.specs.declared.statement.Mark.{Mark}
-use Rattle.charts.specs.declared.statement.Statement.{Statement}
 use Rattle.charts.specs.declared.statement.Statement.TheVariants as says
 use Rattle.charts.proofs.Rising.{one-line as line-by-number}
 use Rattle.field_rules.specs.Fields.{field_named, fields_of}
@@ -25,22 +22,21 @@ use Rattle.plans.specs.Counters.{HasCounter, IsEnoughFor}
 use Rattle.plans.specs.Plans.{Lists, ServesChart}
 use Rattle.plans.specs.declared.counter.TotalCounter.{TotalCounter}
 use Rattle.plans.specs.declared.counter.TotalCounter.TheVariants as of
-use Rattle.print_rules.specs.Items.{figure_width, is_same_line, item_of, mark_width, total_item}
+use Rattle.print_rules.specs.Items.{is_same_line, item_of, total_item}
 use Rattle.print_rules.specs.Wheels.{HasWheel}
 use Rattle.print_rules.specs.declared.items.PrintedLine.TheVariants.{Body}
 use Rattle.printed_lines.proofs.Meeting.{one-line}
-use Rattle.setups.specs.Wiring.{HasWire, Wiring}
+use Rattle.setups.specs.Wiring.{Wiring}
 use Rattle.wanted.specs.ChartTotals.{need_of}
-use Rattle.wiring_table.specs.Figures.{IsAmount, digit_wheel}
-use Rattle.wiring_table.specs.Parts.{HasPanelGroup, HasTotal, ServesPosition, ServesTotal, StandsAt, counter_for, panel_group}
+use Rattle.wiring_table.specs.Figures.{digit_wheel}
+use Rattle.wiring_table.specs.Parts.{ServesPosition, ServesTotal, StandsAt, counter_for, panel_group}
 use Rattle.wiring_table.specs.WiredFor.{WiredFor}
 use Rattle.wiring_table.specs.Wires.{ChartWire, LineWire}
 use Rattle.wiring_table.specs.Wires.LineWire.{carry_up, read_out, total_digit}
-use Rattle.wiring_table.proofs.Groups.{counter-enough, pair-apart, position-serves, serves-own}
-use Rattle.wiring_table.proofs.Totals.{total-of}
+use Rattle.wiring_table.proofs.Groups.{pair-apart, position-serves, serves-own}
 use Rattle.panel_plans.specs.Wired.{TotalOn, units_wheel}
 use Rattle.panel_plans.specs.Shown.{CarriesTo, IsShown, ShowsUnits, units_group}
-use Rattle.panel_plans.proofs.Inverse.{CarryOf, DigitOf, ReadOutOf, around, carry-of, digit-of, read-out-of, round, up}
+use Rattle.panel_plans.proofs.Inverse.{CarryOf, DigitOf, around, carry-of, digit-of, read-out-of, round, up}
 use Rattle.panel_plans.proofs.Rows.{width-most}
 use Rattle.panel_plans.proofs.Wheels.{on-wheels, own-position}
 
@@ -60,27 +56,23 @@ module _ (chart : Chart) (plan : Lists) (setup : Wiring) (lawful : IsLawful char
     (planned : ServesChart chart.lines plan) (wired : WiredFor chart.lines plan setup) where
   -- the item that a total is, and the wheels of its digits
   its-item : (line : Line) (total : TotalOn chart.lines line)
-      → item_of (fields_of chart.lines) line.statement ≡ Some (total_item total.level total.wheel total.digits total.mark total.field.kind)
+      → item_of (fields_of chart.lines) line.statement ≡ Some (total_item total.asked total.field.kind)
   its-item line total =
       ap (item_of (fields_of chart.lines)) total.says_total
-      ∙ ap (λ o. option_map (λ (field : Field). total_item total.level total.wheel total.digits total.mark field.kind) o) total.amount.named
+      ∙ ap (λ o. option_map (λ (field : Field). total_item total.asked field.kind) o) total.amount.named
 
-  digit-on : (line : Line) (total : TotalOn chart.lines line) (position : ℕ) → 1 ≤ position → position ≤ total.digits
-      → HasWheel (total_item total.level total.wheel total.digits total.mark total.field.kind)
-      (digit_wheel total.wheel total.digits (decimals_of total.field.kind) position)
+  digit-on : (line : Line) (total : TotalOn chart.lines line) (position : ℕ) → 1 ≤ position → position ≤ total.asked.digits
+      → HasWheel (total_item total.asked total.field.kind)
+      (digit_wheel total.asked.wheel total.asked.digits (decimals_of total.field.kind) position)
   digit-on line total position from to =
-      let on = on-wheels total.wheel total.digits (decimals_of total.field.kind) position from to in
+      let on = on-wheels total.asked.wheel total.asked.digits (decimals_of total.field.kind) position from to in
       (on.0, omega (arith, on.1))
 
   -- the total of a digit's wire
   abbrev of-digit : (wire_line : Line) (group : Group) (v : ℕ)
       → DigitOf chart.lines plan wire_line.number wire_line.statement group v → TotalOn chart.lines wire_line
   of-digit wire_line group v d = record {
-    level = d.level;
-    wheel = d.wheel;
-    name = d.name;
-    digits = d.digits;
-    mark = d.mark;
+    asked = d.asked;
     field = d.field;
     says_total = d.says_total;
     amount = d.amount;
@@ -91,54 +83,53 @@ module _ (chart : Chart) (plan : Lists) (setup : Wiring) (lawful : IsLawful char
     units = units_wheel chart.lines line total
 
     -- a group that shows the units serves the first position of the total
-    serves-units : (group : CounterGroup) → 1 ≤ total.digits → ShowsUnits setup (level_number total.level) units group
+    serves-units : (group : CounterGroup) → 1 ≤ total.asked.digits → ShowsUnits setup (level_number total.asked.level) units group
         → ServesPosition chart.lines plan line.number 1 (panel_group group) 1
     serves-units group some shows =
         let digit : ChartWire chart.lines plan (GX (panel_group group) 1) (W units) = (wired.wires (GX (panel_group group) 1) (W units)).0 shows.units in
         let d = digit-of chart.lines plan (panel_group group) units digit.wire refl refl in
-        let reads : ChartWire chart.lines plan (PX (level_number total.level) 3) (RO (panel_group group)) =
-        (wired.wires (PX (level_number total.level) 3) (RO (panel_group group))).0 shows.read_out in
-        let r = read-out-of chart.lines plan (level_number total.level) (panel_group group) reads.wire refl refl in
+        let reads : ChartWire chart.lines plan (PX (level_number total.asked.level) 3) (RO (panel_group group)) =
+        (wired.wires (PX (level_number total.asked.level) 3) (RO (panel_group group))).0 shows.read_out in
+        let r = read-out-of chart.lines plan (level_number total.asked.level) (panel_group group) reads.wire refl refl in
         let numbers = serves-own chart.lines plan planned digit.line.number reads.line.number (panel_group group)
         (position-serves chart.lines plan digit.line.number d.position (panel_group group) 1 d.served) r.served in
         let lines = line-by-number chart.lines chart.end digit.line reads.line rise digit.listed reads.listed numbers in
-        let says_same : says.TotalAmount d.level d.wheel d.name d.digits d.mark ≡ says.TotalAmount r.level r.wheel r.name r.digits r.mark =
+        let says_same : says.TotalAmount d.asked ≡ says.TotalAmount r.asked =
         sym d.says_total ∙ ap (λ (l : Line). l.statement) lines ∙ r.says_total in
-        let levels : d.level ≡ r.level = cc in
-        let same_level : level_number d.level ≡ level_number total.level = ap level_number levels ∙ r.at in
+        let levels : d.asked.level ≡ r.asked.level = cc in
+        let same_level : level_number d.asked.level ≡ level_number total.asked.level = ap level_number levels ∙ r.at in
         let its = of-digit digit.line (panel_group group) units d in
         let here = one-line chart lawful line digit.line _ _ units listed digit.listed (its-item line total) (its-item digit.line its)
-        (same-line total.level d.level (sym same_level)) (same-line d.level total.level same_level)
+        (same-line total.asked.level d.asked.level (sym same_level)) (same-line d.asked.level total.asked.level same_level)
         (digit-on line total 1 (omega arith) some)
-        (subst (HasWheel (total_item d.level d.wheel d.digits d.mark d.field.kind)) d.at (digit-on digit.line its d.position d.from d.to)) in
-        let said : says.TotalAmount total.level total.wheel total.name total.digits total.mark
-        ≡ says.TotalAmount d.level d.wheel d.name d.digits d.mark =
+        (subst (HasWheel (total_item d.asked d.field.kind)) d.at (digit-on digit.line its d.position d.from d.to)) in
+        let said : says.TotalAmount total.asked ≡ says.TotalAmount d.asked =
         sym total.says_total ∙ ap (λ (l : Line). l.statement) here ∙ d.says_total in
-        let wheels : total.wheel ≡ d.wheel = cc in
-        let names : total.name ≡ d.name = cc in
-        let counts : total.digits ≡ d.digits = cc in
+        let wheels : total.asked.wheel ≡ d.asked.wheel = cc in
+        let names : total.asked.name ≡ d.asked.name = cc in
+        let counts : total.asked.digits ≡ d.asked.digits = cc in
         let fields : total.field ≡ d.field =
         same_Some total.field d.field (sym total.amount.named ∙ ap (field_named chart.lines) names ∙ d.amount.named) in
-        let at : digit_wheel total.wheel total.digits (decimals_of total.field.kind) 1
-        ≡ digit_wheel total.wheel total.digits (decimals_of total.field.kind) d.position =
-        sym d.at ∙ ap (λ w. digit_wheel w d.digits (decimals_of d.field.kind) d.position) (sym wheels)
-        ∙ ap (λ n. digit_wheel total.wheel n (decimals_of d.field.kind) d.position) (sym counts)
-        ∙ ap (λ (f : Field). digit_wheel total.wheel total.digits (decimals_of f.kind) d.position) (sym fields) in
+        let at : digit_wheel total.asked.wheel total.asked.digits (decimals_of total.field.kind) 1
+        ≡ digit_wheel total.asked.wheel total.asked.digits (decimals_of total.field.kind) d.position =
+        sym d.at ∙ ap (λ w. digit_wheel w d.asked.digits (decimals_of d.field.kind) d.position) (sym wheels)
+        ∙ ap (λ n. digit_wheel total.asked.wheel n (decimals_of d.field.kind) d.position) (sym counts)
+        ∙ ap (λ (f : Field). digit_wheel total.asked.wheel total.asked.digits (decimals_of f.kind) d.position) (sym fields) in
         let position : 1 ≡ d.position =
-        own-position total.wheel total.digits (decimals_of total.field.kind) 1 d.position (omega arith) some d.from
+        own-position total.asked.wheel total.asked.digits (decimals_of total.field.kind) 1 d.position (omega arith) some d.from
         (subst (λ n. d.position ≤ n) (sym counts) d.to) at in
         subst (λ n. ServesPosition chart.lines plan n 1 (panel_group group) 1) (ap (λ (l : Line). l.number) (sym here))
         (subst (λ p. ServesPosition chart.lines plan digit.line.number p (panel_group group) 1) (sym position) d.served)
 
     -- so it is the group of the units of the total's counter
-    pub units-own : (counter : TotalCounter) → 1 ≤ total.digits → counter_for chart.lines plan line.number ≡ Some counter
-        → IsEnoughFor (need_of (field_named chart.lines total.name) total.digits) counter
-        → (group : CounterGroup) → ShowsUnits setup (level_number total.level) units group → group ≡ units_group counter
+    pub units-own : (counter : TotalCounter) → 1 ≤ total.asked.digits → counter_for chart.lines plan line.number ≡ Some counter
+        → IsEnoughFor (need_of (field_named chart.lines total.asked.name) total.asked.digits) counter
+        → (group : CounterGroup) → ShowsUnits setup (level_number total.asked.level) units group → group ≡ units_group counter
     units-own counter some served enough group shows =
         let serves = serves-units group some shows in
         by counter enough (subst (λ c. StandsAt c 1 (panel_group group) 1) (same_Some serves.counter counter (sym serves.there ∙ served)) serves.at.at)
       where
-        by : (counter : TotalCounter) → IsEnoughFor (need_of (field_named chart.lines total.name) total.digits) counter
+        by : (counter : TotalCounter) → IsEnoughFor (need_of (field_named chart.lines total.asked.name) total.asked.digits) counter
             → StandsAt counter 1 (panel_group group) 1 → group ≡ units_group counter
         by (of.Single own) enough stands = sym (same-group own group stands.0)
         by (of.Coupled lower upper) enough (inl stands) = sym (same-group lower group stands.0)
@@ -179,31 +170,31 @@ module _ (chart : Chart) (plan : Lists) (setup : Wiring) (lawful : IsLawful char
 
     -- the wires that name the group of the units are there
     shows : (group : CounterGroup) → ServesTotal chart.lines plan line.number (panel_group group)
-        → ServesPosition chart.lines plan line.number 1 (panel_group group) 1 → 1 ≤ total.digits
-        → ShowsUnits setup (level_number total.level) units group
+        → ServesPosition chart.lines plan line.number 1 (panel_group group) 1 → 1 ≤ total.asked.digits
+        → ShowsUnits setup (level_number total.asked.level) units group
     shows group serves position some = record {
-      read_out = (wired.wires (PX (level_number total.level) 3) (RO (panel_group group))).1 (record {
+      read_out = (wired.wires (PX (level_number total.asked.level) 3) (RO (panel_group group))).1 (record {
         line = line;
         listed = listed;
-        wire = asks (read_out total.level total.wheel total.name total.digits total.mark (panel_group group) serves);
+        wire = asks (read_out total.asked (panel_group group) serves);
       });
       units = (wired.wires (GX (panel_group group) 1) (W units)).1 (record {
         line = line;
         listed = listed;
-        wire = asks (total_digit total.level total.wheel total.name total.digits total.mark total.field (panel_group group) 1 1 position
+        wire = asks (total_digit total.asked total.field (panel_group group) 1 1 position
             total.amount (omega arith) some);
       });
     }
       where
         asks : {exit entry : Hub}
-            → LineWire chart.lines plan line.number (says.TotalAmount total.level total.wheel total.name total.digits total.mark) exit entry
+            → LineWire chart.lines plan line.number (says.TotalAmount total.asked) exit entry
             → LineWire chart.lines plan line.number line.statement exit entry
         asks {exit} {entry} wire = subst (λ s. LineWire chart.lines plan line.number s exit entry) (sym total.says_total) wire
 
     -- so the counter of the plan is shown
-    pub its-shown : (counter : TotalCounter) → 1 ≤ total.digits → counter_for chart.lines plan line.number ≡ Some counter
-        → HasCounter standard counter → IsEnoughFor (need_of (field_named chart.lines total.name) total.digits) counter
-        → IsShown setup (level_number total.level) units (need_of (field_named chart.lines total.name) total.digits) counter
+    pub its-shown : (counter : TotalCounter) → 1 ≤ total.asked.digits → counter_for chart.lines plan line.number ≡ Some counter
+        → HasCounter standard counter → IsEnoughFor (need_of (field_named chart.lines total.asked.name) total.asked.digits) counter
+        → IsShown setup (level_number total.asked.level) units (need_of (field_named chart.lines total.asked.name) total.asked.digits) counter
     its-shown (of.Single own) some served there enough =
         let wide : 1 ≤ own.width = omega (arith, some, enough) in
         let most = width-most own there in (
@@ -229,15 +220,15 @@ module _ (chart : Chart) (plan : Lists) (setup : Wiring) (lawful : IsLawful char
               line = line;
               listed = listed;
               wire = subst (λ s. LineWire chart.lines plan line.number s (CO (panel_group lower)) (CI (panel_group upper))) (sym total.says_total)
-                  (carry_up total.level total.wheel total.name total.digits total.mark lower upper served);
+                  (carry_up total.asked lower upper served);
             });
           },
         )
 
     -- and no other is
-    pub only-shown : (counter other : TotalCounter) → 1 ≤ total.digits → counter_for chart.lines plan line.number ≡ Some counter
-        → HasCounter standard counter → IsEnoughFor (need_of (field_named chart.lines total.name) total.digits) counter
-        → IsShown setup (level_number total.level) units (need_of (field_named chart.lines total.name) total.digits) other → other ≡ counter
+    pub only-shown : (counter other : TotalCounter) → 1 ≤ total.asked.digits → counter_for chart.lines plan line.number ≡ Some counter
+        → HasCounter standard counter → IsEnoughFor (need_of (field_named chart.lines total.asked.name) total.asked.digits) counter
+        → IsShown setup (level_number total.asked.level) units (need_of (field_named chart.lines total.asked.name) total.asked.digits) other → other ≡ counter
     only-shown (of.Single own) (of.Single group) some served there enough (narrow, of_machine, its) =
         ap of.Single (units-own (of.Single own) some served enough group its)
     only-shown (of.Single own) (of.Coupled low high) some served there enough (wide, low_there, high_there, its, carries) =

@@ -3,17 +3,16 @@ use Rattle.std.proofs.Common.{◌≡◌, ◌∙◌, refl, sym, ap, subst, ℕ, �
 use Rattle.std.specs.List.{cons_option}
 use Rattle.std.proofs.lemmas.Bool.{cases_lt}
 use Rattle.std.proofs.lemmas.List.{drop_all, get_or-append_right, get_or_append_left, length-append}
-use Rattle.std.proofs.lemmas.List.Elements.{Contains-append_cases, Contains-push_cases}
+use Rattle.std.proofs.lemmas.List.Elements.{Contains-push_cases}
 use Rattle.std.proofs.lemmas.Option.{get_or_from_slice_get, slice_get_within}
 use Rattle.std.proofs.Math.Seq.{drop-cons}
 use Rattle.charts.specs.Chart.{NumbersRise}
 use Rattle.charts.specs.Levels.{level_number}
 use Rattle.charts.specs.declared.chart.Line.{Line}
-use Rattle.charts.specs.declared.level.Level.{Level}
-use Rattle.charts.specs.declared.statement.Mark.{Mark}
 use Rattle.charts.specs.declared.statement.Statement.{Statement}
+use Rattle.charts.specs.declared.statement.TotalLine.{TotalLine}
 use Rattle.charts.specs.declared.statement.Statement.TheVariants as says
-use Rattle.charts.proofs.Listed.{given-by, listed-after, listed-cases, listed-first, listed-none}
+use Rattle.charts.proofs.Listed.{given-by, listed-after, listed-first, listed-none}
 use Rattle.charts.proofs.Rising.{NumbersRise-tail, number-above}
 use Rattle.plans.specs.Plans.{Lists, ServesChart}
 use Rattle.plans.specs.declared.counter.TotalCounter.{TotalCounter}
@@ -27,26 +26,18 @@ use Rattle.panel_plans.specs.Wired.{served_by, served_on}
 
 -- what a line says that is a total
 pub record IsTotal (lines : List Line) (line : Line) (total : Total) : Type 0 where
-  pub level : Level
-  pub wheel : ℕ
-  pub name : List ℕ
-  pub digits : ℕ
-  pub mark : Option Mark
-  pub says_total : line.statement ≡ says.TotalAmount level wheel name digits mark
+  pub asked : TotalLine
+  pub says_total : line.statement ≡ says.TotalAmount asked
   pub number : total.line ≡ line.number
 
 pub is-total : (lines : List Line) (line : Line) (total : Total) → line_total lines line.number line.statement ≡ Some total → IsTotal lines line total
 is-total lines line total is = by line.statement refl is
   where
     by : (statement : Statement) → line.statement ≡ statement → line_total lines line.number statement ≡ Some total → IsTotal lines line total
-    by (says.TotalAmount level wheel name digits mark) said is =
+    by (says.TotalAmount asked) said is =
         let number : line.number ≡ total.line = cc in
         record {
-          level = level;
-          wheel = wheel;
-          name = name;
-          digits = digits;
-          mark = mark;
+          asked = asked;
           says_total = said;
           number = sym number;
         }
@@ -92,8 +83,8 @@ module _ (lines : List Line) (end : ℕ) (plan : Lists) (rise : NumbersRise line
       → (counter : TotalCounter) × (counter_for lines plan line.number ≡ Some counter)
   its-counter line total listed is =
       let t = is-total lines line total is in
-      counter-given lines plan t.name (level_number t.level) line.number planned
-      (total-of lines line t.level t.wheel t.name t.digits t.mark listed t.says_total)
+      counter-given lines plan t.asked.name (level_number t.asked.level) line.number planned
+      (total-of lines line t.asked listed t.says_total)
 
   suffix-counters : (suffix : List Line) (front : List Total) → totals_of lines ≡ front ++ filter_map total-on suffix
       → ((line : Line) → Contains suffix line → Contains lines line)

@@ -1,13 +1,13 @@
 -- The wires that tell the pilot of an amount: the lowest total of the amount, or its mark on the line of a card.
-use Rattle.std.specs.Prelude.{◌≡◌, ℕ, true, List, Contains, Option, Some}
+use Rattle.std.specs.Prelude.{◌≡◌, ℕ, true, List, Contains, Some}
 use Rattle.charts.specs.Levels.{level_number}
 use Rattle.charts.specs.Name.{is_same_name}
 use Rattle.charts.specs.declared.chart.Line.{Line}
-use Rattle.charts.specs.declared.level.Level.{Level}
 use Rattle.charts.specs.declared.statement.DetailOption.TheVariants as shown
 use Rattle.charts.specs.declared.statement.Mark.{Mark}
 use Rattle.charts.specs.declared.statement.SignRule.{SignRule}
 use Rattle.charts.specs.declared.statement.Statement.TheVariants as says
+use Rattle.charts.specs.declared.statement.TotalLine.{TotalLine}
 use Rattle.field_rules.specs.Fields.{field_named}
 use Rattle.hubs.specs.declared.hub.Hub.TheVariants.{MI}
 use Rattle.panel_plans.specs.Shown.{units_group}
@@ -32,9 +32,8 @@ pub record LeadsToTotal (lines : List Line) (plan : Lists) (setup : Wiring) (rul
 -- a line tells the pilot of the amount of a name: it has the lowest total of the amount, or its mark
 pub data TellsPilot (lines : List Line) (name : List ℕ) (line : Line) : Type 0 where
   lowest :
-      (level : Level) (wheel : ℕ) (its : List ℕ) (digits : ℕ) (mark : Option Mark)
-      → line.statement ≡ says.TotalAmount level wheel its digits mark → is_same_name its name ≡ true
-      → IsLowest lines name (level_number level) → TellsPilot lines name line
+      (total : TotalLine) → line.statement ≡ says.TotalAmount total → is_same_name total.name name ≡ true
+      → IsLowest lines name (level_number total.level) → TellsPilot lines name line
   marked :
       (wheel : ℕ) (its : List ℕ) (mark : Mark) → line.statement ≡ says.DetailField wheel its (shown.Marked mark)
       → is_same_name its name ≡ true → TellsPilot lines name line

@@ -12,14 +12,14 @@ use Rattle.wanted.specs.ChartTotals.{need_of}
 
 -- how many positions the total on a line needs
 abbrev pub its_need : (lines : List Line) (line : Line) → TotalOn lines line → ℕ
-its_need lines line total = need_of (field_named lines total.name) total.digits
+its_need lines line total = need_of (field_named lines total.asked.name) total.asked.digits
 
 -- where its units stand, and what it needs
 abbrev pub units_of : (lines : List Line) (line : Line) → TotalOn lines line → Units
 units_of lines line total =
-    record { level = level_number total.level; wheel = units_wheel lines line total; need = its_need lines line total }
+    record { level = level_number total.asked.level; wheel = units_wheel lines line total; need = its_need lines line total }
 
 -- a counter shows it
 abbrev pub IsShownOn : (lines : List Line) → Wiring → (line : Line) → TotalOn lines line → TotalCounter → Type 0
 IsShownOn lines setup line total counter =
-    IsShown setup (level_number total.level) (units_wheel lines line total) (its_need lines line total) counter
+    IsShown setup (level_number total.asked.level) (units_wheel lines line total) (its_need lines line total) counter

@@ -2,10 +2,9 @@
 use Rattle.std.specs.Prelude.{◌≡◌, ℕ, List, Option, Some, None}
 use Rattle.charts.specs.Field.{decimals_of}
 use Rattle.charts.specs.declared.chart.Line.{Line}
-use Rattle.charts.specs.declared.level.Level.{Level}
 use Rattle.charts.specs.declared.statement.Field.{Field}
-use Rattle.charts.specs.declared.statement.Mark.{Mark}
 use Rattle.charts.specs.declared.statement.Statement.TheVariants as says
+use Rattle.charts.specs.declared.statement.TotalLine.{TotalLine}
 use Rattle.plans.specs.Plans.{Lists, ServesChart}
 use Rattle.plans.specs.declared.counter.TotalCounter.{TotalCounter}
 use Rattle.setups.specs.Wiring.{Wiring}
@@ -22,18 +21,14 @@ pub record IsWiredBy (lines : List Line) (setup : Wiring) (plan : Lists) : Type 
 
 -- a line of a chart is a total of an amount
 pub record TotalOn (lines : List Line) (line : Line) : Type 0 where
-  pub level : Level
-  pub wheel : ℕ
-  pub name : List ℕ
-  pub digits : ℕ
-  pub mark : Option Mark
+  pub asked : TotalLine
   pub field : Field
-  pub says_total : line.statement ≡ says.TotalAmount level wheel name digits mark
-  pub amount : IsAmount lines name field
+  pub says_total : line.statement ≡ says.TotalAmount asked
+  pub amount : IsAmount lines asked.name field
 
 -- the wheel of its units
 abbrev pub units_wheel : (lines : List Line) (line : Line) → TotalOn lines line → ℕ
-units_wheel lines line total = digit_wheel total.wheel total.digits (decimals_of total.field.kind) 1
+units_wheel lines line total = digit_wheel total.asked.wheel total.asked.digits (decimals_of total.field.kind) 1
 
 -- the counter of the total on a line with a number, if it is one
 abbrev pub served_by : List Line → Lists → ℕ → Option Total → Option TotalCounter

@@ -62,20 +62,14 @@ pub(crate) fn units_on(chart: &Chart, line: &Line) -> Option<Units>
     ensures { (total : TotalOn chart.now.lines line.now) → units_wheel chart.now.lines line.now total < 256
         → result ≡ Some (units_of chart.now.lines line.now total) }
 {
-    let total = line_total(chart, line)?;
+    let need = line_total(chart, line)?.need;
     match &line.statement {
-        Statement::TotalAmount {
-            level,
-            wheel,
-            name,
-            digits,
-            ..
-        } => {
-            let wheel = units_wheel(*wheel, *digits, decimals_of(chart, *name))?;
+        Statement::TotalAmount(total) => {
+            let decimals = decimals_of(chart, total.name);
             Some(Units {
-                level: level.number(),
-                wheel,
-                need: total.need,
+                level: total.level.number(),
+                wheel: units_wheel(total.wheel, total.digits, decimals)?,
+                need,
             })
         }
         _ => None,

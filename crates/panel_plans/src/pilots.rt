@@ -135,8 +135,8 @@ fn tells_pilot(chart: &Chart, setup: &Setup, line: &Line, amount: &SignedAmount,
             }
             _ => false,
         },
-        Statement::TotalAmount { name, .. } => {
-            name.is(wanted) && leads_to_total(chart, setup, line, rule, pilot)
+        Statement::TotalAmount(total) => {
+            total.name.is(wanted) && leads_to_total(chart, setup, line, rule, pilot)
         }
         _ => false,
     }

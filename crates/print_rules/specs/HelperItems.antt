@@ -14,14 +14,14 @@ use Rattle.std.specs.Option.{option_and_then}
 abbrev pub name_printed : Statement → Option (List ℕ)
 name_printed (says.DetailField wheel name shown) = Some name
 name_printed (says.TotalText level wheel name) = Some name
-name_printed (says.TotalAmount level wheel name digits mark) = Some name
+name_printed (says.TotalAmount total) = Some total.name
 name_printed other = None
 
 -- what a line puts on the report of a field, if it puts one there
 abbrev pub field_item : Field → Statement → Option Item
 field_item field (says.DetailField wheel name shown) = Some (detail_item wheel shown (columns_of field) field.kind)
 field_item field (says.TotalText level wheel name) = Some (text_item (Body (body.Total level)) wheel (columns_of field))
-field_item field (says.TotalAmount level wheel name digits mark) = Some (total_item level wheel digits mark field.kind)
+field_item field (says.TotalAmount total) = Some (total_item total field.kind)
 field_item field other = None
 
 -- the item that a line is, if it is one, where its name stands for a field, or for none

@@ -2,7 +2,6 @@
 use Rattle.std.specs.Prelude.{ℕ, ◌+◌, Bool, false, List, Option, Some, None, option_map, length, nat_lt, ◌==◌}
 use Rattle.std.specs.Prelude.{if◌then◌else◌}
 use Rattle.charts.specs.Headings.{heading_number}
-use Rattle.charts.specs.declared.level.Level.{Level}
 use Rattle.charts.specs.declared.statement.BodyLine.TheVariants as body
 use Rattle.charts.specs.declared.statement.DetailOption.{DetailOption}
 use Rattle.charts.specs.declared.statement.DetailOption.TheVariants as shown
@@ -13,6 +12,7 @@ use Rattle.charts.specs.declared.statement.Mark.{Mark}
 use Rattle.charts.specs.declared.statement.Mark.TheVariants as mark
 use Rattle.charts.specs.declared.statement.Statement.{Statement}
 use Rattle.charts.specs.declared.statement.Statement.TheVariants as says
+use Rattle.charts.specs.declared.statement.TotalLine.{TotalLine}
 use Rattle.print_rules.specs.declared.items.Figure.{Figure}
 use Rattle.print_rules.specs.declared.items.Item.{Item}
 use Rattle.print_rules.specs.declared.items.PrintedLine.{PrintedLine}
@@ -28,7 +28,7 @@ printed_line_of (says.DetailLiteral wheel literal) = Some (Body body.Detail)
 printed_line_of (says.DetailField wheel name shown) = Some (Body body.Detail)
 printed_line_of (says.TotalLiteral level wheel literal) = Some (Body (body.Total level))
 printed_line_of (says.TotalText level wheel name) = Some (Body (body.Total level))
-printed_line_of (says.TotalAmount level wheel name digits mark) = Some (Body (body.Total level))
+printed_line_of (says.TotalAmount total) = Some (Body (body.Total total.level))
 printed_line_of other = None
 
 -- whether two lines of the report are the same
@@ -68,9 +68,10 @@ detail_item wheel shown columns (holds.Amount decimals rule) =
     figure_item (Body body.Detail) wheel (record { digits = columns; decimals = decimals; mark = mark_shown shown })
 
 -- a total of an amount: its own digits, and the decimals of the amount
-abbrev pub total_item : Level → ℕ → ℕ → Option Mark → FieldKind → Item
-total_item level wheel digits mark kind =
-    figure_item (Body (body.Total level)) wheel (record { digits = digits; decimals = decimals_of kind; mark = mark })
+abbrev pub total_item : TotalLine → FieldKind → Item
+total_item total kind =
+    figure_item (Body (body.Total total.level)) total.wheel
+    (record { digits = total.digits; decimals = decimals_of kind; mark = total.mark })
 
 -- the item that a line of the chart is, if it is one: a literal has its characters, a text its columns, a total its
 -- digits
@@ -83,6 +84,6 @@ item_of fields (says.TotalLiteral level wheel literal) =
     Some (text_item (Body (body.Total level)) wheel (length literal))
 item_of fields (says.TotalText level wheel name) =
     option_map (λ field. text_item (Body (body.Total level)) wheel (columns_of field)) (first_named fields name)
-item_of fields (says.TotalAmount level wheel name digits mark) =
-    option_map (λ field. total_item level wheel digits mark field.kind) (first_named fields name)
+item_of fields (says.TotalAmount total) =
+    option_map (λ field. total_item total field.kind) (first_named fields total.name)
 item_of fields other = None

@@ -24,6 +24,6 @@ is_mismatched None mark = false
 abbrev pub breaks_mark_mismatch : List Field → Statement → Bool
 breaks_mark_mismatch fields (says.DetailField wheel name shown) =
     is_mismatched (first_named fields name) (mark_shown shown)
-breaks_mark_mismatch fields (says.TotalAmount level wheel name digits mark) =
-    is_mismatched (first_named fields name) mark
+breaks_mark_mismatch fields (says.TotalAmount total) =
+    is_mismatched (first_named fields total.name) total.mark
 breaks_mark_mismatch fields other = false

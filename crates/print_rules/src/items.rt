@@ -4,6 +4,7 @@ ghost use Rattle.std.specs.Prelude.{◌≡◌, ◌+◌, ◌^◌, ◌<◌};
 
 use charts::{
     BodyLine, DetailOption, Field, FieldKind, HeadingLine, Level, Literal, Mark, Name, Statement,
+    TotalLine,
 };
 use field_rules::{Fields, first_named};
 
@@ -29,11 +30,10 @@ impl PrintedLine {
             Statement::DetailLiteral { .. } | Statement::DetailField { .. } => {
                 Some(PrintedLine::Body(BodyLine::Detail))
             }
-            Statement::TotalLiteral { level, .. }
-            | Statement::TotalText { level, .. }
-            | Statement::TotalAmount { level, .. } => {
+            Statement::TotalLiteral { level, .. } | Statement::TotalText { level, .. } => {
                 Some(PrintedLine::Body(BodyLine::Total(*level)))
             }
+            Statement::TotalAmount(total) => Some(PrintedLine::Body(BodyLine::Total(total.level))),
             _ => None,
         }
     }
@@ -120,9 +120,8 @@ fn name_printed(statement: &Statement) -> Option<Name>
     ensures { result ≡ printed.name_printed statement.now }
 {
     match statement {
-        Statement::DetailField { name, .. }
-        | Statement::TotalText { name, .. }
-        | Statement::TotalAmount { name, .. } => Some(*name),
+        Statement::DetailField { name, .. } | Statement::TotalText { name, .. } => Some(*name),
+        Statement::TotalAmount(total) => Some(total.name),
         _ => None,
     }
 }
@@ -158,20 +157,7 @@ fn field_item(field: Field, statement: &Statement) -> Option<Item>
         Statement::TotalText { level, wheel, .. } => {
             Some(text_item(total_line(*level), *wheel, field.columns()))
         }
-        Statement::TotalAmount {
-            level,
-            wheel,
-            digits,
-            mark,
-            ..
-        } => {
-            let figure = Figure {
-                digits: u32::from(*digits),
-                decimals: field.kind.decimals(),
-                mark: *mark,
-            };
-            Some(figure_item(total_line(*level), *wheel, figure))
-        }
+        Statement::TotalAmount(total) => Some(total_item(*total, field.kind)),
         _ => None,
     }
 }
@@ -244,6 +230,18 @@ fn figure_item(line: PrintedLine, wheel: u16, figure: Figure) -> Item
         end,
         figure: Some(figure),
     }
+}
+
+/// A total of an amount.
+fn total_item(total: TotalLine, kind: FieldKind) -> Item
+    ensures { result ≡ items.total_item total kind }
+{
+    let figure = Figure {
+        digits: u32::from(total.digits),
+        decimals: kind.decimals(),
+        mark: total.mark,
+    };
+    figure_item(total_line(total.level), total.wheel, figure)
 }
 
 /// A field on the line of a card.

@@ -28,7 +28,7 @@ pub fn breaks_mark_mismatch(fields: &Fields, statement: &Statement) -> bool
         Statement::DetailField { name, shown, .. } => {
             is_mismatched(fields.get(*name), mark_shown(*shown))
         }
-        Statement::TotalAmount { name, mark, .. } => is_mismatched(fields.get(*name), *mark),
+        Statement::TotalAmount(total) => is_mismatched(fields.get(total.name), total.mark),
         _ => false,
     }
 }

@@ -41,8 +41,8 @@ statement-item lines (on_detail wheel name shown field is) = (
         (record { digits = columns_of field; decimals = decimals_of kind; mark = mark_shown shown }))
     by holds.Text is = cc
     by (holds.Amount decimals rule) is = refl
-statement-item lines (on_total level wheel name digits mark field is) =
-    (Body (body.Total level), refl, ap (option_map (λ field. total_item level wheel digits mark field.kind)) is.named)
+statement-item lines (on_total asked field is) =
+    (Body (body.Total asked.level), refl, ap (option_map (λ field. total_item asked field.kind)) is.named)
 
 pub FigureItem-has : (lines : List Line) (wheel : ℕ) (figure : Figure) → HasFigure lines wheel figure
     → FigureItem lines wheel figure

@@ -1,32 +1,25 @@
 -- What a lawful chart keeps of its items: where they stand, and how many digits amounts have.
-use Rattle.std.proofs.Common.{◌≡◌, ◌∙◌, refl, sym, ap, subst, ℕ, ◌≤◌, ◌&&◌, ◌||◌, nat_lt, Bool, true, false, List, Contains, slice_get, Option, Some, None, option_map, is_some, arith}
-use Rattle.std.specs.List.{position_or_len}
+use Rattle.std.proofs.Common.{◌≡◌, ◌∙◌, refl, sym, ap, subst, ℕ, ◌≤◌, ◌&&◌, ◌||◌, false, Contains, Option, Some, None, option_map, arith}
 use Rattle.std.proofs.lemmas.Bool.Decides.{nat_tests}
-use Rattle.std.proofs.lemmas.List.Folds.{find_at}
-use Rattle.std.proofs.lemmas.Option.{slice_get_within}
 use Rattle.wiring_table.specs.Below.charts.Chart.{Chart}
-use Rattle.wiring_table.specs.Below.charts.Field.{columns_of, decimals_of, sign_column}
-use Rattle.wiring_table.specs.Below.charts.Name.{is_same_name}
+use Rattle.wiring_table.specs.Below.charts.Field.{columns_of, decimals_of}
 use Rattle.wiring_table.specs.Below.charts.declared.chart.Line.{Line}
 use Rattle.wiring_table.specs.Below.charts.declared.statement.DetailOption.{DetailOption}
 use Rattle.wiring_table.specs.Below.charts.declared.statement.Field.{Field}
 use Rattle.wiring_table.specs.Below.charts.declared.statement.FieldKind.{FieldKind}
 use Rattle.wiring_table.specs.Below.charts.declared.statement.FieldKind.TheVariants as holds
-use Rattle.wiring_table.specs.Below.charts.declared.statement.Mark.{Mark}
 use Rattle.wiring_table.specs.Below.charts.declared.statement.Statement.{Statement}
+use Rattle.wiring_table.specs.Below.charts.declared.statement.TotalLine.{TotalLine}
 use Rattle.wiring_table.specs.Below.charts.declared.statement.Statement.TheVariants as says
 use Rattle.wiring_table.specs.Below.print_rules.declared.items.Figure.{Figure}
 use Rattle.wiring_table.specs.Below.print_rules.declared.items.Item.{Item}
 use Rattle.wiring_table.specs.Below.chart_rules.declared.rule.Rule.TheVariants as rule
-use Rattle.wiring_table.specs.Below.field_rules.Columns.{breaks_amount_size, is_too_large}
 use Rattle.wiring_table.specs.Below.field_rules.Digits.{breaks_digits_range, is_out_of_digits}
 use Rattle.wiring_table.specs.Below.field_rules.Fields.{fields_of, field_named}
 use Rattle.wiring_table.specs.Below.print_rules.declared.items.PrintedLine.TheVariants.{Body}
-use Rattle.wiring_table.specs.Below.charts.declared.level.Level.{Level}
 use Rattle.wiring_table.specs.Below.charts.declared.statement.BodyLine.TheVariants as body
 use Rattle.wiring_table.specs.Below.print_rules.Items.{item_of, mark_shown, text_item, detail_item, total_item}
 use Rattle.wiring_table.specs.Below.chart_rules.Rules.{IsLawful}
-use Rattle.wiring_table.specs.Below.chart_rules.ValidCard.{IsValidCard, IsValidField}
 use Rattle.wiring_table.specs.Below.print_rules.Wheels.{is_off_wheels}
 use Rattle.wiring_table.proofs.Below.chart_rules.Laws.{IsGoodField, good-field, kept-line}
 use Rattle.wiring_table.proofs.Below.field_rules.DigitsKept.{digits-kept}
@@ -71,15 +64,14 @@ figure-good chart lawful line item figure there is has = by line.statement (kept
           decimals = subst (λ (k : FieldKind). decimals_of k ≤ columns_of field) kind good.decimals;
         })
 
-    total : (level : Level) (wheel digits : ℕ) (mark : Option Mark) (field : Field) → IsGoodField field
-        → is_out_of_digits (Some field) digits ≡ false → total_item level wheel digits mark field.kind ≡ item
-        → IsGoodFigure figure
-    total level wheel digits mark field good kept same =
-        is_good (record { digits = digits; decimals = decimals_of field.kind; mark = mark })
+    total : (asked : TotalLine) (field : Field) → IsGoodField field → is_out_of_digits (Some field) asked.digits ≡ false
+        → total_item asked field.kind ≡ item → IsGoodFigure figure
+    total asked field good kept same =
+        is_good (record { digits = asked.digits; decimals = decimals_of field.kind; mark = asked.mark })
         (ap (λ (i : Item). i.figure) same)
         (let order = good.card.order in
         let few = good.decimals in
-        let enough = (digits-kept field digits kept).enough in
+        let enough = (digits-kept field asked.digits kept).enough in
         record { some = omega (arith, order, enough); decimals = omega (arith, few, enough) })
 
     by : (statement : Statement) → breaks_digits_range (fields_of chart.lines) statement ≡ false
@@ -100,11 +92,11 @@ figure-good chart lawful line item figure there is has = by line.statement (kept
             → IsGoodFigure figure
         named None is = cc
         named (Some field) is = cc
-    by (says.TotalAmount level wheel name digits mark) kept is = named (field_named chart.lines name) refl kept is
+    by (says.TotalAmount asked) kept is = named (field_named chart.lines asked.name) refl kept is
       where
-        named : (o : Option Field) → field_named chart.lines name ≡ o → is_out_of_digits o digits ≡ false
-            → option_map (λ field. total_item level wheel digits mark field.kind) o ≡ Some item → IsGoodFigure figure
+        named : (o : Option Field) → field_named chart.lines asked.name ≡ o → is_out_of_digits o asked.digits ≡ false
+            → option_map (λ field. total_item asked field.kind) o ≡ Some item → IsGoodFigure figure
         named None none kept is = cc
         named (Some field) there kept is =
-            total level wheel digits mark field (good-field chart lawful name field there) kept cc
+            total asked field (good-field chart lawful asked.name field there) kept cc
     by other kept is = cc

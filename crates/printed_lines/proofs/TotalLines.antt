@@ -10,8 +10,8 @@ use Rattle.wiring_table.specs.Below.charts.declared.chart.Line.{Line}
 use Rattle.wiring_table.specs.Below.charts.declared.level.Level.{Level}
 use Rattle.wiring_table.specs.Below.charts.declared.statement.BodyLine.TheVariants as body
 use Rattle.wiring_table.specs.Below.charts.declared.statement.Field.{Field}
-use Rattle.wiring_table.specs.Below.charts.declared.statement.Mark.{Mark}
 use Rattle.wiring_table.specs.Below.charts.declared.statement.Statement.{Statement}
+use Rattle.wiring_table.specs.Below.charts.declared.statement.TotalLine.{TotalLine}
 use Rattle.wiring_table.specs.Below.charts.declared.statement.Statement.TheVariants as says
 use Rattle.wiring_table.specs.Below.print_rules.declared.items.Figure.{Figure}
 use Rattle.wiring_table.specs.Below.print_rules.declared.items.PrintedLine.{PrintedLine}
@@ -91,37 +91,37 @@ total-items lines level held card (says.TotalText its_level wheel name) shown ke
               ap (option_map (λ f. text_item (Body (body.Total its_level)) wheel (columns_of f))) named
               ∙ text-item (Body (body.Total its_level)) wheel card field;
         })
-total-items lines level held card (says.TotalAmount its_level wheel name digits mark) shown kept sent =
-    by (level_number its_level == level) (field_named lines name) refl refl kept sent
+total-items lines level held card (says.TotalAmount total) shown kept sent =
+    by (level_number total.level == level) (field_named lines total.name) refl refl kept sent
   where
     figure : Field → Figure
-    figure field = record { digits = digits; decimals = decimals_of field.kind; mark = mark }
+    figure field = record { digits = total.digits; decimals = decimals_of field.kind; mark = total.mark }
 
     columns : List (Option ℕ)
-    columns = map Some (last_digits digits (held name).figure)
+    columns = map Some (last_digits total.digits (held total.name).figure)
 
-    by : (b : Bool) (o : Option Field) → (level_number its_level == level) ≡ b → field_named lines name ≡ o
+    by : (b : Bool) (o : Option Field) → (level_number total.level == level) ≡ b → field_named lines total.name ≡ o
         → names_text o ≡ false
-        → (if b then option_map (λ field. Amount wheel (figure field) columns (held name).latch) o else None) ≡ Some shown
-        → IsItems lines (on_total_line level) (says.TotalAmount its_level wheel name digits mark) shown
+        → (if b then option_map (λ field. Amount total.wheel (figure field) columns (held total.name).latch) o else None) ≡ Some shown
+        → IsItems lines (on_total_line level) (says.TotalAmount total) shown
     by false o on named kept sent = cc
     by true None on named kept sent = cc
     by true (Some field) on named kept sent =
-        let is : Amount wheel (figure field) columns (held name).latch ≡ shown = cc in
-        let long : length columns ≡ digits = last_digits-length digits (held name).figure in
-        subst (IsItems lines (on_total_line level) (says.TotalAmount its_level wheel name digits mark)) is
+        let is : Amount total.wheel (figure field) columns (held total.name).latch ≡ shown = cc in
+        let long : length columns ≡ total.digits = last_digits-length total.digits (held total.name).figure in
+        subst (IsItems lines (on_total_line level) (says.TotalAmount total)) is
         (record {
           amount = (
-            total_emitter (level_number its_level),
-            on_total its_level wheel name digits mark field
+            total_emitter (level_number total.level),
+            on_total total field
                 (record { named = named; holds_amount = not-false (is_amount field.kind) kept }),
             long,
           );
-          line = Body (body.Total its_level);
+          line = Body (body.Total total.level);
           is_on = on;
           is_item =
-              ap (option_map (λ f. total_item its_level wheel digits mark f.kind)) named
-              ∙ amount-item (Body (body.Total its_level)) wheel (figure field) columns (held name).latch long;
+              ap (option_map (λ f. total_item total f.kind)) named
+              ∙ amount-item (Body (body.Total total.level)) total.wheel (figure field) columns (held total.name).latch long;
         })
 total-items lines level held card other shown kept sent = cc
 
@@ -160,20 +160,20 @@ total-spells chart level group held card lawful texts holds line there = by line
               (λ column low high. text.is_text column low (omega (arith, high, order))),
         )
 
-    amount_held : (its_level : Level) (wheel : ℕ) (name : List ℕ) (digits : ℕ) (mark : Option Mark)
-        → line.statement ≡ says.TotalAmount its_level wheel name digits mark
-        → (b : Bool) (o : Option Field) → (level_number its_level == level) ≡ b → field_named chart.lines name ≡ o
+    amount_held : (total : TotalLine)
+        → line.statement ≡ says.TotalAmount total
+        → (b : Bool) (o : Option Field) → (level_number total.level == level) ≡ b → field_named chart.lines total.name ≡ o
         → SpellsPiece
         (if b then option_map
-        (λ field. Amount wheel (record { digits = digits; decimals = decimals_of field.kind; mark = mark })
-        (map Some (last_digits digits (held name).figure)) (held name).latch) o else None)
-        (if b then option_map (λ field. piece_at wheel (edited (total_of field group) digits (decimals_of field.kind) mark)) o else None)
-    amount_held its_level wheel name digits mark is false o on named = tt
-    amount_held its_level wheel name digits mark is true None on named = tt
-    amount_held its_level wheel name digits mark is true (Some field) on named = (
+        (λ field. Amount total.wheel (record { digits = total.digits; decimals = decimals_of field.kind; mark = total.mark })
+        (map Some (last_digits total.digits (held total.name).figure)) (held total.name).latch) o else None)
+        (if b then option_map (λ field. piece_at total.wheel (edited (total_of field group) total.digits (decimals_of field.kind) total.mark)) o else None)
+    amount_held total is false o on named = tt
+    amount_held total is true None on named = tt
+    amount_held total is true (Some field) on named = (
       refl,
-      total-amount wheel digits (decimals_of field.kind) mark (total_of field group) (held name)
-          (holds.amounts line its_level wheel name digits mark field there is (grind (arith, nat_tests, on)) named),
+      total-amount total.wheel total.digits (decimals_of field.kind) total.mark (total_of field group) (held total.name)
+          (holds.amounts line total field there is (grind (arith, nat_tests, on)) named),
     )
 
     by : (statement : Statement) → line.statement ≡ statement
@@ -182,8 +182,8 @@ total-spells chart level group held card lawful texts holds line there = by line
         literal_on wheel literal (ap literal_in is) (level_number its_level == level)
     by (says.TotalText its_level wheel name) is =
         text_held its_level wheel name is (level_number its_level == level) (field_named chart.lines name) refl refl
-    by (says.TotalAmount its_level wheel name digits mark) is =
-        amount_held its_level wheel name digits mark is (level_number its_level == level) (field_named chart.lines name) refl refl
+    by (says.TotalAmount total) is =
+        amount_held total is (level_number total.level == level) (field_named chart.lines total.name) refl refl
     by other is = tt
 
 -- the total line of a group prints as the report has it

@@ -7,6 +7,7 @@ use Rattle.wiring_table.specs.Below.charts.declared.level.Level.{Level}
 use Rattle.wiring_table.specs.Below.charts.declared.statement.Field.{Field}
 use Rattle.wiring_table.specs.Below.charts.declared.statement.Mark.{Mark}
 use Rattle.wiring_table.specs.Below.charts.declared.statement.Statement.TheVariants as says
+use Rattle.wiring_table.specs.Below.charts.declared.statement.TotalLine.{TotalLine}
 use Rattle.wiring_table.specs.Below.field_rules.Fields.{field_named}
 use Rattle.wiring_table.specs.Below.chart_rules.ValidCard.{EachColumn, IsText, column_of}
 use Rattle.wiring_table.specs.Below.report.BodyLines.{a_card_of}
@@ -29,9 +30,9 @@ pub record HoldsText (field : Field) (held original : List ℕ) : Type 0 where
 -- Each amount and each text on the total line of a level is held for a group.
 pub record HoldsLine (lines : List Line) (level : ℕ) (group : List (List ℕ)) (held : List ℕ → Printed) (card : List ℕ) : Type 0 where
   pub amounts :
-      (line : Line) (its_level : Level) (wheel : ℕ) (name : List ℕ) (digits : ℕ) (mark : Option Mark) (field : Field)
-      → Contains lines line → line.statement ≡ says.TotalAmount its_level wheel name digits mark → level_number its_level ≡ level
-      → field_named lines name ≡ Some field → HoldsTotal digits mark (total_of field group) (held name)
+      (line : Line) (total : TotalLine) (field : Field)
+      → Contains lines line → line.statement ≡ says.TotalAmount total → level_number total.level ≡ level
+      → field_named lines total.name ≡ Some field → HoldsTotal total.digits total.mark (total_of field group) (held total.name)
   pub texts :
       (line : Line) (its_level : Level) (wheel : ℕ) (name : List ℕ) (field : Field)
       → Contains lines line → line.statement ≡ says.TotalText its_level wheel name → level_number its_level ≡ level

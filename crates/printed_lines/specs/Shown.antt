@@ -102,12 +102,12 @@ total_sends lines level held card (says.TotalText its_level wheel name) =
     if level_number its_level == level
     then option_map (λ field. Characters wheel (map (column_of card) (columns_in field))) (field_named lines name)
     else None
-total_sends lines level held card (says.TotalAmount its_level wheel name digits mark) =
-    if level_number its_level == level
+total_sends lines level held card (says.TotalAmount total) =
+    if level_number total.level == level
     then option_map
-    (λ field. Amount wheel (record { digits = digits; decimals = decimals_of field.kind; mark = mark })
-    (map Some (last_digits digits (held name).figure)) (held name).latch)
-    (field_named lines name)
+    (λ field. Amount total.wheel (record { digits = total.digits; decimals = decimals_of field.kind; mark = total.mark })
+    (map Some (last_digits total.digits (held total.name).figure)) (held total.name).latch)
+    (field_named lines total.name)
     else None
 total_sends lines level held card other = None
 

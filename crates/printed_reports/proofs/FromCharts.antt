@@ -46,10 +46,9 @@ pub fits :
     → unsigned_abs (total_of field group) < 10 ^ (amount_of chart.lines plan name).digits (suc k)
 fits chart plan lawful name field k group amount has fit =
     let (n, total) = has_from chart.lines plan name (suc k) has in
-    let same = is_same_name-equal total.its_name name total.same_name in
-    let named : field_named chart.lines total.its_name ≡ Some field = ap (field_named chart.lines) same ∙ amount.named in
-    let room = fit total.line total.its_level total.wheel total.its_name total.digits total.mark field total.listed total.says_total
-    total.same_level named in
+    let same = is_same_name-equal total.asked.name name total.same_name in
+    let named : field_named chart.lines total.asked.name ≡ Some field = ap (field_named chart.lines) same ∙ amount.named in
+    let room = fit total.line total.asked field total.listed total.says_total total.same_level named in
     let digits = digits_are chart plan name (suc k) n lawful total in
     subst (λ d. unsigned_abs (total_of field group) < 10 ^ d) (sym digits) room
 

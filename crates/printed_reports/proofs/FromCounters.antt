@@ -246,7 +246,7 @@ module _ (chart : Chart) (plan : Lists) (wiring : Wiring) (panel : IsPanel chart
         ∙ (λ i. held_after its.is_signed (sym width i) act (held_in old (sym is_counter i)))
       where
         from_one : IsCounterOf chart.lines plan name level counter → 1 ≤ level
-        from_one o = subst (λ n. 1 ≤ n) o.total.same_level (some_level o.total.its_level)
+        from_one o = subst (λ n. 1 ≤ n) o.total.same_level (some_level o.total.asked.level)
 
     -- the totals of an amount after a cycle
     pub totals :

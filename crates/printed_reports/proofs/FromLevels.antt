@@ -1,6 +1,5 @@
 -- The third program cycle of a level, put together: what the groups and units hold, and the line that they print.
-use Rattle.std.proofs.Common.{◌≡◌, ◌∙◌, refl, sym, ap, subst, ℕ, ◌+◌, ◌≤◌, ◌<◌, ◌^◌, ◌==◌, nat_lt, Bool, true, false, List, Contains, Option, Some, None, length, is_some, arith, unsigned_abs, inl, inr}
-use Rattle.std.proofs.lemmas.Bool.Decides.{nat_tests}
+use Rattle.std.proofs.Common.{◌≡◌, ◌∙◌, refl, sym, ap, subst, ℕ, ◌+◌, ◌≤◌, ◌<◌, ◌^◌, ◌==◌, true, false, List, Contains, Option, Some, None, is_some, unsigned_abs, inl, inr}
 use Rattle.panel_cycles.specs.Below.field_rules.Coupled.{has_sign}
 use Rattle.panel_cycles.specs.Below.counters.Laws.{IsCounter}
 use Rattle.panel_cycles.specs.Below.plans.Plans.{Lists}
@@ -26,6 +25,7 @@ use Rattle.decks.specs.Below.charts.declared.statement.FieldKind.{FieldKind}
 use Rattle.decks.specs.Below.charts.declared.statement.FieldKind.TheVariants as holds
 use Rattle.decks.specs.Below.charts.declared.statement.Mark.{Mark}
 use Rattle.decks.specs.Below.charts.declared.statement.Statement.TheVariants as says
+use Rattle.decks.specs.Below.charts.declared.statement.TotalLine.{TotalLine}
 use Rattle.decks.specs.Alike.{AlikeWith}
 use Rattle.panel_cycles.specs.Below.setups.Wiring.{Wiring}
 use Rattle.panel_cycles.specs.Below.hubs.declared.hub.Group.{Group}
@@ -91,20 +91,19 @@ printed_held chart plan machine level name = record {
 module _ (chart : Chart) (plan : Lists) (wiring : Wiring) (panel : IsPanel chart plan wiring) (rise : NumbersRise chart.lines chart.end)
     (literals : HaveLiteralTexts chart.lines) where
   -- the line of a total, as one of the chart's
-  line_is : (line : Line) (its : Level) (wheel : ℕ) (name : List ℕ) (digits : ℕ) (mark : Option Mark) → Contains chart.lines line
-      → line.statement ≡ says.TotalAmount its wheel name digits mark
-      → IsLine chart.lines line.number (says.TotalAmount its wheel name digits mark)
-  line_is line its wheel name digits mark there is = record { line = line; listed = there; numbered = refl; says_it = is }
+  line_is : (line : Line) (total : TotalLine) → Contains chart.lines line → line.statement ≡ says.TotalAmount total
+      → IsLine chart.lines line.number (says.TotalAmount total)
+  line_is line total there is = record { line = line; listed = there; numbered = refl; says_it = is }
 
   -- the counter on the line of a total is that of the amount's total
-  own_counter : (line : Line) (its : Level) (wheel : ℕ) (name : List ℕ) (digits : ℕ) (mark : Option Mark) (counter : TotalCounter) (level : ℕ)
-      → Contains chart.lines line → line.statement ≡ says.TotalAmount its wheel name digits mark → levels.level_number its ≡ level
-      → counter_for chart.lines plan line.number ≡ Some counter → IsCounterOf chart.lines plan name level counter
-  own_counter line its wheel name digits mark counter level there is same served =
-      subst (λ n. IsCounterOf chart.lines plan name n counter) same
+  own_counter : (line : Line) (total : TotalLine) (counter : TotalCounter) (level : ℕ)
+      → Contains chart.lines line → line.statement ≡ says.TotalAmount total → levels.level_number total.level ≡ level
+      → counter_for chart.lines plan line.number ≡ Some counter → IsCounterOf chart.lines plan total.name level counter
+  own_counter line asked counter level there is same served =
+      subst (λ n. IsCounterOf chart.lines plan asked.name n counter) same
       (record {
         number = line.number;
-        total = on_line chart.lines plan its wheel name digits mark line.number (line_is line its wheel name digits mark there is);
+        total = on_line chart.lines plan asked line.number (line_is line asked there is);
         served = served;
       })
 
@@ -119,20 +118,20 @@ module _ (chart : Chart) (plan : Lists) (wiring : Wiring) (panel : IsPanel chart
 
     -- what the counters hold
     counters_hold :
-        (line : Line) (its : Level) (wheel : ℕ) (name : List ℕ) (digits : ℕ) (mark : Option Mark) (counter : TotalCounter)
-        → Contains chart.lines line → line.statement ≡ says.TotalAmount its wheel name digits mark
-        → levels.level_number its ≡ level_number level → counter_for chart.lines plan line.number ≡ Some counter
+        (line : Line) (total : TotalLine) (counter : TotalCounter)
+        → Contains chart.lines line → line.statement ≡ says.TotalAmount total
+        → levels.level_number total.level ≡ level_number level → counter_for chart.lines plan line.number ≡ Some counter
         → rows.CounterHoldsTotal (row_of chart plan wiring panel rise literals (Prog level Third) old new all row) counter
-        (printed_held chart plan old (level_number level) name)
-    counters_hold line its wheel name digits mark counter there says same served =
+        (printed_held chart plan old (level_number level) total.name)
+    counters_hold line total counter there says same served =
         by counter served
-        (counter_held old chart plan name (level_number level) counter panel.lawful
-        (own_counter line its wheel name digits mark counter (level_number level) there says same served))
+        (counter_held old chart plan total.name (level_number level) counter panel.lawful
+        (own_counter line total counter (level_number level) there says same served))
       where
         by : (counter : TotalCounter) → counter_for chart.lines plan line.number ≡ Some counter
-            → held chart plan old name (level_number level) ≡ held_in old (Some counter)
+            → held chart plan old total.name (level_number level) ≡ held_in old (Some counter)
             → rows.CounterHoldsTotal (row_of chart plan wiring panel rise literals (Prog level Third) old new all row) counter
-            (printed_held chart plan old (level_number level) name)
+            (printed_held chart plan old (level_number level) total.name)
         by (of.Single group) served state =
             let (listed, named, lawful) = group_there line.number (panel_group group)
             (record { counter = of.Single group; there = served; has = refl }) in
@@ -191,8 +190,7 @@ module _ (chart : Chart) (plan : Lists) (wiring : Wiring) (panel : IsPanel chart
       → ShowsTotal chart plan level (taking card so_far level) name field (held chart plan old name level))
       → HoldsLine chart.lines level (taking card so_far level) (printed_held chart plan old level) card
   holds_line old level card so_far valid alike shows = record {
-    amounts = λ line its wheel name digits mark field there says same named.
-        by_level line its wheel name digits mark field there says named level same shows;
+    amounts = λ line total field there says same named. by_level line total field there says named level same shows;
     texts = λ line its wheel name field there says same named.
         let by = controlled chart line its wheel name field panel.lawful there says named in
         let low : level ≤ by.above = subst (λ n. n ≤ by.above) same by.low in
@@ -206,49 +204,45 @@ module _ (chart : Chart) (plan : Lists) (wiring : Wiring) (panel : IsPanel chart
   }
     where
       by_level :
-          (line : Line) (its : Level) (wheel : ℕ) (name : List ℕ) (digits : ℕ) (mark : Option Mark) (field : Field)
-          → Contains chart.lines line → line.statement ≡ says.TotalAmount its wheel name digits mark
-          → field_named chart.lines name ≡ Some field → (n : ℕ) → levels.level_number its ≡ n
+          (line : Line) (total : TotalLine) (field : Field)
+          → Contains chart.lines line → line.statement ≡ says.TotalAmount total
+          → field_named chart.lines total.name ≡ Some field → (n : ℕ) → levels.level_number total.level ≡ n
           → ((name : List ℕ) (field : Field) → IsAmount chart.lines name field → (amount_of chart.lines plan name).has n ≡ true
           → ShowsTotal chart plan n (taking card so_far n) name field (held chart plan old name n))
-          → printed.HoldsTotal digits mark (total_of field (taking card so_far n)) (printed_held chart plan old n name)
-      by_level line its wheel name digits mark field there says named n same shows =
-          let total_at : HasTotal chart.lines name (levels.level_number its) line.number
+          → printed.HoldsTotal total.digits total.mark (total_of field (taking card so_far n)) (printed_held chart plan old n total.name)
+      by_level line asked field there says named n same shows =
+          let total_at : HasTotal chart.lines asked.name (levels.level_number asked.level) line.number
           = record {
             line = line;
             listed = there;
             is_number = refl;
-            its_level = its;
-            wheel = wheel;
-            its_name = name;
-            digits = digits;
-            mark = mark;
+            asked = asked;
             says_total = says;
             same_level = refl;
-            same_name = is_same_name-own name;
+            same_name = is_same_name-own asked.name;
           } in
-          let total = subst (λ k. HasTotal chart.lines name k line.number) same total_at in
-          let found_amount = total_field chart name n line.number panel.lawful total in
+          let total = subst (λ k. HasTotal chart.lines asked.name k line.number) same total_at in
+          let found_amount = total_field chart asked.name n line.number panel.lawful total in
           let same_field : found_amount.0 ≡ field = one_field found_amount.1.named named in
-          let amount : IsAmount chart.lines name field = subst (λ f. IsAmount chart.lines name f) same_field found_amount.1 in
-          let has = has_it chart.lines plan name n line.number total in
-          let shown = shows name field amount has in
-          let many : (amount_of chart.lines plan name).digits (levels.level_number its) ≡ digits
-          = digits_are chart plan name (levels.level_number its) line.number panel.lawful total_at in
-          let many_here : (amount_of chart.lines plan name).digits n ≡ digits
-          = ap (amount_of chart.lines plan name).digits (sym same) ∙ many in
+          let amount : IsAmount chart.lines asked.name field = subst (λ f. IsAmount chart.lines asked.name f) same_field found_amount.1 in
+          let has = has_it chart.lines plan asked.name n line.number total in
+          let shown = shows asked.name field amount has in
+          let many : (amount_of chart.lines plan asked.name).digits (levels.level_number asked.level) ≡ asked.digits
+          = digits_are chart plan asked.name (levels.level_number asked.level) line.number panel.lawful total_at in
+          let many_here : (amount_of chart.lines plan asked.name).digits n ≡ asked.digits
+          = ap (amount_of chart.lines plan asked.name).digits (sym same) ∙ many in
           let (earlier, right) = kept-line chart panel.lawful line there rule.MarkMismatch in
-          let good : is_mismatched (field_named chart.lines name) mark ≡ false
+          let good : is_mismatched (field_named chart.lines asked.name) asked.mark ≡ false
           = sym (ap (breaks_mark_mismatch (fields_of chart.lines)) says) ∙ right in
-          let good_kind : is_mismatched_kind field.kind mark ≡ false
-          = sym (ap (λ (o : Option Field). is_mismatched o mark) named) ∙ good in
+          let good_kind : is_mismatched_kind field.kind asked.mark ≡ false
+          = sym (ap (λ (o : Option Field). is_mismatched o asked.mark) named) ∙ good in
           record {
             fits = subst (λ d. unsigned_abs (total_of field (taking card so_far n)) < 10 ^ d) many_here shown.fits;
             figure = shown.figure;
             below = λ marked less. shown.below less;
             above = λ marked less some.
                 shown.above (ap (λ (o : Option Field). has_sign o) named
-                ∙ marked_signed field.kind mark amount.holds_amount good_kind marked) less some;
+                ∙ marked_signed field.kind asked.mark amount.holds_amount good_kind marked) less some;
           }
         where
           one_field : {a b : Field} {o : Option Field} → o ≡ Some a → o ≡ Some b → a ≡ b

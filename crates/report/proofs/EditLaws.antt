@@ -25,7 +25,7 @@ zeros-length (digit ∷ others) = by_test (digit == 0) (zeros-length others)
     by_test false more = ap suc (length-map others figure)
 
 -- a mark, or the blanks in its place
-marked-length : (mark : Option Mark) (negative : Bool) → length (marked mark negative) ≡ mark_width mark
+pub marked-length : (mark : Option Mark) (negative : Bool) → length (marked mark negative) ≡ mark_width mark
 marked-length None negative = refl
 marked-length (Some mark.Credit) true = refl
 marked-length (Some mark.Credit) false = refl
@@ -33,7 +33,7 @@ marked-length (Some mark.Minus) true = refl
 marked-length (Some mark.Minus) false = refl
 
 -- the point
-point-length : (decimals : ℕ) → length (point decimals) ≡ (if nat_lt 0 decimals then 1 else 0)
+pub point-length : (decimals : ℕ) → length (point decimals) ≡ (if nat_lt 0 decimals then 1 else 0)
 point-length zero = refl
 point-length (suc decimals) = grind (arith, nat_tests)
 

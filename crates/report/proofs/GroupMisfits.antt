@@ -5,9 +5,9 @@ use Rattle.std.proofs.lemmas.Bool.Decides.{nat_tests}
 use Rattle.std.proofs.lemmas.List.Elements.{All-nil, All-cons, All-contains}
 use Rattle.chart_rules.specs.Below.charts.Levels.{level_number}
 use Rattle.chart_rules.specs.Below.charts.declared.chart.Line.{Line}
-use Rattle.chart_rules.specs.Below.charts.declared.level.Level.{Level}
 use Rattle.chart_rules.specs.Below.charts.declared.statement.Field.{Field}
 use Rattle.chart_rules.specs.Below.charts.declared.statement.Statement.{Statement}
+use Rattle.chart_rules.specs.Below.charts.declared.statement.TotalLine.{TotalLine}
 use Rattle.chart_rules.specs.Below.charts.declared.statement.Statement.TheVariants as says
 use Rattle.chart_rules.specs.Below.field_rules.Fields.{field_named}
 use Rattle.report.specs.Misfits.{Misfit, fits_in, misfit_of, misfit_on, misfits_in}
@@ -36,11 +36,11 @@ not_given true x none = refl
 not_given false x none = absurd cc
 
 -- a total that is no misfit has room
-has_room : (level : Level) (name : List ℕ) (digits card : ℕ) (group : List (List ℕ)) (field : Field)
-    → misfit_of level name digits card group field ≡ None → unsigned_abs (total_of field group) < 10 ^ digits
-has_room level name digits card group field none =
-    let misfit : Misfit = record { level = level; name = name; card = card } in
-    less (unsigned_abs (total_of field group)) (10 ^ digits) (not_given (fits_in digits (total_of field group)) misfit none)
+has_room : (total : TotalLine) (card : ℕ) (group : List (List ℕ)) (field : Field)
+    → misfit_of total card group field ≡ None → unsigned_abs (total_of field group) < 10 ^ total.digits
+has_room total card group field none =
+    let misfit : Misfit = record { level = total.level; name = total.name; card = card } in
+    less (unsigned_abs (total_of field group)) (10 ^ total.digits) (not_given (fits_in total.digits (total_of field group)) misfit none)
   where
     less : (a b : ℕ) → nat_lt a b ≡ true → a < b
     less a b is = grind (arith, nat_tests, is)
@@ -48,13 +48,13 @@ has_room level name digits card group field none =
 -- a group without misfits fits
 pub group_fits : (lines : List Line) (level card : ℕ) (group : List (List ℕ)) → misfits_in lines level card group ≡ []
     → GroupFits lines level group
-group_fits lines level card group none line its_level wheel name digits mark field stands says_so same_level named =
+group_fits lines level card group none line total field stands says_so same_level named =
     let each = All-contains (λ (some : Line). misfit_on lines level card group some.statement ≡ None) lines line
     (none_kept (λ (some : Line). misfit_on lines level card group some.statement) lines none) stands in
     let here = sym (ap (misfit_on lines level card group) says_so) ∙ each in
-    let same : (level_number its_level == level) ≡ true = grind (arith, nat_tests, same_level) in
-    has_room its_level name digits card group field
-    (sym (λ i. if same i then option_and_then (misfit_of its_level name digits card group) (named i) else None) ∙ here)
+    let same : (level_number total.level == level) ≡ true = grind (arith, nat_tests, same_level) in
+    has_room total card group field
+    (sym (λ i. if same i then option_and_then (misfit_of total card group) (named i) else None) ∙ here)
 
 -- a group that fits has no misfit
 pub no_misfit_in : (lines : List Line) (level card : ℕ) (group : List (List ℕ)) → GroupFits lines level group
@@ -67,18 +67,18 @@ no_misfit_in lines level card group fits =
 
     of : (line : Line) → Contains lines line → (statement : Statement) → line.statement ≡ statement
         → misfit_on lines level card group statement ≡ None
-    of line stands (says.TotalAmount its_level wheel name digits mark) says_so =
-        by (level_number its_level == level) refl (field_named lines name) refl
+    of line stands (says.TotalAmount total) says_so =
+        by (level_number total.level == level) refl (field_named lines total.name) refl
       where
-        by : (b : Bool) → (level_number its_level == level) ≡ b → (found : Option Field) → field_named lines name ≡ found
-            → (if b then option_and_then (misfit_of its_level name digits card group) found else None) ≡ None
+        by : (b : Bool) → (level_number total.level == level) ≡ b → (found : Option Field) → field_named lines total.name ≡ found
+            → (if b then option_and_then (misfit_of total card group) found else None) ≡ None
         by false other found named = refl
         by true same None named = refl
         by true same (Some field) named =
-            let misfit : Misfit = record { level = its_level; name = name; card = card } in
-            let same_level : level_number its_level ≡ level = grind (arith, nat_tests, same) in
-            let room = fits line its_level wheel name digits mark field stands says_so same_level named in
-            ap (λ b. if b then None else Some misfit) (within (unsigned_abs (total_of field group)) (10 ^ digits) room)
+            let misfit : Misfit = record { level = total.level; name = total.name; card = card } in
+            let same_level : level_number total.level ≡ level = grind (arith, nat_tests, same) in
+            let room = fits line total field stands says_so same_level named in
+            ap (λ b. if b then None else Some misfit) (within (unsigned_abs (total_of field group)) (10 ^ total.digits) room)
     of line stands other says_so = refl
 
 -- what is kept has a fact that all that is given has
@@ -106,12 +106,12 @@ misfits_numbered lines level card group =
         same_card one other is = let same : one ≡ other = cc in ap (λ (m : Misfit). m.card) (sym same)
 
     of : (statement : Statement) (misfit : Misfit) → misfit_on lines level card group statement ≡ Some misfit → misfit.card ≡ card
-    of (says.TotalAmount its_level wheel name digits mark) misfit is = by (level_number its_level == level) (field_named lines name) is
+    of (says.TotalAmount total) misfit is = by (level_number total.level == level) (field_named lines total.name) is
       where
         by : (b : Bool) (found : Option Field)
-            → (if b then option_and_then (misfit_of its_level name digits card group) found else None) ≡ Some misfit → misfit.card ≡ card
+            → (if b then option_and_then (misfit_of total card group) found else None) ≡ Some misfit → misfit.card ≡ card
         by false found none = absurd cc
         by true None none = absurd cc
         by true (Some field) is =
-            given (fits_in digits (total_of field group)) (record { level = its_level; name = name; card = card }) misfit refl is
+            given (fits_in total.digits (total_of field group)) (record { level = total.level; name = total.name; card = card }) misfit refl is
     of other misfit is = absurd cc

@@ -199,13 +199,13 @@ total-piece lines level group (says.TotalLiteral its_level wheel literal) prints
 total-piece lines level group (says.TotalText its_level wheel name) prints =
     if-prints (level_number its_level == level) (option_map (λ field. piece_at wheel (text_on (a_card_of group) field)) (field_named lines name))
     (named-prints wheel (text_on (a_card_of group)) (text-prints (a_card_of group)) (field_named lines name))
-total-piece lines level group (says.TotalAmount its_level wheel name digits mark) prints =
-    if-prints (level_number its_level == level)
-    (option_map (λ field. piece_at wheel (edited (total_of field group) digits (decimals_of field.kind) mark)) (field_named lines name))
-    (named-prints wheel (λ field. edited (total_of field group) digits (decimals_of field.kind) mark)
+total-piece lines level group (says.TotalAmount total) prints =
+    if-prints (level_number total.level == level)
+    (option_map (λ field. piece_at total.wheel (edited (total_of field group) total.digits (decimals_of field.kind) total.mark)) (field_named lines total.name))
+    (named-prints total.wheel (λ field. edited (total_of field group) total.digits (decimals_of field.kind) total.mark)
     (λ field.
-    digits-print (last_digits digits (unsigned_abs (total_of field group))) (decimals_of field.kind) mark (is_negative (total_of field group))
-    (last_digits-small digits (unsigned_abs (total_of field group)))) (field_named lines name))
+    digits-print (last_digits total.digits (unsigned_abs (total_of field group))) (decimals_of field.kind) total.mark (is_negative (total_of field group))
+    (last_digits-small total.digits (unsigned_abs (total_of field group)))) (field_named lines total.name))
 total-piece lines level group other prints = tt
 
 heading-piece : (number : ℕ) (statement : Statement) → LiteralPrints statement → PiecePrints (heading_piece number statement)

@@ -91,11 +91,11 @@ total_piece lines level group (says.TotalText its_level wheel name) =
     if level_number its_level == level
     then option_map (λ field. piece_at wheel (text_on (a_card_of group) field)) (field_named lines name)
     else None
-total_piece lines level group (says.TotalAmount its_level wheel name digits mark) =
-    if level_number its_level == level
+total_piece lines level group (says.TotalAmount total) =
+    if level_number total.level == level
     then option_map
-    (λ field. piece_at wheel (edited (total_of field group) digits (decimals_of field.kind) mark))
-    (field_named lines name)
+    (λ field. piece_at total.wheel (edited (total_of field group) total.digits (decimals_of field.kind) total.mark))
+    (field_named lines total.name)
     else None
 total_piece lines level group other = None
 

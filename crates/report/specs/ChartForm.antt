@@ -42,7 +42,7 @@ prints_details lines = list_any (λ line. is_print_detail line.statement) lines
 abbrev pub is_total_item : ℕ → Statement → Bool
 is_total_item level (says.TotalLiteral its_level wheel literal) = level_number its_level == level
 is_total_item level (says.TotalText its_level wheel name) = level_number its_level == level
-is_total_item level (says.TotalAmount its_level wheel name digits mark) = level_number its_level == level
+is_total_item level (says.TotalAmount total) = level_number total.level == level
 is_total_item level other = false
 
 -- whether the report has a total line for each group of a level

@@ -7,6 +7,7 @@ use Rattle.chart_rules.specs.Below.charts.declared.level.Level.{Level}
 use Rattle.chart_rules.specs.Below.charts.declared.statement.Field.{Field}
 use Rattle.chart_rules.specs.Below.charts.declared.statement.Statement.{Statement}
 use Rattle.chart_rules.specs.Below.charts.declared.statement.Statement.TheVariants as says
+use Rattle.chart_rules.specs.Below.charts.declared.statement.TotalLine.{TotalLine}
 use Rattle.chart_rules.specs.Below.field_rules.Fields.{field_named}
 use Rattle.report.specs.Outline.{OutlineLine, Detail, Total, outline_of}
 use Rattle.report.specs.Totals.{total_of}
@@ -22,15 +23,16 @@ pub record Misfit : Type 0 where
   pub card : ℕ
 
 -- the misfit of a total, if it is one
-abbrev pub misfit_of : Level → List ℕ → ℕ → ℕ → List (List ℕ) → Field → Option Misfit
-misfit_of level name digits card group field =
-    if fits_in digits (total_of field group) then None else Some (record { level = level; name = name; card = card })
+abbrev pub misfit_of : TotalLine → ℕ → List (List ℕ) → Field → Option Misfit
+misfit_of total card group field =
+    if fits_in total.digits (total_of field group) then None
+    else Some (record { level = total.level; name = total.name; card = card })
 
 -- the misfit of a line of the chart for a group of a level, if the line shows a total of that level that does not fit
 abbrev pub misfit_on : List Line → ℕ → ℕ → List (List ℕ) → Statement → Option Misfit
-misfit_on lines level card group (says.TotalAmount its_level wheel name digits mark) =
-    if level_number its_level == level
-    then option_and_then (misfit_of its_level name digits card group) (field_named lines name)
+misfit_on lines level card group (says.TotalAmount total) =
+    if level_number total.level == level
+    then option_and_then (misfit_of total card group) (field_named lines total.name)
     else None
 misfit_on lines level card group other = None
 

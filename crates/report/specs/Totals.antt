@@ -6,8 +6,8 @@ use Rattle.chart_rules.specs.Below.charts.Levels.{level_number}
 use Rattle.chart_rules.specs.Below.charts.declared.chart.Line.{Line}
 use Rattle.chart_rules.specs.Below.charts.declared.level.Level.{Level}
 use Rattle.chart_rules.specs.Below.charts.declared.statement.Field.{Field}
-use Rattle.chart_rules.specs.Below.charts.declared.statement.Mark.{Mark}
 use Rattle.chart_rules.specs.Below.charts.declared.statement.Statement.TheVariants as says
+use Rattle.chart_rules.specs.Below.charts.declared.statement.TotalLine.{TotalLine}
 use Rattle.chart_rules.specs.Below.field_rules.Fields.{field_named}
 use Rattle.report.specs.Amounts.{value_of}
 use Rattle.report.specs.Groups.{groups_of}
@@ -21,9 +21,9 @@ total_of field (card ∷ cards) = value_of field card +ℤ total_of field cards
 -- line gives it.
 abbrev pub GroupFits : List Line → ℕ → List (List ℕ) → Type 0
 GroupFits lines level group =
-    (line : Line) (its_level : Level) (wheel : ℕ) (name : List ℕ) (digits : ℕ) (mark : Option Mark) (field : Field)
-    → Contains lines line → line.statement ≡ says.TotalAmount its_level wheel name digits mark → level_number its_level ≡ level
-    → field_named lines name ≡ Some field → unsigned_abs (total_of field group) < 10 ^ digits
+    (line : Line) (total : TotalLine) (field : Field) → Contains lines line → line.statement ≡ says.TotalAmount total
+    → level_number total.level ≡ level → field_named lines total.name ≡ Some field
+    → unsigned_abs (total_of field group) < 10 ^ total.digits
 
 -- A deck fits where the totals of each of its groups fit, at each level.
 abbrev pub Fits : List Line → List (List ℕ) → Type 0

@@ -25,17 +25,13 @@ total-passes lines name level line listed passes = by line.statement refl passes
   where
     by : (statement : Statement) → line.statement ≡ statement → is_total_at name level statement ≡ true
         → HasTotal lines name level line.number
-    by (says.TotalAmount its_level wheel its_name digits mark) is test =
-        let parts = and_parts (level_number its_level == level) (is_same_name its_name name) test in
+    by (says.TotalAmount total) is test =
+        let parts = and_parts (level_number total.level == level) (is_same_name total.name name) test in
         record {
           line = line;
           listed = listed;
           is_number = refl;
-          its_level = its_level;
-          wheel = wheel;
-          its_name = its_name;
-          digits = digits;
-          mark = mark;
+          asked = total;
           says_total = is;
           same_level = grind (arith, nat_tests, parts.0);
           same_name = parts.1;
@@ -47,9 +43,9 @@ pub passes-total : (lines : List Line) (name : List ℕ) (level number : ℕ) (t
     → is_total_at name level total.line.statement ≡ true
 passes-total lines name level number total =
     ap (is_total_at name level) total.says_total
-    ∙ by (is_same_name total.its_name name) total.same_name
+    ∙ by (is_same_name total.asked.name name) total.same_name
   where
-    by : (b : Bool) → b ≡ true → ((level_number total.its_level == level) && b) ≡ true
+    by : (b : Bool) → b ≡ true → ((level_number total.asked.level == level) && b) ≡ true
     by b is = let same = total.same_level in grind (arith, nat_tests, same, is)
 
 found : (lines : List Line) (name : List ℕ) (level number : ℕ) → total_at lines name level ≡ Some number
@@ -119,7 +115,7 @@ pub no_higher : (lines : List Line) (name : List ℕ) (level bound : ℕ)
     → ((between number : ℕ) → level < between → between < bound → ¬ HasTotal lines name between number) → 5 ≤ bound
     → (number : ℕ) → ¬ IsNextHigher lines name level number
 no_higher lines name level bound none great number is =
-    let small = level-small is.total.its_level in
+    let small = level-small is.total.asked.level in
     let same = is.total.same_level in
     none is.higher number is.above (omega (arith, small, same, great)) is.total
 

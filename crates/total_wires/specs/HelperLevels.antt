@@ -4,8 +4,8 @@ use Rattle.plans.specs.Plans.{Lists}
 use Rattle.plans.specs.declared.counter.TotalCounter.{TotalCounter}
 use Rattle.charts.specs.Levels.{level_number}
 use Rattle.charts.specs.declared.chart.Line.{Line}
-use Rattle.charts.specs.declared.level.Level.{Level}
 use Rattle.charts.specs.declared.statement.SignRule.{SignRule}
+use Rattle.charts.specs.declared.statement.TotalLine.{TotalLine}
 use Rattle.hubs.specs.declared.hub.Hub.{Hub}
 use Rattle.line_wires.specs.HelperAdds.{OfSome}
 use Rattle.total_wires.specs.HelperCounters.{IsCounterOnPanel, positions_of}
@@ -29,7 +29,7 @@ pub data OfNext (lines : List Line) (name : List ℕ) (level : ℕ) (of : ℕ �
   next : (number : ℕ) → IsNextHigher lines name level number → of number exit entry → OfNext lines name level of exit entry
 
 -- the wires of the transfer of a total to the next higher one, if there is one
-abbrev pub NextWires : List Line → Lists → (name : List ℕ) → Level → (digits : ℕ) → TotalCounter → Option SignRule → Wires
-NextWires lines plan name level digits counter rule =
-    OfNext lines name (level_number level) (λ number.
-    OfSome (counter_for lines plan number) (λ higher. TransferWires level digits counter higher rule))
+abbrev pub NextWires : List Line → Lists → TotalLine → TotalCounter → Option SignRule → Wires
+NextWires lines plan total counter rule =
+    OfNext lines total.name (level_number total.level) (λ number.
+    OfSome (counter_for lines plan number) (λ higher. TransferWires total counter higher rule))

@@ -8,9 +8,10 @@ use Rattle.charts.specs.declared.level.Level.{Level}
 use Rattle.charts.specs.declared.statement.Field.{Field}
 use Rattle.charts.specs.declared.statement.Mark.{Mark}
 use Rattle.charts.specs.declared.statement.SignRule.{SignRule}
+use Rattle.charts.specs.declared.statement.TotalLine.{TotalLine}
 use Rattle.hubs.specs.declared.hub.Group.{Group}
 use Rattle.hubs.specs.declared.hub.Hub.TheVariants.{SR, GX, BAN, BAT, SX, CC, PX, GE, PL, MI, RO, BT, BAC, PIC, SE, SI, SO, W}
-use Rattle.line_wires.specs.Below.wiring_table.Figures.{rule_of, digit_wheel, mark_text, total_emitter}
+use Rattle.line_wires.specs.Below.wiring_table.Figures.{rule_of, digit_wheel, mark_text, mark_wheel, total_emitter}
 use Rattle.line_wires.specs.HelperAdds.{One, Both, Upto, OfSome}
 use Rattle.total_wires.specs.HelperCounters.{ControlWires, EachGroup, RingWires, entry_of, exit_of, place_of}
 use Rattle.line_wires.specs.Below.wiring_table.Parts.{pilot_for, negative_side, positive_side, top_group}
@@ -43,14 +44,15 @@ EntryWires plan name field counter =
     Both (EntryDigits field counter) (EntrySense plan name counter (rule_of field.kind))
 
 -- the digits of a total to their wheels
-abbrev pub TotalDigits : (wheel digits decimals : ℕ) → TotalCounter → Wires
-TotalDigits wheel digits decimals counter =
-    Upto digits (λ place. One (exit_of (place_of counter (place + 1))) (W (digit_wheel wheel digits decimals (place + 1))))
+abbrev pub TotalDigits : TotalLine → (decimals : ℕ) → TotalCounter → Wires
+TotalDigits total decimals counter =
+    Upto total.digits (λ place.
+    One (exit_of (place_of counter (place + 1))) (W (digit_wheel total.wheel total.digits decimals (place + 1))))
 
 -- the read-out of a total in the cycle that prints it
-abbrev pub ReadOutWires : Level → (wheel digits decimals : ℕ) → TotalCounter → Wires
-ReadOutWires level wheel digits decimals counter =
-    Both (ControlWires (PX (level_number level) 3) RO counter) (TotalDigits wheel digits decimals counter)
+abbrev pub ReadOutWires : TotalLine → (decimals : ℕ) → TotalCounter → Wires
+ReadOutWires total decimals counter =
+    Both (ControlWires (PX (level_number total.level) 3) RO counter) (TotalDigits total decimals counter)
 
 -- a group back into itself, on all its positions
 abbrev pub FeedbackWires : Group → Wires
@@ -74,9 +76,10 @@ TotalMark level wheel mark group =
     MarkWires (total_emitter (level_number level)) wheel (mark_text mark) (λ k. BAC group (3 + k)) (λ k. BAT group (3 + k))
 
 -- what only a signed total has
-abbrev pub SignedTotal : Level → (wheel : ℕ) → Option Mark → TotalCounter → Wires
-SignedTotal level wheel mark counter =
-    Both (ConversionWires level counter) (OfSome mark (λ its_mark. TotalMark level wheel its_mark (top_group counter)))
+abbrev pub SignedTotal : TotalLine → (decimals : ℕ) → TotalCounter → Wires
+SignedTotal total decimals counter =
+    Both (ConversionWires total.level counter) (OfSome total.mark (λ mark.
+    TotalMark total.level (mark_wheel total.wheel total.digits decimals) mark (top_group counter)))
 
 -- the digits of a total to another counter
 abbrev pub TransferDigits : (digits : ℕ) → (counter higher : TotalCounter) → Wires
@@ -96,9 +99,9 @@ TransferSense level counter higher None = ControlWires (PX (level_number level) 
 TransferSense level counter higher (Some rule) = SignedTransfer (level_number level) counter higher
 
 -- the transfer of a total to the counter of another
-abbrev pub TransferWires : Level → (digits : ℕ) → (counter higher : TotalCounter) → Option SignRule → Wires
-TransferWires level digits counter higher rule =
-    Both (TransferDigits digits counter higher) (TransferSense level counter higher rule)
+abbrev pub TransferWires : TotalLine → (counter higher : TotalCounter) → Option SignRule → Wires
+TransferWires total counter higher rule =
+    Both (TransferDigits total.digits counter higher) (TransferSense total.level counter higher rule)
 
 -- the columns of a text through a storage unit to as many wheels
 abbrev pub StoredColumns : (unit wheel : ℕ) → Field → Wires

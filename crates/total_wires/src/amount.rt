@@ -5,7 +5,7 @@ ghost use Rattle.chart_rules.specs.HelperOnCard.{IsOnCard};
 ghost use Rattle.charts.specs.Field.{columns_of, decimals_of};
 ghost use Rattle.charts.specs.Levels.{level_number};
 ghost use Rattle.line_wires.specs.HelperAdds.{Adds, OfSome, Where};
-ghost use Rattle.line_wires.specs.HelperRanges.{HasWheelsForMark};
+ghost use Rattle.line_wires.specs.HelperItems.{HasFigureWheels};
 ghost use Rattle.total_wires.specs.HelperCounters.{IsCounterOnPanel, positions_of};
 ghost use Rattle.total_wires.specs.HelperTotalRows.{EntryWires, SignedTotal};
 ghost use Rattle.total_wires.specs.HelperTotals.{IsGoodTotal, TotalWires};
@@ -16,8 +16,8 @@ use crate::entry::wire_entry;
 use crate::total::{wire_read_out, wire_signed_total};
 use crate::transfer::{is_lowest, wire_transfer};
 use chart_rules::Chart;
-use charts::{Field, Level, Mark, Name, SignRule};
-use line_wires::{mark_wheel, rule_of, wire_point};
+use charts::{Field, SignRule, TotalLine};
+use line_wires::{rule_of, wire_point};
 use plans::{Plan, TotalCounter};
 use setups::Setup;
 use std::alloc::AllocError;
@@ -27,8 +27,7 @@ fn wire_lowest(
     setup: &mut Setup,
     chart: &Chart,
     plan: &Plan,
-    name: Name,
-    level: Level,
+    total: &TotalLine,
     field: Field,
     counter: TotalCounter,
 ) -> Result<(), AllocError>
@@ -36,11 +35,11 @@ fn wire_lowest(
     requires counter { IsCounterOnPanel counter }
     requires wide { columns_of field ≤ positions_of counter }
     ensures { OnOk result (Adds
-        (Where (IsLowest chart.now.lines name (level_number level)) (EntryWires plan.now name field counter))
+        (Where (IsLowest chart.now.lines total.now.name (level_number total.now.level)) (EntryWires plan.now total.now.name field counter))
         setup.old setup.new) }
 {
-    if is_lowest(chart, name, level) {
-        wire_entry(setup, plan, name, field, counter)
+    if is_lowest(chart, total.name, total.level) {
+        wire_entry(setup, plan, total.name, field, counter)
     } else {
         Ok(())
     }
@@ -49,18 +48,17 @@ fn wire_lowest(
 // Wires what only a signed total has, where the amount has a sign rule.
 fn wire_sign(
     setup: &mut Setup,
-    level: Level,
-    wheel: u16,
-    mark: Option<Mark>,
+    total: &TotalLine,
+    decimals: u16,
     counter: TotalCounter,
     rule: Option<SignRule>,
 ) -> Result<(), AllocError>
     requires counter { IsCounterOnPanel counter }
-    requires wheels { HasWheelsForMark wheel mark }
-    ensures { OnOk result (Adds (OfSome rule (λ its_rule. SignedTotal level wheel mark counter)) setup.old setup.new) }
+    requires wheels { HasFigureWheels total.now.wheel total.now.digits decimals total.now.mark }
+    ensures { OnOk result (Adds (OfSome rule (λ its_rule. SignedTotal total.now decimals counter)) setup.old setup.new) }
 {
     match rule {
-        Some(_) => wire_signed_total(setup, level, wheel, mark, counter),
+        Some(_) => wire_signed_total(setup, total, decimals, counter),
         None => Ok(()),
     }
 }
@@ -71,16 +69,12 @@ pub fn wire_total(
     chart: &Chart,
     plan: &Plan,
     line: u16,
-    level: Level,
-    wheel: u16,
-    name: Name,
-    digits: u16,
-    mark: Option<Mark>,
+    total: &TotalLine,
     field: Field,
 ) -> Result<(), AllocError>
-    requires { IsGoodTotal chart.now.lines plan.now line level wheel name digits mark field }
-    ensures { OnOk result (Adds (OfSome (counter_for chart.now.lines plan.now line) (λ counter.
-        TotalWires chart.now.lines plan.now name level wheel digits mark field counter)) setup.old setup.new) }
+    requires { IsGoodTotal chart.now.lines plan.now line total.now field }
+    ensures { OnOk result (Adds (OfSome (counter_for chart.now.lines plan.now line)
+        (λ counter. TotalWires chart.now.lines plan.now total.now field counter)) setup.old setup.new) }
 {
     // Every total has a counter.
     let Some(counter) = plan.counter_on(chart, line) else {
@@ -88,11 +82,11 @@ pub fn wire_total(
     };
     let kind = field.kind;
     let (decimals, rule) = (kind.decimals(), rule_of(kind));
-    let after = mark_wheel(wheel, digits, decimals);
-    wire_lowest(setup, chart, plan, name, level, field, counter)?;
-    wire_read_out(setup, level, wheel, digits, decimals, counter)?;
-    wire_point(setup, 4 + level.number(), wheel, digits, decimals)?;
-    wire_sign(setup, level, after, mark, counter, rule)?;
-    wire_transfer(setup, chart, plan, name, level, digits, counter, rule)?;
+    let emitter = 4 + total.level.number();
+    wire_lowest(setup, chart, plan, total, field, counter)?;
+    wire_read_out(setup, total, decimals, counter)?;
+    wire_point(setup, emitter, total.wheel, total.digits, decimals)?;
+    wire_sign(setup, total, decimals, counter, rule)?;
+    wire_transfer(setup, chart, plan, total, counter, rule)?;
     wire_carry_up(setup, counter)
 }

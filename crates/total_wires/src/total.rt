@@ -3,14 +3,14 @@
 ghost use Rattle.std.specs.Prelude.{◌≡◌, ◌+◌, ◌≤◌, OnOk, length};
 ghost use Rattle.line_wires.specs.Below.wiring_table.Figures.{mark_text, mark_wheel};
 ghost use Rattle.line_wires.specs.HelperAdds.{Adds};
-ghost use Rattle.line_wires.specs.HelperRanges.{HasWheelsForMark};
+ghost use Rattle.line_wires.specs.HelperItems.{HasFigureWheels};
 ghost use Rattle.total_wires.specs.HelperCounters.{EachGroup, IsCounterOnPanel, IsOnPanel, positions_of};
 ghost use Rattle.total_wires.specs.HelperTotalRows.{TotalDigits, ReadOutWires, FeedbackWires, BalanceWires, ConversionWires, TotalMark, SignedTotal};
 
 use crate::counter::{Control, panel_group, place_of, top_group, wire_controls, wire_ring};
-use charts::{Level, Mark};
+use charts::{Level, Mark, TotalLine};
 use hubs::{Group, Hub};
-use line_wires::{connect, digit_wheel, mark_characters, wire_character};
+use line_wires::{connect, digit_wheel, mark_characters, mark_wheel, wire_character};
 use plans::TotalCounter;
 use setups::Setup;
 use std::alloc::AllocError;
@@ -18,20 +18,19 @@ use std::alloc::AllocError;
 // Wires the digits of a total to their wheels.
 fn wire_total_digits(
     setup: &mut Setup,
-    wheel: u16,
-    digits: u16,
+    total: &TotalLine,
     decimals: u16,
     counter: TotalCounter,
 ) -> Result<(), AllocError>
     requires counter { IsCounterOnPanel counter }
-    requires wide { digits ≤ positions_of counter }
-    requires first { 1 ≤ wheel }
-    requires last { mark_wheel wheel digits decimals ≤ 121 }
-    ensures { OnOk result (Adds (TotalDigits wheel digits decimals counter) setup.old setup.new) }
+    requires wide { total.now.digits ≤ positions_of counter }
+    requires first { 1 ≤ total.now.wheel }
+    requires last { mark_wheel total.now.wheel total.now.digits decimals ≤ 121 }
+    ensures { OnOk result (Adds (TotalDigits total.now decimals counter) setup.old setup.new) }
 {
-    for place in 0..digits {
+    for place in 0..total.digits {
         let position = place + 1;
-        let entry = digit_wheel(wheel, digits, decimals, position);
+        let entry = digit_wheel(total.wheel, total.digits, decimals, position);
         let (group, place) = place_of(counter, position as u8);
         connect(setup, Hub::GX(group, place), Hub::W(entry))?;
     }
@@ -41,20 +40,19 @@ fn wire_total_digits(
 /// Wires the read-out of a total in the cycle that prints it.
 pub(crate) fn wire_read_out(
     setup: &mut Setup,
-    level: Level,
-    wheel: u16,
-    digits: u16,
+    total: &TotalLine,
     decimals: u16,
     counter: TotalCounter,
 ) -> Result<(), AllocError>
     requires counter { IsCounterOnPanel counter }
-    requires wide { digits ≤ positions_of counter }
-    requires first { 1 ≤ wheel }
-    requires last { mark_wheel wheel digits decimals ≤ 121 }
-    ensures { OnOk result (Adds (ReadOutWires level wheel digits decimals counter) setup.old setup.new) }
+    requires wide { total.now.digits ≤ positions_of counter }
+    requires first { 1 ≤ total.now.wheel }
+    requires last { mark_wheel total.now.wheel total.now.digits decimals ≤ 121 }
+    ensures { OnOk result (Adds (ReadOutWires total.now decimals counter) setup.old setup.new) }
 {
-    wire_controls(setup, Hub::PX(level.number(), 3), Control::ReadOut, counter)?;
-    wire_total_digits(setup, wheel, digits, decimals, counter)
+    let read_out = Hub::PX(total.level.number(), 3);
+    wire_controls(setup, read_out, Control::ReadOut, counter)?;
+    wire_total_digits(setup, total, decimals, counter)
 }
 
 // Wires a counter group back into itself, on all its positions.
@@ -135,18 +133,18 @@ fn wire_total_mark(
 /// Wires the sign conversion of a signed total, and its mark.
 pub(crate) fn wire_signed_total(
     setup: &mut Setup,
-    level: Level,
-    wheel: u16,
-    mark: Option<Mark>,
+    total: &TotalLine,
+    decimals: u16,
     counter: TotalCounter,
 ) -> Result<(), AllocError>
     requires counter { IsCounterOnPanel counter }
-    requires wheels { HasWheelsForMark wheel mark }
-    ensures { OnOk result (Adds (SignedTotal level wheel mark counter) setup.old setup.new) }
+    requires wheels { HasFigureWheels total.now.wheel total.now.digits decimals total.now.mark }
+    ensures { OnOk result (Adds (SignedTotal total.now decimals counter) setup.old setup.new) }
 {
-    wire_conversion(setup, level, counter)?;
-    match mark {
-        Some(mark) => wire_total_mark(setup, level, wheel, mark, top_group(counter)),
-        None => Ok(()),
-    }
+    wire_conversion(setup, total.level, counter)?;
+    let Some(mark) = total.mark else {
+        return Ok(());
+    };
+    let wheel = mark_wheel(total.wheel, total.digits, decimals);
+    wire_total_mark(setup, total.level, wheel, mark, top_group(counter))
 }

@@ -11,7 +11,7 @@ ghost use Rattle.line_wires.specs.Below.wiring_table.Parts.{IsLowest, IsNextHigh
 
 use crate::counter::{Control, place_of, top_group, wire_controls};
 use chart_rules::Chart;
-use charts::{Level, Name, SignRule, Statement};
+use charts::{Level, Name, SignRule, Statement, TotalLine};
 use hubs::Hub;
 use line_wires::connect;
 use plans::{Plan, TotalCounter};
@@ -23,8 +23,8 @@ fn is_total_at(wanted: Name, wanted_level: u8, statement: &Statement) -> bool
     ensures { result ≡ is_total_at wanted wanted_level statement.now }
 {
     match statement {
-        Statement::TotalAmount { level, name, .. } => {
-            level.number() == wanted_level && name.is(wanted)
+        Statement::TotalAmount(total) => {
+            total.level.number() == wanted_level && total.name.is(wanted)
         }
         _ => false,
     }
@@ -131,28 +131,25 @@ pub(crate) fn wire_transfer(
     setup: &mut Setup,
     chart: &Chart,
     plan: &Plan,
-    name: Name,
-    level: Level,
-    digits: u16,
+    total: &TotalLine,
     counter: TotalCounter,
     rule: Option<SignRule>,
 ) -> Result<(), AllocError>
     requires counter { IsCounterOnPanel counter }
-    requires wide { digits ≤ positions_of counter }
-    requires higher { (number : ℕ) → IsNextHigher chart.now.lines name (level_number level) number
-        → HasCounterFor chart.now.lines plan.now number digits }
-    requires alone { (one other : ℕ) → IsNextHigher chart.now.lines name (level_number level) one
-        → IsNextHigher chart.now.lines name (level_number level) other → one ≡ other }
-    ensures { OnOk result (Adds
-        (NextWires chart.now.lines plan.now name level digits counter rule) setup.old setup.new) }
+    requires wide { total.now.digits ≤ positions_of counter }
+    requires higher { (number : ℕ) → IsNextHigher chart.now.lines total.now.name (level_number total.now.level) number
+        → HasCounterFor chart.now.lines plan.now number total.now.digits }
+    requires alone { (one other : ℕ) → IsNextHigher chart.now.lines total.now.name (level_number total.now.level) one
+        → IsNextHigher chart.now.lines total.now.name (level_number total.now.level) other → one ≡ other }
+    ensures { OnOk result (Adds (NextWires chart.now.lines plan.now total.now counter rule) setup.old setup.new) }
 {
-    let Some(line) = next_higher(chart, name, level) else {
+    let Some(line) = next_higher(chart, total.name, total.level) else {
         return Ok(());
     };
     // Every total has a counter.
     let Some(higher) = plan.counter_on(chart, line) else {
         unreachable!()
     };
-    wire_transfer_digits(setup, digits, counter, higher)?;
-    wire_transfer_sense(setup, level, counter, higher, rule)
+    wire_transfer_digits(setup, total.digits, counter, higher)?;
+    wire_transfer_sense(setup, total.level, counter, higher, rule)
 }

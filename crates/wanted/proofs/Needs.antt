@@ -31,9 +31,9 @@ need-fits (Some field) digits known range = by (is_some (sign_column field.kind)
 -- the total of a line that keeps these rules
 total-fits : (lines : List Line) (number : ℕ) (statement : Statement) (total : Total) → line_total lines number statement ≡ Some total
     → breaks_unknown_name (fields_of lines) statement ≡ false → breaks_digits_range (fields_of lines) statement ≡ false → total.need ≤ 16
-total-fits lines number (says.TotalAmount level wheel name digits mark) total is known range =
-    let need : need_of (field_named lines name) digits ≡ total.need = cc in
-    rw (← need) (need-fits (field_named lines name) digits known range)
+total-fits lines number (says.TotalAmount asked) total is known range =
+    let need : need_of (field_named lines asked.name) asked.digits ≡ total.need = cc in
+    rw (← need) (need-fits (field_named lines asked.name) asked.digits known range)
 total-fits lines number other total is known range = absurd (cc)
 
 -- the totals of a lawful chart

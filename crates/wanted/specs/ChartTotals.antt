@@ -15,8 +15,8 @@ need_of field digits = positions_of field digits
 
 -- the total that a line is, if it is a TOTAL amount
 abbrev pub line_total : List Line → ℕ → Statement → Option Total
-line_total lines number (says.TotalAmount level wheel name digits mark) =
-    Some (record { level = level; line = number; need = need_of (field_named lines name) digits })
+line_total lines number (says.TotalAmount total) =
+    Some (record { level = total.level; line = number; need = need_of (field_named lines total.name) total.digits })
 line_total lines number other = None
 
 -- the totals of a chart, in the order of their lines

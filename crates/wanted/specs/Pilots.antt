@@ -12,7 +12,7 @@ use Rattle.charts.specs.Name.{is_same_name}
 -- whether a line puts the amount of a name on a DETAIL or TOTAL line
 abbrev pub shows : List ℕ → Statement → Bool
 shows wanted (says.DetailField wheel name option) = is_same_name name wanted
-shows wanted (says.TotalAmount level wheel name digits mark) = is_same_name name wanted
+shows wanted (says.TotalAmount total) = is_same_name total.name wanted
 shows wanted other = false
 
 -- whether a name stands on a DETAIL or TOTAL line of a chart

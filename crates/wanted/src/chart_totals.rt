@@ -33,19 +33,11 @@ pub fn line_total(chart: &Chart, line: &Line) -> Option<Total>
     ensures { result ≡ totals.line_total chart.now.lines line.now.number line.now.statement }
 {
     match &line.statement {
-        Statement::TotalAmount {
-            level,
-            name,
-            digits,
-            ..
-        } => {
-            let need = need_of(chart.field(*name), *digits);
-            Some(Total {
-                level: *level,
-                line: line.number,
-                need,
-            })
-        }
+        Statement::TotalAmount(total) => Some(Total {
+            level: total.level,
+            line: line.number,
+            need: need_of(chart.field(total.name), total.digits),
+        }),
         _ => None,
     }
 }

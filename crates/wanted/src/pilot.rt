@@ -13,9 +13,8 @@ fn shows(wanted: Name, statement: &Statement) -> bool
     ensures { result ≡ pilots.shows wanted statement.now }
 {
     match statement {
-        Statement::DetailField { name, .. } | Statement::TotalAmount { name, .. } => {
-            name.is(wanted)
-        }
+        Statement::DetailField { name, .. } => name.is(wanted),
+        Statement::TotalAmount(total) => total.name.is(wanted),
         _ => false,
     }
 }

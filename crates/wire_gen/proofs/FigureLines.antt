@@ -6,15 +6,15 @@ use Rattle.chart_rules.specs.Below.print_rules.Items.{mark_shown, item_of, detai
 use Rattle.charts.specs.Field.{columns_of, decimals_of, is_amount}
 use Rattle.charts.specs.Levels.{level_number}
 use Rattle.charts.specs.declared.chart.Line.{Line}
-use Rattle.charts.specs.declared.level.Level.{Level}
 use Rattle.charts.specs.declared.statement.DetailOption.{DetailOption}
 use Rattle.charts.specs.declared.statement.Field.{Field}
 use Rattle.charts.specs.declared.statement.FieldKind.{FieldKind}
 use Rattle.charts.specs.declared.statement.FieldKind.TheVariants as holds
 use Rattle.charts.specs.declared.statement.Mark.{Mark}
 use Rattle.charts.specs.declared.statement.Statement.{Statement}
+use Rattle.charts.specs.declared.statement.TotalLine.{TotalLine}
 use Rattle.charts.specs.declared.statement.Statement.TheVariants as says
-use Rattle.line_wires.specs.Below.wiring_table.Figures.{IsText, IsAmount, IsSigned, IsUnsigned, IsLiteral, on_heading, on_detail, on_total, IsFigure, HasPunch, HasPunchAt, rule_of, digit_wheel, point_wheel, mark_wheel, mark_text, detail_emitter, heading_emitter, total_emitter}
+use Rattle.line_wires.specs.Below.wiring_table.Figures.{IsAmount, on_detail, on_total, IsFigure}
 use Rattle.line_wires.specs.Below.wiring_table.Figures as figures
 use Rattle.line_wires.specs.HelperItems.{HasFigureWheels, DetailRanges, IsGoodDetail}
 use Rattle.total_wires.specs.HelperTotals.{IsGoodTotal}
@@ -119,43 +119,43 @@ module _ (lines : List Line) where
             has = with_it.1;
           }
 
-  amount-are : (plan : Lists) (number : ℕ) (level : Level) (wheel : ℕ) (name : List ℕ) (digits : ℕ) (mark : Option Mark)
-      → IsNamed (field_named lines name) (IsGoodTotal lines plan number level wheel name digits mark)
-      → FiguresAre lines (says.TotalAmount level wheel name digits mark)
-  amount-are plan number level wheel name digits mark named_good = record {
+  amount-are : (plan : Lists) (number : ℕ) (total : TotalLine)
+      → IsNamed (field_named lines total.name) (IsGoodTotal lines plan number total)
+      → FiguresAre lines (says.TotalAmount total)
+  amount-are plan number total named_good = record {
     good = total-fine;
-    there = λ item figure is has. (4 + level_number level, onward item figure is has);
+    there = λ item figure is has. (4 + level_number total.level, onward item figure is has);
     back = back-again;
   }
     where
-      total-fine : (emitter at : ℕ) (figure : Figure) → IsFigure lines (says.TotalAmount level wheel name digits mark) emitter at figure
+      total-fine : (emitter at : ℕ) (figure : Figure) → IsFigure lines (says.TotalAmount total) emitter at figure
           → IsGoodFigure at figure
-      total-fine emitter at figure (figures.IsFigure.on_total _ _ _ _ _ field is) =
-          let known = named-has (field_named lines name) (IsGoodTotal lines plan number level wheel name digits mark) named_good field is.named in
+      total-fine emitter at figure (figures.IsFigure.on_total _ field is) =
+          let known = named-has (field_named lines total.name) (IsGoodTotal lines plan number total) named_good field is.named in
           let order = known.card.order in
           let enough = known.enough in
-          good-figure wheel digits (decimals_of field.kind) mark known.wheels (omega (arith, order, enough))
+          good-figure total.wheel total.digits (decimals_of field.kind) total.mark known.wheels (omega (arith, order, enough))
 
       onward : (item : Item) (figure : Figure)
-          → item_of (fields_of lines) (says.TotalAmount level wheel name digits mark) ≡ Some item
+          → item_of (fields_of lines) (says.TotalAmount total) ≡ Some item
           → item.figure ≡ Some figure
-          → IsFigure lines (says.TotalAmount level wheel name digits mark) (4 + level_number level) item.first figure
+          → IsFigure lines (says.TotalAmount total) (4 + level_number total.level) item.first figure
       onward item figure is has =
-          let known = named-field (field_named lines name) (IsGoodTotal lines plan number level wheel name digits mark) named_good in
-          let said = sym (ap (option_map (λ f. total_item level wheel digits mark f.kind)) known.1) ∙ is in
-          let e : total_item level wheel digits mark known.0.kind ≡ item = cc in
-          let amount : IsAmount lines name known.0 = record { named = known.1; holds_amount = known.2.holds_amount } in
-          as-figure (says.TotalAmount level wheel name digits mark) (4 + level_number level) wheel
-          (record { digits = digits; decimals = decimals_of known.0.kind; mark = mark }) figure item.first
+          let known = named-field (field_named lines total.name) (IsGoodTotal lines plan number total) named_good in
+          let said = sym (ap (option_map (λ f. total_item total f.kind)) known.1) ∙ is in
+          let e : total_item total known.0.kind ≡ item = cc in
+          let amount : IsAmount lines total.name known.0 = record { named = known.1; holds_amount = known.2.holds_amount } in
+          as-figure (says.TotalAmount total) (4 + level_number total.level) total.wheel
+          (record { digits = total.digits; decimals = decimals_of known.0.kind; mark = total.mark }) figure item.first
           (ap (λ i. i.first) e) (ap (λ i. i.figure) e ∙ has)
-          (figures.IsFigure.on_total level wheel name digits mark known.0 amount)
+          (figures.IsFigure.on_total total known.0 amount)
 
-      back-again : (emitter at : ℕ) (figure : Figure) → IsFigure lines (says.TotalAmount level wheel name digits mark) emitter at figure
-          → ItemWith lines (says.TotalAmount level wheel name digits mark) at figure
-      back-again emitter at figure (figures.IsFigure.on_total _ _ _ _ _ field is) =
+      back-again : (emitter at : ℕ) (figure : Figure) → IsFigure lines (says.TotalAmount total) emitter at figure
+          → ItemWith lines (says.TotalAmount total) at figure
+      back-again emitter at figure (figures.IsFigure.on_total _ field is) =
           record {
-            item = total_item level wheel digits mark field.kind;
-            is_item = ap (option_map (λ f. total_item level wheel digits mark f.kind)) is.named;
+            item = total_item total field.kind;
+            is_item = ap (option_map (λ f. total_item total f.kind)) is.named;
             from = refl;
             has = refl;
           }
@@ -169,7 +169,7 @@ module _ (lines : List Line) where
   pub figures-are : (plan : Lists) (number : ℕ) (statement : Statement) → IsGood lines plan number statement
       → FiguresAre lines statement
   figures-are plan number (says.DetailField wheel name shown) is = detail-are wheel name shown is
-  figures-are plan number (says.TotalAmount level wheel name digits mark) is = amount-are plan number level wheel name digits mark is
+  figures-are plan number (says.TotalAmount total) is = amount-are plan number total is
   figures-are plan number (says.TotalText level wheel name) is =
       none-are (says.TotalText level wheel name) (λ emitter at figure wrong. elim wrong [ ])
       (λ item figure. text-none (field_named lines name) item figure _ (λ field. refl))

@@ -1,5 +1,5 @@
 -- What is known of each line of a lawful chart and its plan.
-use Rattle.std.proofs.Common.{◌≡◌, ℕ, zero, suc, ◌+◌, ◌<◌, ◌≤◌, ◌⊎◌, inl, inr, Bool, true, false, not, ◌&&◌, ◌==◌, cond, nat_lt, nat_le, option_map, List, [], ◌∷◌, length, Option, Some, slice_get, refl, sym, ap, ◌∙◌, subst, arith}
+use Rattle.std.proofs.Common.{◌≡◌, ℕ, zero, suc, ◌+◌, ◌<◌, ◌≤◌, ◌⊎◌, inl, inr, Bool, true, false, not, ◌&&◌, ◌==◌, cond, nat_lt, nat_le, option_map, List, [], ◌∷◌, length, Some, slice_get, refl, sym, ap, ◌∙◌, subst, arith}
 use Rattle.plans.specs.Plans.{Lists, ServesChart}
 use Rattle.chart_rules.specs.Below.field_rules.Fields.{field_named}
 use Rattle.chart_rules.specs.Below.print_rules.Items.{mark_shown}
@@ -15,8 +15,8 @@ use Rattle.charts.specs.declared.statement.DetailOption.{DetailOption}
 use Rattle.charts.specs.declared.statement.Field.{Field}
 use Rattle.charts.specs.declared.statement.FieldKind.{FieldKind}
 use Rattle.charts.specs.declared.statement.FieldKind.TheVariants as holds
-use Rattle.charts.specs.declared.statement.Mark.{Mark}
 use Rattle.charts.specs.declared.statement.Statement.{Statement}
+use Rattle.charts.specs.declared.statement.TotalLine.{TotalLine}
 use Rattle.charts.specs.declared.statement.Statement.TheVariants as says
 use Rattle.line_wires.specs.Below.wiring_table.Figures.{mark_wheel}
 use Rattle.line_wires.specs.HelperItems.{IsGoodDetail}
@@ -179,13 +179,13 @@ module _ (chart : Chart) (plan : Lists) (lawful : IsLawful chart) (rise : Number
       narrow-of field at = narrow-field chart.lines line level wheel name field few listed is at
 
   -- the next higher total has as many digits, and a counter for them
-  higher-counter : (level : Level) (wheel : ℕ) (name : List ℕ) (digits : ℕ) (mark : Option Mark)
-      → line.statement ≡ says.TotalAmount level wheel name digits mark → (other : ℕ)
-      → IsNextHigher chart.lines name (level_number level) other → HasCounterFor chart.lines plan other digits
-  higher-counter level wheel name digits mark is other next_one =
-      let found = counter-for chart.lines plan chart.end rise is_for name next_one.higher other next_one.total in
-      let less : digits ≤ next_one.total.digits =
-      digits-grow chart name lawful (level_number level) next_one.higher line.number other next_one.above (total-of chart.lines line level wheel name digits mark listed is)
+  higher-counter : (total : TotalLine)
+      → line.statement ≡ says.TotalAmount total → (other : ℕ)
+      → IsNextHigher chart.lines total.name (level_number total.level) other → HasCounterFor chart.lines plan other total.digits
+  higher-counter total is other next_one =
+      let found = counter-for chart.lines plan chart.end rise is_for total.name next_one.higher other next_one.total in
+      let less : total.digits ≤ next_one.total.asked.digits =
+      digits-grow chart total.name lawful (level_number total.level) next_one.higher line.number other next_one.above (total-of chart.lines line total listed is)
       next_one.total in
       let enough = found.wide in
       record { counter = found.counter; there = found.there; on_panel = found.on_panel; wide = omega (arith, less, enough) }
@@ -205,21 +205,21 @@ module _ (chart : Chart) (plan : Lists) (lawful : IsLawful chart) (rise : Number
           let P : ℕ → Type 0 = λ h. HasTotal chart.lines name h former in
           one-total chart name lawful is_other.higher former latter (subst P same is.total) is_other.total
 
-  amount-good : (level : Level) (wheel : ℕ) (name : List ℕ) (digits : ℕ) (mark : Option Mark)
-      → line.statement ≡ says.TotalAmount level wheel name digits mark
-      → IsNamed (field_named chart.lines name) (IsGoodTotal chart.lines plan line.number level wheel name digits mark)
-  amount-good level wheel name digits mark is =
-      let known = named (says.TotalAmount level wheel name digits mark) name is (λ earlier. refl) in
-      let good = good-field chart lawful name known.0 known.1 in
-      let right = kept rule.WrongKind (says.TotalAmount level wheel name digits mark) is in
+  amount-good : (total : TotalLine)
+      → line.statement ≡ says.TotalAmount total
+      → IsNamed (field_named chart.lines total.name) (IsGoodTotal chart.lines plan line.number total)
+  amount-good total is =
+      let known = named (says.TotalAmount total) total.name is (λ earlier. refl) in
+      let good = good-field chart lawful total.name known.0 known.1 in
+      let right = kept rule.WrongKind (says.TotalAmount total) is in
       let amount : is_amount known.0.kind ≡ true = not-false (is_amount known.0.kind) (sym (ap names_text known.1) ∙ right.1) in
-      let own = total-of chart.lines line level wheel name digits mark listed is in
-      let enough = (total-digits chart name lawful (level_number level) line.number known.0 own known.1).enough in
+      let own = total-of chart.lines line total listed is in
+      let enough = (total-digits chart total.name lawful (level_number total.level) line.number known.0 own known.1).enough in
       let decimals = good.decimals in
-      let item = ap (option_map (λ f. total_item level wheel digits mark f.kind)) known.1 in
-      let within = wheels (says.TotalAmount level wheel name digits mark) (total_item level wheel digits mark known.0.kind) wheel
-      (wheel + (digits + cond (nat_lt 0 (decimals_of known.0.kind)) 1 0 + mark_width mark)) is item refl refl in
-      named-by (field_named chart.lines name) known.0 (IsGoodTotal chart.lines plan line.number level wheel name digits mark) known.1
+      let item = ap (option_map (λ f. total_item total f.kind)) known.1 in
+      let within = wheels (says.TotalAmount total) (total_item total known.0.kind) total.wheel
+      (total.wheel + (total.digits + cond (nat_lt 0 (decimals_of known.0.kind)) 1 0 + mark_width total.mark)) is item refl refl in
+      named-by (field_named chart.lines total.name) known.0 (IsGoodTotal chart.lines plan line.number total) known.1
       (record {
         card = good.card;
         holds_amount = amount;
@@ -229,9 +229,9 @@ module _ (chart : Chart) (plan : Lists) (lawful : IsLawful chart) (rise : Number
           whole = omega (arith, decimals, enough);
         };
         enough = enough;
-        counter = counter-for chart.lines plan chart.end rise is_for name (level_number level) line.number own;
-        higher = higher-counter level wheel name digits mark is;
-        alone = next-alone level name;
+        counter = counter-for chart.lines plan chart.end rise is_for total.name (level_number total.level) line.number own;
+        higher = higher-counter total is;
+        alone = next-alone total.level total.name;
       })
 
   channel-good : (line_kind : BodyLine) (follows : After) → line.statement ≡ says.After line_kind follows → HasChannel follows
@@ -266,7 +266,7 @@ module _ (chart : Chart) (plan : Lists) (lawful : IsLawful chart) (rise : Number
   good (says.TotalLiteral level wheel text) is =
       literal-wheels (says.TotalLiteral level wheel text) wheel text (text_item (Body (body.Total level)) wheel (length text)) is refl refl refl
   good (says.TotalText level wheel name) is = total_text-good level wheel name is
-  good (says.TotalAmount level wheel name digits mark) is = amount-good level wheel name digits mark is
+  good (says.TotalAmount total) is = amount-good total is
   good (says.After its_line follows) is = channel-good its_line follows is
   good other is = tt
 

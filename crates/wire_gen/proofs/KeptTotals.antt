@@ -61,10 +61,10 @@ enough-positions need (of.Coupled lower upper) enough =
 
 -- the total on a line of a chart has a counter of its plan, with at least its digits
 pub counter-for : (lines : List Line) (plan : Lists) (end : ℕ) → NumbersRise lines end → ServesChart lines plan
-    → (name : List ℕ) (level number : ℕ) (total : HasTotal lines name level number) → HasCounterFor lines plan number total.digits
+    → (name : List ℕ) (level number : ℕ) (total : HasTotal lines name level number) → HasCounterFor lines plan number total.asked.digits
 counter-for lines plan end rise is_for name level number total =
     let (counter, there) = counter-given lines plan name level number is_for total in
-    let need = need_of (field_named lines name) total.digits in
+    let need = need_of (field_named lines name) total.asked.digits in
     let enough = counter-enough lines plan is_for end name level number counter rise total there in
     let room = enough-positions need counter enough in
     record {

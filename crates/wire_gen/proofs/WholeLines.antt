@@ -8,7 +8,7 @@ use Rattle.charts.specs.declared.chart.Line.{Line}
 use Rattle.charts.specs.declared.statement.Statement.{Statement}
 use Rattle.charts.specs.declared.statement.Statement.TheVariants as says
 use Rattle.setups.specs.Below.hubs.declared.hub.Hub.{Hub}
-use Rattle.line_wires.specs.Below.wiring_table.Figures.{IsText, IsAmount, IsSigned, IsUnsigned, IsLiteral, on_heading, on_detail, on_total, IsFigure, HasPunch, HasPunchAt, rule_of, digit_wheel, point_wheel, mark_wheel, mark_text, detail_emitter, heading_emitter, total_emitter}
+use Rattle.line_wires.specs.Below.wiring_table.Figures.{IsLiteral, on_heading, on_detail, on_total, detail_emitter, heading_emitter, total_emitter}
 use Rattle.line_wires.specs.Below.wiring_table.Figures as figures
 use Rattle.line_wires.specs.HelperAdds.{below, some}
 use Rattle.wire_gen.specs.HelperKnown.{IsGood}
@@ -39,7 +39,7 @@ module _ (lines : List Line) (plan : Lists) (number : ℕ) where
       literal-there lines plan number (says.TotalLiteral level wheel text) (total_emitter (level_number level)) wheel text
       (figures.IsLiteral.on_total level wheel text)
   there (says.TotalText level wheel name) good = total_text-there lines plan number level wheel name good
-  there (says.TotalAmount level wheel name digits mark) good = total-there lines plan number level wheel name digits mark good
+  there (says.TotalAmount total) good = total-there lines plan number total good
   there (says.Space line spacing) good = space-there lines plan number line spacing
   there (says.After line follows) good = after-there lines plan number line follows
   there (says.Print printing) good = λ exit to wire. absurd wire
@@ -67,7 +67,7 @@ module _ (lines : List Line) (plan : Lists) (number : ℕ) where
   back (says.DetailField wheel name shown) good = detail-back lines plan number wheel name shown
   back (says.TotalLiteral level wheel text) good = total_literal-back lines plan number level wheel text
   back (says.TotalText level wheel name) good = total_text-back lines plan number level wheel name good
-  back (says.TotalAmount level wheel name digits mark) good = total-back lines plan number level wheel name digits mark good
+  back (says.TotalAmount total) good = total-back lines plan number total good
   back (says.Space line spacing) good = space-back lines plan number line spacing
   back (says.After line follows) good = after-back lines plan number line follows
   back (says.Print printing) good = none-print printing

@@ -38,7 +38,7 @@ IsGood lines plan number (says.DetailLiteral wheel literal) = HasWheels wheel (l
 IsGood lines plan number (says.DetailField wheel name shown) = IsNamed (field_named lines name) (IsGoodDetail wheel shown)
 IsGood lines plan number (says.TotalLiteral level wheel literal) = HasWheels wheel (length literal)
 IsGood lines plan number (says.TotalText level wheel name) = IsNamed (field_named lines name) (IsGoodTotalText wheel)
-IsGood lines plan number (says.TotalAmount level wheel name digits mark) =
-    IsNamed (field_named lines name) (IsGoodTotal lines plan number level wheel name digits mark)
+IsGood lines plan number (says.TotalAmount total) =
+    IsNamed (field_named lines total.name) (IsGoodTotal lines plan number total)
 IsGood lines plan number (says.After line action) = HasChannel action
 IsGood lines plan number other = Unit {0}

@@ -30,9 +30,9 @@ StatementWires lines plan number (says.TotalLiteral level wheel literal) =
     LiteralWires (total_emitter (level_number level)) wheel literal
 StatementWires lines plan number (says.TotalText level wheel name) =
     OfSome (field_named lines name) (λ field. OfSome (unit_for plan number) (λ unit. TotalTextWires level unit wheel field))
-StatementWires lines plan number (says.TotalAmount level wheel name digits mark) =
-    OfSome (field_named lines name) (λ field. OfSome (counter_for lines plan number) (λ counter.
-    TotalWires lines plan name level wheel digits mark field counter))
+StatementWires lines plan number (says.TotalAmount total) =
+    OfSome (field_named lines total.name) (λ field. OfSome (counter_for lines plan number) (λ counter.
+    TotalWires lines plan total field counter))
 StatementWires lines plan number (says.Space line spacing) = SpaceWires line spacing
 StatementWires lines plan number (says.After line action) = AfterWires line action
 StatementWires lines plan number other = NoWires

@@ -15,7 +15,7 @@ ghost use Rattle.line_wires.specs.Below.wiring_table.Parts.{counter_for, unit_fo
 ghost use Rattle.line_wires.specs.Below.wiring_table.Wires.{LineWire};
 
 use chart_rules::Chart;
-use charts::{ControlLevel, DetailOption, Level, Line, Mark, Name, Statement};
+use charts::{ControlLevel, DetailOption, Level, Line, Name, Statement, TotalLine};
 use line_wires::{wire_after, wire_control, wire_detail, wire_literal, wire_pickup, wire_space};
 use plans::Plan;
 use setups::Setup;
@@ -87,22 +87,15 @@ fn wire_total_line(
     chart: &Chart,
     plan: &Plan,
     line: u16,
-    level: Level,
-    wheel: u16,
-    name: Name,
-    digits: u16,
-    mark: Option<Mark>,
+    total: &TotalLine,
 ) -> Result<(), AllocError>
-    requires { IsNamed (field_named chart.now.lines name)
-        (IsGoodTotal chart.now.lines plan.now line level wheel name digits mark) }
-    ensures { OnOk result (Adds (OfSome (field_named chart.now.lines name) (λ field.
+    requires { IsNamed (field_named chart.now.lines total.now.name) (IsGoodTotal chart.now.lines plan.now line total.now) }
+    ensures { OnOk result (Adds (OfSome (field_named chart.now.lines total.now.name) (λ field.
         OfSome (counter_for chart.now.lines plan.now line) (λ counter.
-        TotalWires chart.now.lines plan.now name level wheel digits mark field counter))) setup.old setup.new) }
+        TotalWires chart.now.lines plan.now total.now field counter))) setup.old setup.new) }
 {
-    match chart.field(name) {
-        Some(field) => wire_total(
-            setup, chart, plan, line, level, wheel, name, digits, mark, field,
-        ),
+    match chart.field(total.name) {
+        Some(field) => wire_total(setup, chart, plan, line, total, field),
         None => Ok(()),
     }
 }
@@ -142,15 +135,7 @@ fn wire_statement(
         Statement::TotalText { level, wheel, name } => {
             wire_text_line(setup, chart, plan, line, *level, *wheel, *name)
         }
-        Statement::TotalAmount {
-            level,
-            wheel,
-            name,
-            digits,
-            mark,
-        } => wire_total_line(
-            setup, chart, plan, line, *level, *wheel, *name, *digits, *mark,
-        ),
+        Statement::TotalAmount(total) => wire_total_line(setup, chart, plan, line, total),
         Statement::Space { line, spacing } => wire_space(setup, *line, *spacing),
         Statement::After { line, action } => wire_after(setup, *line, *action),
         Statement::Print(_) | Statement::Form { .. } | Statement::Tape { .. } => Ok(()),

@@ -1,10 +1,9 @@
 -- What adds, subtracts, reads out and tests impulses the control hubs of a counter group of a total.
-use Rattle.std.proofs.Common.{◌≡◌, refl, sym, subst, ℕ, Bool, true, List, Option, Some}
+use Rattle.std.proofs.Common.{◌≡◌, refl, sym, subst, ℕ, Bool, true, List, Some}
 use Rattle.wiring_table.specs.Below.plans.Plans.{Lists}
 use Rattle.wiring_table.specs.Below.charts.Chart.{Chart, NumbersRise}
 use Rattle.wiring_table.specs.Below.charts.Levels.{level_number as chart_level}
 use Rattle.wiring_table.specs.Below.charts.declared.level.Level.{Level as ChartLevel}
-use Rattle.wiring_table.specs.Below.charts.declared.statement.Mark.{Mark}
 use Rattle.wiring_table.specs.Below.charts.declared.statement.SignRule.{SignRule}
 use Rattle.wiring_table.specs.Below.charts.declared.statement.Statement.TheVariants as says
 use Rattle.wiring_table.specs.Below.setups.Wiring.{Wiring}
@@ -25,7 +24,7 @@ use Rattle.wired_panels.proofs.CounterAsksControls.Pluses.{card, by_sign, up, by
 use Rattle.wired_panels.proofs.CounterAsksControls.Minuses.{less_by_sign, less_turned, less_by_latch}
 use Rattle.wired_panels.proofs.CounterAsksControls.ReadsOut.{shows_it, turns_it}
 use Rattle.wired_panels.proofs.CounterAsksControls.Tests.{tests_it}
-use Rattle.wired_panels.proofs.CounterAsksTold.{IsStep, card_emits, step_emits, IsUnder, next_higher, wire_of}
+use Rattle.wired_panels.proofs.CounterAsksTold.{IsStep, card_emits, step_emits, IsUnder, next_higher, named_so, wire_of}
 use Rattle.wired_panels.specs.Groups.{IsGroupOf, IsTopOf}
 use Rattle.wired_panels.proofs.Straight.{control_arrives}
 use Rattle.wired_panels.specs.PanelCycles.{IsPanelCycle}
@@ -44,14 +43,11 @@ module _ (chart : Chart) (plan : Lists) (wiring : Wiring) (old : MachineState) (
   -- a wire from the program cycles of a level
   from_step :
       (name : List ℕ) (level number step : ℕ) (entry : Hub) (total : HasTotal chart.lines name level number)
-      → ((its : ChartLevel) (wheel : ℕ) (mark : Option Mark) → chart_level its ≡ level
-      → LineWire chart.lines plan number (says.TotalAmount its wheel name total.digits mark) (PX (chart_level its) step) entry)
+      → LineWire chart.lines plan number (says.TotalAmount (named_so total)) (PX (chart_level total.asked.level) step) entry
       → ChartWire chart.lines plan (PX level step) entry
-  from_step name level number step entry total make =
+  from_step name level number step entry total wire =
       wire_of chart.lines plan name level number (PX level step) entry total
-      (λ its wheel mark same.
-      subst (λ l. LineWire chart.lines plan number (says.TotalAmount its wheel name total.digits mark) (PX l step) entry) same
-      (make its wheel mark same))
+      (subst (λ l. LineWire chart.lines plan number (says.TotalAmount (named_so total)) (PX l step) entry) total.same_level wire)
 
   module _ (name : List ℕ) (level : ℕ) (group : Group) (own : IsGroupOf chart.lines plan name level group) (top : Group)
       (balance : top_for chart.lines plan own.number ≡ Some top) where
@@ -70,15 +66,14 @@ module _ (chart : Chart) (plan : Lists) (wiring : Wiring) (old : MachineState) (
         → pilot_for plan name ≡ Some pilot → ChartWire chart.lines plan CC (PIC pilot 1)
     to_sign rule pilot low signed served =
         wire_of chart.lines plan name level own.number CC (PIC pilot 1) own.total
-        (λ its wheel mark same. entry_sign its wheel name own.total.digits mark rule pilot (lowest its same low) signed served)
+        (entry_sign (named_so own.total) rule pilot (lowest own.total.asked.level own.total.same_level low) signed served)
 
     -- the wire of the third program cycle to the balance position of the lower total
     to_latch : (low : ℕ) (rule : SignRule) (lower : Group) → IsUnder chart.lines name low level → IsSigned chart.lines name rule
         → IsTopOf chart.lines plan name low lower → ChartWire chart.lines plan (PX low 3) (BAC lower 2)
     to_latch low rule lower under signed given =
         from_step name low given.number 3 (BAC lower 2) given.total
-        (λ its wheel mark same.
-        transfer_sign its wheel name given.total.digits mark rule lower own.number given.served signed (higher low its same under))
+        (transfer_sign (named_so given.total) rule lower own.number given.served signed (higher low given.total.asked.level given.total.same_level under))
 
     pub gives_plus : Pluses chart.lines plan (shut old cycle) cycle name level → pictures C (PL group) ≡ true
     gives_plus adds = (control_arrives chart plan wiring old cycle pictures at (PL group) refl refl).1 (by adds)
@@ -88,32 +83,28 @@ module _ (chart : Chart) (plan : Lists) (wiring : Wiring) (old : MachineState) (
         by (card is low unsigned) =
             straight CC (PL group) (card_emits cycle is)
             (wire_of chart.lines plan name level own.number CC (PL group) own.total
-            (λ its wheel mark same.
-            entry_adds its wheel name own.total.digits mark group (lowest its same low) own.served unsigned))
+            (entry_adds (named_so own.total) group (lowest own.total.asked.level own.total.same_level low) own.served unsigned))
         by (by_sign rule pilot is low signed served closed) =
             through CC (PIC pilot 1) (positive_side rule pilot 1) (PL group) (card_emits cycle is) (to_sign rule pilot low signed served)
             (positive_common chart plan wiring old cycle pictures at rise rule pilot) closed
             (wire_of chart.lines plan name level own.number (positive_side rule pilot 1) (PL group) own.total
-            (λ its wheel mark same.
-            entry_plus its wheel name own.total.digits mark rule pilot group (lowest its same low) own.served signed served))
+            (entry_plus (named_so own.total) rule pilot group (lowest own.total.asked.level own.total.same_level low) own.served signed served))
         by (up low is under unsigned) =
             let given = from_step name low under.number 3 (PL group) under.total
-            (λ its wheel mark same.
-            transfer_adds its wheel name under.total.digits mark group own.number unsigned (higher low its same under) own.served) in
+            (transfer_adds (named_so under.total) group own.number unsigned (higher low under.total.asked.level under.total.same_level under) own.served) in
             straight (PX low 3) (PL group) (telling_step low 3 (PL group) is given) given
         by (by_latch low rule lower is under signed given closed) =
             let first = to_latch low rule lower under signed given in
             through (PX low 3) (BAC lower 2) (BAN lower 2) (PL group) (telling_step low 3 (BAC lower 2) is first) first refl closed
             (wire_of chart.lines plan name low given.number (BAN lower 2) (PL group) given.total
-            (λ its wheel mark same.
-            transfer_plus its wheel name given.total.digits mark rule lower group own.number given.served signed
-            (higher low its same under) own.served))
+            (transfer_plus (named_so given.total) rule lower group own.number given.served signed
+            (higher low given.total.asked.level given.total.same_level under) own.served))
 
     -- the wire of the second program cycle to the balance position of the total
     to_turn : (rule : SignRule) → IsSigned chart.lines name rule → ChartWire chart.lines plan (PX level 2) (BAC top 1)
     to_turn rule signed =
         from_step name level own.number 2 (BAC top 1) own.total
-        (λ its wheel mark same. conversion its wheel name own.total.digits mark rule top balance signed)
+        (conversion (named_so own.total) rule top balance signed)
 
     pub gives_minus : Minuses chart.lines plan (shut old cycle) cycle name level top → pictures C (MI group) ≡ true
     gives_minus subtracts = (control_arrives chart plan wiring old cycle pictures at (MI group) refl refl).1 (by subtracts)
@@ -124,20 +115,18 @@ module _ (chart : Chart) (plan : Lists) (wiring : Wiring) (old : MachineState) (
             through CC (PIC pilot 1) (negative_side rule pilot 1) (MI group) (card_emits cycle is) (to_sign rule pilot low signed served)
             (negative_common chart plan wiring old cycle pictures at rise rule pilot) closed
             (wire_of chart.lines plan name level own.number (negative_side rule pilot 1) (MI group) own.total
-            (λ its wheel mark same.
-            entry_minus its wheel name own.total.digits mark rule pilot group (lowest its same low) own.served signed served))
+            (entry_minus (named_so own.total) rule pilot group (lowest own.total.asked.level own.total.same_level low) own.served signed served))
         by (less_turned rule is signed closed) =
             let first = to_turn rule signed in
             through (PX level 2) (BAC top 1) (BAT top 1) (MI group) (telling_step level 2 (BAC top 1) is first) first refl closed
             (wire_of chart.lines plan name level own.number (BAT top 1) (MI group) own.total
-            (λ its wheel mark same. conversion_minus its wheel name own.total.digits mark rule top group balance own.served signed))
+            (conversion_minus (named_so own.total) rule top group balance own.served signed))
         by (less_by_latch low rule lower is under signed given closed) =
             let first = to_latch low rule lower under signed given in
             through (PX low 3) (BAC lower 2) (BAT lower 2) (MI group) (telling_step low 3 (BAC lower 2) is first) first refl closed
             (wire_of chart.lines plan name low given.number (BAT lower 2) (MI group) given.total
-            (λ its wheel mark same.
-            transfer_minus its wheel name given.total.digits mark rule lower group own.number given.served signed
-            (higher low its same under) own.served))
+            (transfer_minus (named_so given.total) rule lower group own.number given.served signed
+            (higher low given.total.asked.level given.total.same_level under) own.served))
 
     pub gives_read : ReadsOut chart.lines (shut old cycle) cycle name level top → pictures C (RO group) ≡ true
     gives_read reads = (control_arrives chart plan wiring old cycle pictures at (RO group) refl refl).1 (by reads)
@@ -146,13 +135,13 @@ module _ (chart : Chart) (plan : Lists) (wiring : Wiring) (old : MachineState) (
             → Arrives chart.lines plan (control_emits cycle) (shut old cycle) (RO group)
         by (shows_it is) =
             let given = from_step name level own.number 3 (RO group) own.total
-            (λ its wheel mark same. read_out its wheel name own.total.digits mark group own.served) in
+            (read_out (named_so own.total) group own.served) in
             straight (PX level 3) (RO group) (telling_step level 3 (RO group) is given) given
         by (turns_it rule is signed closed) =
             let first = to_turn rule signed in
             through (PX level 2) (BAC top 1) (BAT top 1) (RO group) (telling_step level 2 (BAC top 1) is first) first refl closed
             (wire_of chart.lines plan name level own.number (BAT top 1) (RO group) own.total
-            (λ its wheel mark same. conversion_read_out its wheel name own.total.digits mark rule top group balance own.served signed))
+            (conversion_read_out (named_so own.total) rule top group balance own.served signed))
 
     pub gives_test : Tests chart.lines cycle name level → pictures C (BT top) ≡ true
     gives_test tests = (control_arrives chart plan wiring old cycle pictures at (BT top) refl refl).1 (by tests)
@@ -160,5 +149,5 @@ module _ (chart : Chart) (plan : Lists) (wiring : Wiring) (old : MachineState) (
         by : Tests chart.lines cycle name level → Arrives chart.lines plan (control_emits cycle) (shut old cycle) (BT top)
         by (tests_it rule is signed) =
             let given = from_step name level own.number 1 (BT top) own.total
-            (λ its wheel mark same. balance_test its wheel name own.total.digits mark rule top balance signed) in
+            (balance_test (named_so own.total) rule top balance signed) in
             straight (PX level 1) (BT top) (telling_step level 1 (BT top) is given) given

@@ -26,7 +26,7 @@ use Rattle.wiring_table.specs.Parts.{IsLowest, IsNextHigher, ServesPosition}
 use Rattle.wiring_table.specs.Wires.{ChartWire}
 use Rattle.wiring_table.specs.Wires.LineWire.{entry, feedback, transfer}
 use Rattle.wired_panels.proofs.CounterAsksControls.{numbered}
-use Rattle.wired_panels.proofs.CounterAsksTold.{moved, IsUnder, goes_under, wire_of}
+use Rattle.wired_panels.proofs.CounterAsksTold.{moved, IsUnder, goes_under, named_so, wire_of}
 use Rattle.wired_panels.proofs.PlanOwners.{of_place, one_owner}
 use Rattle.wiring_table.proofs.Totals.{one-total}
 use Rattle.wired_panels.proofs.Sending.{sending}
@@ -94,7 +94,7 @@ pub data Enters (lines : List Line) (plan : Lists) (old : MachineState) (picture
       → ReadsDigit old pictures row group place → Enters lines plan old pictures cycle row name level group place
   lower_digit : (low position : ℕ) (lower : Group) (lower_place : ℕ) → (under : IsUnder lines name low level)
       → IsPlaceFor lines plan name level position group place → IsPlaceFor lines plan name low position lower lower_place
-      → position ≤ under.total.digits → 1 ≤ position → ReadsDigit old pictures row lower lower_place
+      → position ≤ under.total.asked.digits → 1 ≤ position → ReadsDigit old pictures row lower lower_place
       → Enters lines plan old pictures cycle row name level group place
 
 module _ (chart : Chart) (plan : Lists) (wiring : Wiring) (old : MachineState) (cycle : Cycle) (pictures : Point → Hub → Bool)
@@ -159,25 +159,23 @@ module _ (chart : Chart) (plan : Lists) (wiring : Wiring) (old : MachineState) (
       by (card field position at_place is low amount from to punched) =
           let given : ChartWire chart.lines plan (SR (field.last + 1 - position)) (GE group place) =
           wire_of chart.lines plan name level at_place.number (SR (field.last + 1 - position)) (GE group place) at_place.total
-          (λ its wheel mark same.
-          entry its wheel name at_place.total.digits mark field group position place
-          (subst (λ l. IsLowest chart.lines name l) (sym same) low) at_place.served amount from to) in
+          (entry (named_so at_place.total) field group position place
+          (subst (λ l. IsLowest chart.lines name l) (sym at_place.total.same_level) low) at_place.served amount from to) in
           let wire = numbered chart plan wiring old cycle pictures at rise (SR (field.last + 1 - position)) (GE group place) given in
           straight (SR (field.last + 1 - position)) (GE group place)
           (sending old pictures cycle row wire.number (second (field.last + 1 - position) is punched) wire.numbered) given
       by (own_digit rule signed from to reads) =
           along group place reads
           (wire_of chart.lines plan name level own.number (GX group place) (GE group place) own.total
-          (λ its wheel mark same. feedback its wheel name own.total.digits mark rule group place own.served signed from to))
+          (feedback (named_so own.total) rule group place own.served signed from to))
       by (lower_digit low position lower lower_place under at_place lower_at to from reads) =
           let next : IsNextHigher chart.lines name low at_place.number =
           record { higher = level; total = at_place.total; above = under.below; next = under.between } in
           along lower lower_place reads
           (wire_of chart.lines plan name low under.number (GX lower lower_place) (GE group place) under.total
-          (λ its wheel mark same.
-          transfer its wheel name under.total.digits mark lower group at_place.number position lower_place place
+          (transfer (named_so under.total) lower group at_place.number position lower_place place
           (lower_served low position lower lower_place under lower_at)
-          (subst (λ l. IsNextHigher chart.lines name l at_place.number) (sym same) next) at_place.served from to))
+          (subst (λ l. IsNextHigher chart.lines name l at_place.number) (sym under.total.same_level) next) at_place.served from to))
         where
           lower_served : (low position : ℕ) (lower : Group) (lower_place : ℕ) (under : IsUnder chart.lines name low level)
               → IsPlaceFor chart.lines plan name low position lower lower_place

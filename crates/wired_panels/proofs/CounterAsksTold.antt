@@ -1,13 +1,11 @@
 -- Cycles as the control hubs of counter groups tell them apart, and wires from the lines of totals.
-use Rattle.std.proofs.Common.{◌≡◌, ◌∙◌, refl, sym, ap, subst, ℕ, ◌<◌, Bool, true, false, List, Option, Some}
+use Rattle.std.proofs.Common.{◌≡◌, ◌∙◌, refl, sym, ap, subst, ℕ, ◌<◌, Bool, true, false, List, Some}
 use Rattle.wiring_table.specs.Below.plans.Plans.{Lists, ServesChart}
 use Rattle.wiring_table.proofs.Below.field_rules.Places.{is_same_name-equal}
 use Rattle.wiring_table.specs.Below.charts.Chart.{Chart, NumbersRise}
-use Rattle.wiring_table.specs.Below.charts.Levels.{level_number as chart_level}
 use Rattle.wiring_table.specs.Below.charts.declared.chart.Line.{Line}
-use Rattle.wiring_table.specs.Below.charts.declared.level.Level.{Level as ChartLevel}
-use Rattle.wiring_table.specs.Below.charts.declared.statement.Mark.{Mark}
 use Rattle.wiring_table.specs.Below.charts.declared.statement.Statement.TheVariants as says
+use Rattle.wiring_table.specs.Below.charts.declared.statement.TotalLine.{TotalLine}
 use Rattle.whole_cycles.specs.Below.hubs.Hubs.{number_of}
 use Rattle.whole_cycles.specs.Below.hubs.declared.hub.Group.{Group}
 use Rattle.whole_cycles.specs.Below.hubs.declared.hub.Hub.{Hub}
@@ -106,12 +104,12 @@ pub goes_under :
     (chart : Chart) (plan : Lists) (name its_name : List ℕ) (low level : ℕ) (group : Group) → NumbersRise chart.lines chart.end
     → ServesChart chart.lines plan → IsGroupOf chart.lines plan name level group → (up : GoesUp chart.lines plan its_name low group)
     → (same : IsSameTotal its_name name up.next.higher level) × (under : IsUnder chart.lines name low level)
-    × (under.total.digits ≡ up.lower_total.digits)
+    × (under.total.asked.digits ≡ up.lower_total.asked.digits)
 goes_under chart plan name its_name low level group rise planned own up =
     let its : IsGroupOf chart.lines plan its_name up.next.higher group =
     record { number = up.number; total = up.next.total; served = up.served } in
     let same = one_owner chart plan its_name name up.next.higher level group rise planned its own in
-    let under = moved (λ n l. (u : IsUnder chart.lines n low l) × (u.total.digits ≡ up.lower_total.digits)) same
+    let under = moved (λ n l. (u : IsUnder chart.lines n low l) × (u.total.asked.digits ≡ up.lower_total.asked.digits)) same
     (record { number = up.lower_number; total = up.lower_total; below = up.next.above; between = up.next.next }, refl) in
     (same, under.0, under.1)
 
@@ -121,20 +119,22 @@ pub next_higher : (lines : List Line) (plan : Lists) (name : List ℕ) (low leve
 next_higher lines plan name low level group own under =
     record { higher = level; total = own.total; above = under.below; next = under.between }
 
+-- what a line asks for that has a total of an amount, by the name of the amount
+abbrev pub named_so : {lines : List Line} {name : List ℕ} {level number : ℕ} → HasTotal lines name level number → TotalLine
+named_so {lines} {name} total = record total.asked { name = name }
+
 -- a wire of the line of a total
 pub wire_of :
     (lines : List Line) (plan : Lists) (name : List ℕ) (level number : ℕ) (x e : Hub) (total : HasTotal lines name level number)
-    → ((its : ChartLevel) (wheel : ℕ) (mark : Option Mark) → chart_level its ≡ level
-    → LineWire lines plan number (says.TotalAmount its wheel name total.digits mark) x e)
-    → ChartWire lines plan x e
-wire_of lines plan name level number x e total make =
-    let same = is_same_name-equal total.its_name name total.same_name in
-    let says_it : says.TotalAmount total.its_level total.wheel name total.digits total.mark ≡ total.line.statement =
-    ap (λ n. says.TotalAmount total.its_level total.wheel n total.digits total.mark) (sym same) ∙ sym total.says_total in
+    → LineWire lines plan number (says.TotalAmount (named_so total)) x e → ChartWire lines plan x e
+wire_of lines plan name level number x e total wire =
+    let same = is_same_name-equal total.asked.name name total.same_name in
+    let says_it : says.TotalAmount (named_so total) ≡ total.line.statement =
+    ap (λ n. says.TotalAmount (record total.asked { name = n })) (sym same) ∙ sym total.says_total in
     record {
       line = total.line;
       listed = total.listed;
       wire =
           subst (λ n. LineWire lines plan n total.line.statement x e) (sym total.is_number)
-          (subst (λ s. LineWire lines plan number s x e) says_it (make total.its_level total.wheel total.mark total.same_level));
+          (subst (λ s. LineWire lines plan number s x e) says_it wire);
     }

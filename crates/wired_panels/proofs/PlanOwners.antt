@@ -55,15 +55,13 @@ one_owner chart plan one other its_level other_level group rise planned a b =
     let number = serves-own chart.lines plan planned a.number b.number group a.served b.served in
     let numbers : a.total.line.number ≡ b.total.line.number = a.total.is_number ∙ number ∙ sym b.total.is_number in
     let line = one-line chart.lines chart.end a.total.line b.total.line rise a.total.listed b.total.listed numbers in
-    let says_same : says.TotalAmount a.total.its_level a.total.wheel a.total.its_name a.total.digits a.total.mark
-    ≡ says.TotalAmount b.total.its_level b.total.wheel b.total.its_name b.total.digits b.total.mark
-    = sym a.total.says_total ∙ ap (λ (l : Line). l.statement) line ∙ b.total.says_total in
-    let names : a.total.its_name ≡ b.total.its_name = cc in
-    let levels : a.total.its_level ≡ b.total.its_level = cc in
+    let says_same : says.TotalAmount a.total.asked ≡ says.TotalAmount b.total.asked = sym a.total.says_total ∙ ap (λ (l : Line). l.statement) line ∙ b.total.says_total in
+    let names : a.total.asked.name ≡ b.total.asked.name = cc in
+    let levels : a.total.asked.level ≡ b.total.asked.level = cc in
     record {
       name =
-          sym (is_same_name-equal a.total.its_name one a.total.same_name) ∙ names
-          ∙ is_same_name-equal b.total.its_name other b.total.same_name;
+          sym (is_same_name-equal a.total.asked.name one a.total.same_name) ∙ names
+          ∙ is_same_name-equal b.total.asked.name other b.total.same_name;
       level = sym a.total.same_level ∙ ap level_number levels ∙ b.total.same_level;
     }
 

@@ -1,15 +1,14 @@
 -- The wires to the entries of counter groups, each with the total that it serves, and what tells of a cycle at their other ends.
-use Rattle.std.proofs.Common.{◌≡◌, refl, ℕ, ◌+◌, ◌-◌, ◌≤◌, List, Contains, Option, Some}
+use Rattle.std.proofs.Common.{◌≡◌, refl, ℕ, ◌+◌, ◌-◌, ◌≤◌, List, Contains, Some}
 use Rattle.wiring_table.specs.Below.plans.Plans.{Lists}
 use Rattle.wiring_table.specs.Below.charts.Field.{columns_of}
 use Rattle.wiring_table.specs.Below.charts.Levels.{level_number}
 use Rattle.wiring_table.specs.Below.charts.declared.chart.Line.{Line}
-use Rattle.wiring_table.specs.Below.charts.declared.level.Level.{Level as ChartLevel}
 use Rattle.wiring_table.specs.Below.charts.declared.statement.Field.{Field}
-use Rattle.wiring_table.specs.Below.charts.declared.statement.Mark.{Mark}
 use Rattle.wiring_table.specs.Below.charts.declared.statement.SignRule.{SignRule}
 use Rattle.wiring_table.specs.Below.charts.declared.statement.Statement.{Statement}
 use Rattle.wiring_table.specs.Below.charts.declared.statement.Statement.TheVariants as says
+use Rattle.wiring_table.specs.Below.charts.declared.statement.TotalLine.{TotalLine}
 use Rattle.whole_cycles.specs.Below.hubs.declared.hub.Group.{Group}
 use Rattle.whole_cycles.specs.Below.hubs.declared.hub.Hub.{Hub}
 use Rattle.whole_cycles.specs.Below.hubs.declared.hub.Hub.TheVariants.{SR, GX, BAN, BAT, CC, PX, EM, GE, PL, MI, RO, BT, BAC, PIC}
@@ -23,21 +22,16 @@ use Rattle.wiring_table.proofs.Below.field_rules.Places.{is_same_name-own}
 
 -- the total that a line says
 pub the_total :
-    (lines : List Line) (line : Line) (level : ChartLevel) (wheel : ℕ) (name : List ℕ) (digits : ℕ) (mark : Option Mark) (number : ℕ)
-    → Contains lines line → line.number ≡ number → line.statement ≡ says.TotalAmount level wheel name digits mark
-    → HasTotal lines name (level_number level) number
-the_total lines line level wheel name digits mark number listed numbered says_it = record {
+    (lines : List Line) (line : Line) (total : TotalLine) (number : ℕ) → Contains lines line → line.number ≡ number
+    → line.statement ≡ says.TotalAmount total → HasTotal lines total.name (level_number total.level) number
+the_total lines line total number listed numbered says_it = record {
   line = line;
   listed = listed;
   is_number = numbered;
-  its_level = level;
-  wheel = wheel;
-  its_name = name;
-  digits = digits;
-  mark = mark;
+  asked = total;
   says_total = says_it;
   same_level = refl;
-  same_name = is_same_name-own name;
+  same_name = is_same_name-own total.name;
 }
 
 -- a line of the chart with a number and what it says
@@ -53,33 +47,25 @@ itself lines line listed = record { line = line; listed = listed; numbered = ref
 
 module _ (lines : List Line) (plan : Lists) where
   -- the total on a line, and its groups, the top one, and its places
-  pub on_line :
-      (level : ChartLevel) (wheel : ℕ) (name : List ℕ) (digits : ℕ) (mark : Option Mark) (number : ℕ)
-      → IsLine lines number (says.TotalAmount level wheel name digits mark) → HasTotal lines name (level_number level) number
-  on_line level wheel name digits mark number at =
-      the_total lines at.line level wheel name digits mark number at.listed at.numbered at.says_it
+  pub on_line : (total : TotalLine) (number : ℕ) → IsLine lines number (says.TotalAmount total)
+      → HasTotal lines total.name (level_number total.level) number
+  on_line total number at = the_total lines at.line total number at.listed at.numbered at.says_it
 
-  pub with_group :
-      (level : ChartLevel) (wheel : ℕ) (name : List ℕ) (digits : ℕ) (mark : Option Mark) (number : ℕ) (group : Group)
-      → IsLine lines number (says.TotalAmount level wheel name digits mark) → ServesTotal lines plan number group
-      → IsGroupOf lines plan name (level_number level) group
-  with_group level wheel name digits mark number group at served =
-      record { number = number; total = on_line level wheel name digits mark number at; served = served }
+  pub with_group : (total : TotalLine) (number : ℕ) (group : Group) → IsLine lines number (says.TotalAmount total)
+      → ServesTotal lines plan number group → IsGroupOf lines plan total.name (level_number total.level) group
+  with_group asked number group at served =
+      record { number = number; total = on_line asked number at; served = served }
 
-  pub with_top :
-      (level : ChartLevel) (wheel : ℕ) (name : List ℕ) (digits : ℕ) (mark : Option Mark) (number : ℕ) (top : Group)
-      → IsLine lines number (says.TotalAmount level wheel name digits mark) → top_for lines plan number ≡ Some top
-      → IsTopOf lines plan name (level_number level) top
-  with_top level wheel name digits mark number top at served =
-      record { number = number; total = on_line level wheel name digits mark number at; served = served }
+  pub with_top : (total : TotalLine) (number : ℕ) (top : Group) → IsLine lines number (says.TotalAmount total)
+      → top_for lines plan number ≡ Some top → IsTopOf lines plan total.name (level_number total.level) top
+  with_top asked number top at served =
+      record { number = number; total = on_line asked number at; served = served }
 
-  pub with_place :
-      (level : ChartLevel) (wheel : ℕ) (name : List ℕ) (digits : ℕ) (mark : Option Mark) (number position : ℕ) (group : Group)
-      (place : ℕ)
-      → IsLine lines number (says.TotalAmount level wheel name digits mark) → ServesPosition lines plan number position group place
-      → IsPlaceFor lines plan name (level_number level) position group place
-  with_place level wheel name digits mark number position group place at served =
-      record { number = number; total = on_line level wheel name digits mark number at; served = served }
+  pub with_place : (total : TotalLine) (number position : ℕ) (group : Group) (place : ℕ)
+      → IsLine lines number (says.TotalAmount total) → ServesPosition lines plan number position group place
+      → IsPlaceFor lines plan total.name (level_number total.level) position group place
+  with_place asked number position group place at served =
+      record { number = number; total = on_line asked number at; served = served }
 
   -- A group serves the next higher total of an amount above a level.
   pub record GoesUp (name : List ℕ) (low : ℕ) (upper : Group) : Type 0 where
@@ -144,85 +130,85 @@ module _ (lines : List Line) (plan : Lists) where
     lower : (name : List ℕ) (low position : ℕ) (lower : Group) (lower_place : ℕ) → (up : GoesUp name low group)
         → ServesPosition lines plan up.number position group place
         → ServesPosition lines plan up.lower_number position lower lower_place
-        → 1 ≤ position → position ≤ up.lower_total.digits → ToEntry group place (GX lower lower_place)
+        → 1 ≤ position → position ≤ up.lower_total.asked.digits → ToEntry group place (GX lower lower_place)
 
   pub to_plus : (number : ℕ) {statement : Statement} {x : Hub} {group : Group} → IsLine lines number statement
       → LineWire lines plan number statement x (PL group) → ToPlus group x
-  to_plus number at (entry_adds level wheel name digits mark group low is unsigned) =
-      from_card name (level_number level) (with_group level wheel name digits mark number group at is) low unsigned
-  to_plus number at (entry_plus level wheel name digits mark rule pilot group low is signed served) =
-      by_sign name (level_number level) rule pilot (with_group level wheel name digits mark number group at is) low signed served
-  to_plus number at (transfer_adds level wheel name digits mark upper other unsigned next served) =
-      up name (level_number level) (record {
+  to_plus number at (entry_adds total group low is unsigned) =
+      from_card total.name (level_number total.level) (with_group total number group at is) low unsigned
+  to_plus number at (entry_plus total rule pilot group low is signed served) =
+      by_sign total.name (level_number total.level) rule pilot (with_group total number group at is) low signed served
+  to_plus number at (transfer_adds total upper other unsigned next served) =
+      up total.name (level_number total.level) (record {
         lower_number = number;
-        lower_total = on_line level wheel name digits mark number at;
+        lower_total = on_line total number at;
         number = other;
         next = next;
         served = served;
       }) unsigned
-  to_plus number at (transfer_plus level wheel name digits mark rule top upper other is signed next served) =
-      up_by_latch name (level_number level) rule top (record {
+  to_plus number at (transfer_plus total rule top upper other is signed next served) =
+      up_by_latch total.name (level_number total.level) rule top (record {
         lower_number = number;
-        lower_total = on_line level wheel name digits mark number at;
+        lower_total = on_line total number at;
         number = other;
         next = next;
         served = served;
-      }) signed (with_top level wheel name digits mark number top at is)
+      }) signed (with_top total number top at is)
 
   pub to_minus : (number : ℕ) {statement : Statement} {x : Hub} {group : Group} → IsLine lines number statement
       → LineWire lines plan number statement x (MI group) → ToMinus group x
-  to_minus number at (entry_minus level wheel name digits mark rule pilot group low is signed served) =
-      by_sign name (level_number level) rule pilot (with_group level wheel name digits mark number group at is) low signed served
-  to_minus number at (conversion_minus level wheel name digits mark rule top group is serves signed) =
-      turned name (level_number level) rule top (with_group level wheel name digits mark number group at serves)
-      (with_top level wheel name digits mark number top at is) signed
-  to_minus number at (transfer_minus level wheel name digits mark rule top upper other is signed next served) =
-      up_by_latch name (level_number level) rule top (record {
+  to_minus number at (entry_minus total rule pilot group low is signed served) =
+      by_sign total.name (level_number total.level) rule pilot (with_group total number group at is) low signed served
+  to_minus number at (conversion_minus total rule top group is serves signed) =
+      turned total.name (level_number total.level) rule top (with_group total number group at serves)
+      (with_top total number top at is) signed
+  to_minus number at (transfer_minus total rule top upper other is signed next served) =
+      up_by_latch total.name (level_number total.level) rule top (record {
         lower_number = number;
-        lower_total = on_line level wheel name digits mark number at;
+        lower_total = on_line total number at;
         number = other;
         next = next;
         served = served;
-      }) signed (with_top level wheel name digits mark number top at is)
+      }) signed (with_top total number top at is)
 
   pub to_read_out : (number : ℕ) {statement : Statement} {x : Hub} {group : Group} → IsLine lines number statement
       → LineWire lines plan number statement x (RO group) → ToReadOut group x
-  to_read_out number at (read_out level wheel name digits mark group is) =
-      shown name (level_number level) (with_group level wheel name digits mark number group at is)
-  to_read_out number at (conversion_read_out level wheel name digits mark rule top group is serves signed) =
-      turned name (level_number level) rule top (with_group level wheel name digits mark number group at serves)
-      (with_top level wheel name digits mark number top at is) signed
+  to_read_out number at (read_out total group is) =
+      shown total.name (level_number total.level) (with_group total number group at is)
+  to_read_out number at (conversion_read_out total rule top group is serves signed) =
+      turned total.name (level_number total.level) rule top (with_group total number group at serves)
+      (with_top total number top at is) signed
 
   pub to_test : (number : ℕ) {statement : Statement} {x : Hub} {group : Group} → IsLine lines number statement
       → LineWire lines plan number statement x (BT group) → ToTest group x
-  to_test number at (balance_test level wheel name digits mark rule group is signed) =
-      tested name (level_number level) rule (with_top level wheel name digits mark number group at is) signed
+  to_test number at (balance_test total rule group is signed) =
+      tested total.name (level_number total.level) rule (with_top total number group at is) signed
 
   pub to_balance : (number : ℕ) {statement : Statement} {x : Hub} {group : Group} {position : ℕ} → IsLine lines number statement
       → LineWire lines plan number statement x (BAC group position) → ToBalance group position x
-  to_balance number at (conversion level wheel name digits mark rule group is signed) =
-      turned name (level_number level) rule (with_top level wheel name digits mark number group at is) signed
-  to_balance number at (transfer_sign level wheel name digits mark rule group other is signed next) =
-      up name (level_number level) rule (with_top level wheel name digits mark number group at is) signed
-  to_balance number at (total_mark_in level wheel name digits mark rule group k row is signed punched) = marks _ row _
+  to_balance number at (conversion total rule group is signed) =
+      turned total.name (level_number total.level) rule (with_top total number group at is) signed
+  to_balance number at (transfer_sign total rule group other is signed next) =
+      up total.name (level_number total.level) rule (with_top total number group at is) signed
+  to_balance number at (total_mark_in total mark rule group k row marked is signed punched) = marks _ row _
 
   pub to_pilot : (number : ℕ) {statement : Statement} {x : Hub} {pilot position : ℕ} → IsLine lines number statement
       → LineWire lines plan number statement x (PIC pilot position) → ToPilot pilot position x
-  to_pilot number at (entry_sign level wheel name digits mark rule pilot low signed served) = signs pilot
+  to_pilot number at (entry_sign total rule pilot low signed served) = signs pilot
   to_pilot number at (detail_mark_in wheel name mark rule pilot k row signed served punched) = marks _ row pilot _
 
   pub to_entry : (number : ℕ) {statement : Statement} {x : Hub} {group : Group} {place : ℕ} → IsLine lines number statement
       → LineWire lines plan number statement x (GE group place) → ToEntry group place x
   unfolding on_line the_total
-  to_entry number at (entry level wheel name digits mark field group position place low serves amount from to) =
-      card name (level_number level) field position (with_place level wheel name digits mark number position group place at serves) low
+  to_entry number at (entry total field group position place low serves amount from to) =
+      card total.name (level_number total.level) field position (with_place total number position group place at serves) low
       amount from to
-  to_entry number at (feedback level wheel name digits mark rule group place is signed from to) =
-      from_itself name (level_number level) rule (with_group level wheel name digits mark number group at is) signed from to
-  to_entry number at (transfer level wheel name digits mark group upper other position place upper_place serves next serves_upper from to) =
-      lower name (level_number level) position group place (record {
+  to_entry number at (feedback total rule group place is signed from to) =
+      from_itself total.name (level_number total.level) rule (with_group total number group at is) signed from to
+  to_entry number at (transfer total group upper other position place upper_place serves next serves_upper from to) =
+      lower total.name (level_number total.level) position group place (record {
         lower_number = number;
-        lower_total = on_line level wheel name digits mark number at;
+        lower_total = on_line total number at;
         number = other;
         next = next;
         served = position-serves lines plan other position upper upper_place serves_upper;

@@ -1,6 +1,7 @@
 -- What arrives at a row of a cycle after the contacts on the way to print wheels: who feeds a position of group indication, a split, a
 -- pilot's and a group's marks. And the wires of a line, followed from an exit that emits.
 use Rattle.std.proofs.Common.{◌≡◌, ◌∙◌, refl, sym, ap, subst, ℕ, ◌+◌, ◌-◌, Bool, true, false, Contains, Option, Some, arith, List}
+use Rattle.std.proofs.lemmas.Option.{same_Some}
 use Rattle.whole_cycles.specs.Below.card_code.Rows.{row_number}
 use Rattle.whole_cycles.specs.Below.card_code.declared.row.Row.{Row as CardRow}
 use Rattle.wiring_table.specs.Below.field_rules.Fields.{field_named}
@@ -10,7 +11,6 @@ use Rattle.wiring_table.specs.Below.charts.Levels.{control_number, level_number}
 use Rattle.wiring_table.specs.Below.charts.declared.chart.Line.{Line}
 use Rattle.wiring_table.specs.Below.charts.declared.level.ControlLevel.TheVariants as control
 use Rattle.wiring_table.specs.Below.charts.declared.level.ControlLevel.{ControlLevel}
-use Rattle.wiring_table.specs.Below.charts.declared.level.Level.{Level}
 use Rattle.wiring_table.specs.Below.charts.declared.statement.DetailOption.TheVariants as shown
 use Rattle.wiring_table.specs.Below.charts.declared.statement.DetailOption.{DetailOption}
 use Rattle.wiring_table.specs.Below.charts.declared.statement.Field.{Field}
@@ -18,6 +18,7 @@ use Rattle.wiring_table.specs.Below.charts.declared.statement.Mark.{Mark}
 use Rattle.wiring_table.specs.Below.charts.declared.statement.SignRule.TheVariants as sign
 use Rattle.wiring_table.specs.Below.charts.declared.statement.SignRule.{SignRule}
 use Rattle.wiring_table.specs.Below.charts.declared.statement.Statement.TheVariants as says
+use Rattle.wiring_table.specs.Below.charts.declared.statement.TotalLine.{TotalLine}
 use Rattle.wiring_table.specs.Below.charts.declared.statement.Statement.{Statement}
 use Rattle.wiring_table.specs.Below.setups.Wiring.{Wiring}
 use Rattle.whole_cycles.specs.Below.hubs.declared.hub.Group.{Group}
@@ -175,17 +176,17 @@ module _ (wiring : Wiring) (at : CycleRow) (it : IsPanelCycle at.chart at.plan w
                 (subst (λ c. HasPunchAt (mark_text c) k' (row_number at.row)) m punch),
             emits,
           )
-      by says_its (entry_sign level wheel' name' digits mark' rule' p p0 p1 p2) emits pilots places = silent at _ emits refl
+      by says_its (entry_sign total' rule' p p0 p1 p2) emits pilots places = silent at _ emits refl
 
   -- through the marks of a balance comes the mark of its total
   pub through_balance :
-      (line other : Line) (level : Level) (wheel k digits : ℕ) (group : Group) (name : List ℕ) (mark : Mark) {its : Statement}
-      {x common : Hub} → Contains at.chart.lines line → Contains at.chart.lines other
-      → line.statement ≡ says.TotalAmount level wheel name digits (Some mark) → other.statement ≡ its
+      (line other : Line) (total : TotalLine) (k : ℕ) (group : Group) (mark : Mark) {its : Statement} {x common : Hub}
+      → Contains at.chart.lines line → Contains at.chart.lines other
+      → line.statement ≡ says.TotalAmount total → total.mark ≡ Some mark → other.statement ≡ its
       → WireAt at other.number its x common → Emits at x → Some (BAC group (3 + k)) ≡ Some common
       → top_for at.chart.lines at.plan line.number ≡ Some group
-      → HasPunchAt (mark_text mark) k (row_number at.row) × (emitter_of at.cycle ≡ Some (total_emitter (level_number level)))
-  through_balance line other level wheel k digits group name mark {its} {x} listed there says_it says_its wire emits leads served =
+      → HasPunchAt (mark_text mark) k (row_number at.row) × (emitter_of at.cycle ≡ Some (total_emitter (level_number total.level)))
+  through_balance line other total k group mark {its} {x} listed there says_it marked says_its wire emits leads served =
       by says_its (subst (λ h. WireAt at other.number its x h) (same leads) wire) emits refl refl
     where
       same : {common : Hub} → Some (BAC group (3 + k)) ≡ Some common → common ≡ BAC group (3 + k)
@@ -193,24 +194,24 @@ module _ (wiring : Wiring) (at : CycleRow) (it : IsPanelCycle at.chart at.plan w
 
       by : {its : Statement} {x : Hub} {g : Group} {p : ℕ} → other.statement ≡ its → WireAt at other.number its x (BAC g p) → Emits at x
           → g ≡ group → p ≡ 3 + k
-          → HasPunchAt (mark_text mark) k (row_number at.row) × (emitter_of at.cycle ≡ Some (total_emitter (level_number level)))
-      by says_its (total_mark_in level' wheel' name' digits' mark' rule g k' row served' is punch) (emitter from emits) groups places =
+          → HasPunchAt (mark_text mark) k (row_number at.row) × (emitter_of at.cycle ≡ Some (total_emitter (level_number total.level)))
+      by says_its (total_mark_in total' mark' rule g k' row marked' served' is punch) (emitter from emits) groups places =
           let n : other.number ≡ line.number
           = serves-own at.chart.lines at.plan it.panel.planned other.number line.number group
           (top-serves at.chart.lines at.plan other.number group (served' ∙ ap Some groups))
           (top-serves at.chart.lines at.plan line.number group served) in
           let e : other ≡ line = one_line other line there listed n in
-          let f : says.TotalAmount level' wheel' name' digits' (Some mark') ≡ says.TotalAmount level wheel name digits (Some mark)
-          = sym says_its ∙ ap (λ l. l.statement) e ∙ says_it in
-          let m : mark' ≡ mark = cc in
-          let l : level' ≡ level = cc in
+          let f : says.TotalAmount total' ≡ says.TotalAmount total = sym says_its ∙ ap (λ l. l.statement) e ∙ says_it in
+          let same_total : total' ≡ total = cc in
+          let m : mark' ≡ mark = same_Some mark' mark (sym marked' ∙ ap (λ (t : TotalLine). t.mark) same_total ∙ marked) in
+          let l : total'.level ≡ total.level = ap (λ (t : TotalLine). t.level) same_total in
           let i : k' ≡ k = omega (arith, places) in (
             subst (λ i. HasPunchAt (mark_text mark) i (row_number at.row)) i
                 (subst (λ c. HasPunchAt (mark_text c) k' (row_number at.row)) m punch),
             emits ∙ ap (λ each. Some (total_emitter (level_number each))) l,
           )
-      by says_its (conversion level' wheel' name' digits' mark' rule g p0 p1) emits groups places = silent at _ emits refl
-      by says_its (transfer_sign level' wheel' name' digits' mark' rule g other' p0 p1 p2) emits groups places = silent at _ emits refl
+      by says_its (conversion total' rule g p0 p1) emits groups places = silent at _ emits refl
+      by says_its (transfer_sign total' rule g other' p0 p1 p2) emits groups places = silent at _ emits refl
 
   -- a wire of a line of the chart
   wire_of : (line : Line) {statement : Statement} {x e : Hub} → Contains at.chart.lines line → line.statement ≡ statement

@@ -113,7 +113,7 @@ shared one (of.Coupled lower upper) group has (inr its_has) = inr (in-counter on
 pub counter-given : (lines : List Line) (plan : Lists) (name : List ℕ) (level number : ℕ) → ServesChart lines plan
     → HasTotal lines name level number → (counter : TotalCounter) × (counter_for lines plan number ≡ Some counter)
 counter-given lines plan name level number planned total =
-    let made : Total = record { level = total.its_level; line = total.line.number; need = need_of (field_named lines total.its_name) total.digits } in
+    let made : Total = record { level = total.asked.level; line = total.line.number; need = need_of (field_named lines total.asked.name) total.asked.digits } in
     let listed = listed-given (λ (l : Line). line_total lines l.number l.statement) lines total.line made total.listed
     (ap (line_total lines total.line.number) total.says_total) in
     let same = total.is_number in
@@ -160,7 +160,7 @@ module _ (lines : List Line) (plan : Lists) (planned : ServesChart lines plan) w
   -- the counter of a total is enough for it
   pub counter-enough : (end : ℕ) (name : List ℕ) (level number : ℕ) (counter : TotalCounter) → NumbersRise lines end
       → (total : HasTotal lines name level number) → counter_for lines plan number ≡ Some counter
-      → IsEnoughFor (need_of (field_named lines name) total.digits) counter
+      → IsEnoughFor (need_of (field_named lines name) total.asked.digits) counter
   counter-enough end name level number counter rise total there =
       let a = is-served lines plan number counter there in
       let from = given-by (λ (l : Line). line_total lines l.number l.statement) lines a.total
@@ -171,17 +171,17 @@ module _ (lines : List Line) (plan : Lists) (planned : ServesChart lines plan) w
       let made = need-made total.line.number a.total
       (sym (ap (line_total lines total.line.number) total.says_total) ∙ ap (λ (l : Line). line_total lines l.number l.statement) (sym line)
       ∙ from.gives) in
-      let need : need_of (field_named lines name) total.digits ≡ a.total.need =
-      ap (λ n. need_of (field_named lines n) total.digits) (sym (is_same_name-equal total.its_name name total.same_name)) ∙ made in
+      let need : need_of (field_named lines name) total.asked.digits ≡ a.total.need =
+      ap (λ n. need_of (field_named lines n) total.asked.digits) (sym (is_same_name-equal total.asked.name name total.same_name)) ∙ made in
       subst (λ n. IsEnoughFor n counter) (sym need) (planned.counters.enough a.place a.total counter a.is_total a.there)
     where
       numbered : (its : ℕ) (statement : Statement) (found : Total) → line_total lines its statement ≡ Some found → its ≡ found.line
-      numbered its (says.TotalAmount its_level wheel its_name digits mark) found is = cc
+      numbered its (says.TotalAmount total) found is = cc
       numbered its other found is = cc
 
       need-made : (its : ℕ) (found : Total)
-          → Some (record { level = total.its_level; line = its; need = need_of (field_named lines total.its_name) total.digits }) ≡ Some found
-          → need_of (field_named lines total.its_name) total.digits ≡ found.need
+          → Some (record { level = total.asked.level; line = its; need = need_of (field_named lines total.asked.name) total.asked.digits }) ≡ Some found
+          → need_of (field_named lines total.asked.name) total.asked.digits ≡ found.need
       need-made its found is = cc
 
   -- the two groups of a counter differ
@@ -214,16 +214,16 @@ module _ (lines : List Line) (plan : Lists) (planned : ServesChart lines plan) w
   -- and each position of a total has a place
   pub position-given : (end : ℕ) (name : List ℕ) (level number : ℕ) (counter : TotalCounter) → NumbersRise lines end
       → (total : HasTotal lines name level number) → counter_for lines plan number ≡ Some counter
-      → (position : ℕ) → 1 ≤ position → position ≤ total.digits
+      → (position : ℕ) → 1 ≤ position → position ≤ total.asked.digits
       → (group : Group) × (place : ℕ) × ServesPosition lines plan number position group place
   position-given end name level number counter rise total there position from to =
       by counter there (counter-enough end name level number counter rise total there)
     where
-      within : (width : ℕ) → need_of (field_named lines name) total.digits ≤ width → position ≤ width
+      within : (width : ℕ) → need_of (field_named lines name) total.asked.digits ≤ width → position ≤ width
       within width enough = omega (arith, enough, to)
 
       by : (counter : TotalCounter) → counter_for lines plan number ≡ Some counter
-          → IsEnoughFor (need_of (field_named lines name) total.digits) counter
+          → IsEnoughFor (need_of (field_named lines name) total.asked.digits) counter
           → (group : Group) × (place : ℕ) × ServesPosition lines plan number position group place
       by (of.Single own) there enough = (
         panel_group own,

@@ -12,10 +12,10 @@ use Rattle.plans.specs.Below.charts.declared.chart.Line.{Line}
 use Rattle.plans.specs.Below.charts.declared.statement.Field.{Field}
 use Rattle.plans.specs.Below.charts.declared.statement.FieldKind.{FieldKind}
 use Rattle.plans.specs.Below.charts.declared.statement.FieldKind.TheVariants as holds
-use Rattle.plans.specs.Below.charts.declared.statement.Mark.{Mark}
 use Rattle.plans.specs.Below.charts.declared.statement.SignRule.{SignRule}
 use Rattle.plans.specs.Below.charts.declared.statement.Statement.{Statement}
 use Rattle.plans.specs.Below.charts.declared.statement.Statement.TheVariants as says
+use Rattle.plans.specs.Below.charts.declared.statement.TotalLine.{TotalLine}
 pub use Rattle.report.specs.Edits.{free_digits, mark_text}
 
 -- The emitter of a printed line: that of its number for a heading line, 4 for the line of a card, 4 more than its level for a total
@@ -70,9 +70,9 @@ pub data IsFigure (lines : List Line) : Statement → (emitter wheel : ℕ) → 
   on_detail : (wheel : ℕ) (name : List ℕ) (shown : _) (field : Field) → IsAmount lines name field
       → IsFigure lines (says.DetailField wheel name shown) detail_emitter wheel
       (record { digits = columns_of field; decimals = decimals_of field.kind; mark = mark_shown shown })
-  on_total : (level : _) (wheel : ℕ) (name : List ℕ) (digits : ℕ) (mark : Option Mark) (field : Field) → IsAmount lines name field
-      → IsFigure lines (says.TotalAmount level wheel name digits mark) (total_emitter (level_number level)) wheel
-      (record { digits = digits; decimals = decimals_of field.kind; mark = mark })
+  on_total : (total : TotalLine) (field : Field) → IsAmount lines total.name field
+      → IsFigure lines (says.TotalAmount total) (total_emitter (level_number total.level)) total.wheel
+      (record { digits = total.digits; decimals = decimals_of field.kind; mark = total.mark })
 
 -- the wheel of a digit of an amount of so many digits and decimals, by its position
 abbrev pub digit_wheel : (wheel digits decimals position : ℕ) → ℕ

@@ -14,13 +14,13 @@ use Rattle.plans.specs.Below.charts.Levels.{level_number}
 use Rattle.plans.specs.Below.charts.Name.{is_same_name}
 use Rattle.plans.specs.Below.charts.declared.chart.Line.{Line}
 use Rattle.plans.specs.Below.charts.declared.level.ControlLevel.{ControlLevel}
-use Rattle.plans.specs.Below.charts.declared.level.Level.{Level}
 use Rattle.plans.specs.Below.charts.declared.statement.BodyLine.{BodyLine}
 use Rattle.plans.specs.Below.charts.declared.statement.BodyLine.TheVariants as body
 use Rattle.plans.specs.Below.charts.declared.statement.SignRule.{SignRule}
 use Rattle.plans.specs.Below.charts.declared.statement.SignRule.TheVariants as sign
 use Rattle.plans.specs.Below.charts.declared.statement.Statement.{Statement}
 use Rattle.plans.specs.Below.charts.declared.statement.Statement.TheVariants as says
+use Rattle.plans.specs.Below.charts.declared.statement.TotalLine.{TotalLine}
 use Rattle.setups.specs.Below.hubs.declared.hub.Group.{Group}
 use Rattle.setups.specs.Below.hubs.declared.hub.Hub.{Hub}
 use Rattle.setups.specs.Below.hubs.declared.hub.Hub.TheVariants.{CC, PIN, PIT, PX}
@@ -120,27 +120,22 @@ source_of (body.Total level) = PX (level_number level) 3
 
 -- whether a line is a total of the amount of a name, at a level
 abbrev pub is_total_at : List ℕ → ℕ → Statement → Bool
-is_total_at wanted level (says.TotalAmount its_level wheel name digits mark) =
-    (level_number its_level == level) && is_same_name name wanted
+is_total_at wanted level (says.TotalAmount total) = (level_number total.level == level) && is_same_name total.name wanted
 is_total_at wanted level other = false
 
 -- the first line with a total of the amount of a name, at a level, if there is one
 abbrev pub total_line : List Line → List ℕ → ℕ → Option Line
 total_line lines name level = find (λ line. is_total_at name level line.statement) lines
 
--- A line of the chart, by its number, has a total of the amount of a name, at a level, in so many digits.
+-- A line of the chart, by its number, asks for a total of the amount of a name, at a level.
 pub record HasTotal (lines : List Line) (name : List ℕ) (level number : ℕ) : Type 0 where
   pub line : Line
   pub listed : Contains lines line
   pub is_number : line.number ≡ number
-  pub its_level : Level
-  pub wheel : ℕ
-  pub its_name : List ℕ
-  pub digits : ℕ
-  pub mark : _
-  pub says_total : line.statement ≡ says.TotalAmount its_level wheel its_name digits mark
-  pub same_level : level_number its_level ≡ level
-  pub same_name : is_same_name its_name name ≡ true
+  pub asked : TotalLine
+  pub says_total : line.statement ≡ says.TotalAmount asked
+  pub same_level : level_number asked.level ≡ level
+  pub same_name : is_same_name asked.name name ≡ true
 
 -- no total of the amount has a lower level
 abbrev pub IsLowest : List Line → List ℕ → ℕ → Type 0

@@ -1,5 +1,5 @@
 -- The wires of a chart, by its plan: for each line of the chart the wires that it gives, and no others.
-use Rattle.std.specs.Prelude.{◌≡◌, ◌≢◌, ℕ, ◌+◌, ◌-◌, ◌<◌, ◌≤◌, List, Contains, Option, Some}
+use Rattle.std.specs.Prelude.{◌≡◌, ◌≢◌, ℕ, ◌+◌, ◌-◌, ◌<◌, ◌≤◌, List, Contains, Some}
 use Rattle.plans.specs.Below.capacity.declared.group.CounterGroup.{CounterGroup}
 use Rattle.plans.specs.Plans.{Lists}
 use Rattle.plans.specs.declared.counter.TotalCounter.TheVariants as of
@@ -19,6 +19,7 @@ use Rattle.plans.specs.Below.charts.declared.statement.Field.{Field}
 use Rattle.plans.specs.Below.charts.declared.statement.Mark.{Mark}
 use Rattle.plans.specs.Below.charts.declared.statement.SignRule.{SignRule}
 use Rattle.plans.specs.Below.charts.declared.statement.Statement.{Statement}
+use Rattle.plans.specs.Below.charts.declared.statement.TotalLine.{TotalLine}
 use Rattle.plans.specs.Below.charts.declared.statement.Statement.TheVariants as says
 use Rattle.setups.specs.Below.hubs.declared.hub.Group.{Group}
 use Rattle.setups.specs.Below.hubs.declared.hub.Hub.{Hub}
@@ -82,107 +83,91 @@ pub data LineWire (lines : List Line) (plan : Lists) (number : ℕ) : Statement 
       → LineWire lines plan number (says.Field field) (FR (column_of_rule rule)) (PIX pilot)
   -- The lowest total of an amount: each column at second reading enters it. Without a sign rule each card adds; with one it adds or
   -- subtracts by position 1 of the pilot. Both groups of a counter of two are told so.
-  entry : (level : Level) (wheel : ℕ) (name : List ℕ) (digits : ℕ) (mark : Option Mark) (field : Field) (group : Group)
-      (position place : ℕ)
-      → IsLowest lines name (level_number level) → ServesPosition lines plan number position group place
-      → IsAmount lines name field → 1 ≤ position → position ≤ columns_of field
-      → LineWire lines plan number (says.TotalAmount level wheel name digits mark)
-      (SR (field.last + 1 - position)) (GE group place)
-  entry_adds : (level : Level) (wheel : ℕ) (name : List ℕ) (digits : ℕ) (mark : Option Mark) (group : Group)
-      → IsLowest lines name (level_number level) → ServesTotal lines plan number group → IsUnsigned lines name
-      → LineWire lines plan number (says.TotalAmount level wheel name digits mark) CC (PL group)
-  entry_sign : (level : Level) (wheel : ℕ) (name : List ℕ) (digits : ℕ) (mark : Option Mark) (rule : SignRule) (pilot : ℕ)
-      → IsLowest lines name (level_number level) → IsSigned lines name rule → pilot_for plan name ≡ Some pilot
-      → LineWire lines plan number (says.TotalAmount level wheel name digits mark) CC (PIC pilot 1)
-  entry_plus : (level : Level) (wheel : ℕ) (name : List ℕ) (digits : ℕ) (mark : Option Mark) (rule : SignRule) (pilot : ℕ)
-      (group : Group)
-      → IsLowest lines name (level_number level) → ServesTotal lines plan number group
-      → IsSigned lines name rule → pilot_for plan name ≡ Some pilot
-      → LineWire lines plan number (says.TotalAmount level wheel name digits mark) (positive_side rule pilot 1) (PL group)
-  entry_minus : (level : Level) (wheel : ℕ) (name : List ℕ) (digits : ℕ) (mark : Option Mark) (rule : SignRule) (pilot : ℕ)
-      (group : Group)
-      → IsLowest lines name (level_number level) → ServesTotal lines plan number group
-      → IsSigned lines name rule → pilot_for plan name ≡ Some pilot
-      → LineWire lines plan number (says.TotalAmount level wheel name digits mark) (negative_side rule pilot 1) (MI group)
+  entry : (total : TotalLine) (field : Field) (group : Group) (position place : ℕ)
+      → IsLowest lines total.name (level_number total.level) → ServesPosition lines plan number position group place
+      → IsAmount lines total.name field → 1 ≤ position → position ≤ columns_of field
+      → LineWire lines plan number (says.TotalAmount total) (SR (field.last + 1 - position)) (GE group place)
+  entry_adds : (total : TotalLine) (group : Group)
+      → IsLowest lines total.name (level_number total.level) → ServesTotal lines plan number group → IsUnsigned lines total.name
+      → LineWire lines plan number (says.TotalAmount total) CC (PL group)
+  entry_sign : (total : TotalLine) (rule : SignRule) (pilot : ℕ)
+      → IsLowest lines total.name (level_number total.level) → IsSigned lines total.name rule → pilot_for plan total.name ≡ Some pilot
+      → LineWire lines plan number (says.TotalAmount total) CC (PIC pilot 1)
+  entry_plus : (total : TotalLine) (rule : SignRule) (pilot : ℕ) (group : Group)
+      → IsLowest lines total.name (level_number total.level) → ServesTotal lines plan number group
+      → IsSigned lines total.name rule → pilot_for plan total.name ≡ Some pilot
+      → LineWire lines plan number (says.TotalAmount total) (positive_side rule pilot 1) (PL group)
+  entry_minus : (total : TotalLine) (rule : SignRule) (pilot : ℕ) (group : Group)
+      → IsLowest lines total.name (level_number total.level) → ServesTotal lines plan number group
+      → IsSigned lines total.name rule → pilot_for plan total.name ≡ Some pilot
+      → LineWire lines plan number (says.TotalAmount total) (negative_side rule pilot 1) (MI group)
   -- The read-out of a total in the cycle that prints it: its digits to their wheels.
-  read_out : (level : Level) (wheel : ℕ) (name : List ℕ) (digits : ℕ) (mark : Option Mark) (group : Group)
-      → ServesTotal lines plan number group
-      → LineWire lines plan number (says.TotalAmount level wheel name digits mark) (PX (level_number level) 3) (RO group)
-  total_digit : (level : Level) (wheel : ℕ) (name : List ℕ) (digits : ℕ) (mark : Option Mark) (field : Field) (group : Group)
-      (position place : ℕ)
-      → ServesPosition lines plan number position group place → IsAmount lines name field → 1 ≤ position → position ≤ digits
-      → LineWire lines plan number (says.TotalAmount level wheel name digits mark)
-      (GX group place) (W (digit_wheel wheel digits (decimals_of field.kind) position))
+  read_out : (total : TotalLine) (group : Group) → ServesTotal lines plan number group
+      → LineWire lines plan number (says.TotalAmount total) (PX (level_number total.level) 3) (RO group)
+  total_digit : (total : TotalLine) (field : Field) (group : Group) (position place : ℕ)
+      → ServesPosition lines plan number position group place → IsAmount lines total.name field → 1 ≤ position → position ≤ total.digits
+      → LineWire lines plan number (says.TotalAmount total)
+      (GX group place) (W (digit_wheel total.wheel total.digits (decimals_of field.kind) position))
   -- The carry of a total with two groups goes from the lower one to the upper one.
-  carry_up : (level : Level) (wheel : ℕ) (name : List ℕ) (digits : ℕ) (mark : Option Mark) (lower upper : CounterGroup)
+  carry_up : (total : TotalLine) (lower upper : CounterGroup)
       → counter_for lines plan number ≡ Some (of.Coupled lower upper)
-      → LineWire lines plan number (says.TotalAmount level wheel name digits mark) (CO (panel_group lower)) (CI (panel_group upper))
+      → LineWire lines plan number (says.TotalAmount total) (CO (panel_group lower)) (CI (panel_group upper))
   -- The sign conversion of a signed total. Its wheels form a ring, of one group or of both. The first program cycle of the level
   -- tests the balance, that of the top group, which sets the latch for a total below 0 and for a 0 that stands as all nines; the second,
   -- where the latch is set, reads the total out into itself by minus, on all positions of its groups, which leaves the figure.
-  ring : (level : Level) (wheel : ℕ) (name : List ℕ) (digits : ℕ) (mark : Option Mark) (rule : SignRule) (group : Group)
-      → group_for lines plan number ≡ Some group → IsSigned lines name rule
-      → LineWire lines plan number (says.TotalAmount level wheel name digits mark) (CO group) (CI group)
-  carry_round : (level : Level) (wheel : ℕ) (name : List ℕ) (digits : ℕ) (mark : Option Mark) (rule : SignRule)
-      (lower upper : CounterGroup)
-      → counter_for lines plan number ≡ Some (of.Coupled lower upper) → IsSigned lines name rule
-      → LineWire lines plan number (says.TotalAmount level wheel name digits mark) (CO (panel_group upper)) (CI (panel_group lower))
-  balance_test : (level : Level) (wheel : ℕ) (name : List ℕ) (digits : ℕ) (mark : Option Mark) (rule : SignRule) (top : Group)
-      → top_for lines plan number ≡ Some top → IsSigned lines name rule
-      → LineWire lines plan number (says.TotalAmount level wheel name digits mark) (PX (level_number level) 1) (BT top)
-  conversion : (level : Level) (wheel : ℕ) (name : List ℕ) (digits : ℕ) (mark : Option Mark) (rule : SignRule) (top : Group)
-      → top_for lines plan number ≡ Some top → IsSigned lines name rule
-      → LineWire lines plan number (says.TotalAmount level wheel name digits mark) (PX (level_number level) 2) (BAC top 1)
-  conversion_read_out : (level : Level) (wheel : ℕ) (name : List ℕ) (digits : ℕ) (mark : Option Mark) (rule : SignRule)
-      (top group : Group)
-      → top_for lines plan number ≡ Some top → ServesTotal lines plan number group → IsSigned lines name rule
-      → LineWire lines plan number (says.TotalAmount level wheel name digits mark) (BAT top 1) (RO group)
-  conversion_minus : (level : Level) (wheel : ℕ) (name : List ℕ) (digits : ℕ) (mark : Option Mark) (rule : SignRule)
-      (top group : Group)
-      → top_for lines plan number ≡ Some top → ServesTotal lines plan number group → IsSigned lines name rule
-      → LineWire lines plan number (says.TotalAmount level wheel name digits mark) (BAT top 1) (MI group)
-  feedback : (level : Level) (wheel : ℕ) (name : List ℕ) (digits : ℕ) (mark : Option Mark) (rule : SignRule) (group : Group)
-      (place : ℕ)
-      → ServesTotal lines plan number group → IsSigned lines name rule → 1 ≤ place → place ≤ group.width
-      → LineWire lines plan number (says.TotalAmount level wheel name digits mark) (GX group place) (GE group place)
+  ring : (total : TotalLine) (rule : SignRule) (group : Group)
+      → group_for lines plan number ≡ Some group → IsSigned lines total.name rule
+      → LineWire lines plan number (says.TotalAmount total) (CO group) (CI group)
+  carry_round : (total : TotalLine) (rule : SignRule) (lower upper : CounterGroup)
+      → counter_for lines plan number ≡ Some (of.Coupled lower upper) → IsSigned lines total.name rule
+      → LineWire lines plan number (says.TotalAmount total) (CO (panel_group upper)) (CI (panel_group lower))
+  balance_test : (total : TotalLine) (rule : SignRule) (top : Group)
+      → top_for lines plan number ≡ Some top → IsSigned lines total.name rule
+      → LineWire lines plan number (says.TotalAmount total) (PX (level_number total.level) 1) (BT top)
+  conversion : (total : TotalLine) (rule : SignRule) (top : Group)
+      → top_for lines plan number ≡ Some top → IsSigned lines total.name rule
+      → LineWire lines plan number (says.TotalAmount total) (PX (level_number total.level) 2) (BAC top 1)
+  conversion_read_out : (total : TotalLine) (rule : SignRule) (top group : Group)
+      → top_for lines plan number ≡ Some top → ServesTotal lines plan number group → IsSigned lines total.name rule
+      → LineWire lines plan number (says.TotalAmount total) (BAT top 1) (RO group)
+  conversion_minus : (total : TotalLine) (rule : SignRule) (top group : Group)
+      → top_for lines plan number ≡ Some top → ServesTotal lines plan number group → IsSigned lines total.name rule
+      → LineWire lines plan number (says.TotalAmount total) (BAT top 1) (MI group)
+  feedback : (total : TotalLine) (rule : SignRule) (group : Group) (place : ℕ)
+      → ServesTotal lines plan number group → IsSigned lines total.name rule → 1 ≤ place → place ≤ group.width
+      → LineWire lines plan number (says.TotalAmount total) (GX group place) (GE group place)
   -- The mark of a signed total: the rows of its characters pass through the balance positions 3 and 4, on the side that is closed
   -- while the latch is set.
-  total_mark_in : (level : Level) (wheel : ℕ) (name : List ℕ) (digits : ℕ) (mark : Mark) (rule : SignRule) (top : Group)
-      (k row : ℕ)
-      → top_for lines plan number ≡ Some top → IsSigned lines name rule → HasPunchAt (mark_text mark) k row
-      → LineWire lines plan number (says.TotalAmount level wheel name digits (Some mark))
-      (EM (total_emitter (level_number level)) row) (BAC top (3 + k))
-  total_mark_out : (level : Level) (wheel : ℕ) (name : List ℕ) (digits : ℕ) (mark : Mark) (rule : SignRule) (field : Field)
-      (top : Group) (k row : ℕ)
-      → top_for lines plan number ≡ Some top → IsSigned lines name rule → field_named lines name ≡ Some field
+  total_mark_in : (total : TotalLine) (mark : Mark) (rule : SignRule) (top : Group) (k row : ℕ)
+      → total.mark ≡ Some mark → top_for lines plan number ≡ Some top → IsSigned lines total.name rule
       → HasPunchAt (mark_text mark) k row
-      → LineWire lines plan number (says.TotalAmount level wheel name digits (Some mark))
-      (BAT top (3 + k)) (W (mark_wheel wheel digits (decimals_of field.kind) + k))
+      → LineWire lines plan number (says.TotalAmount total) (EM (total_emitter (level_number total.level)) row) (BAC top (3 + k))
+  total_mark_out : (total : TotalLine) (mark : Mark) (rule : SignRule) (field : Field) (top : Group) (k row : ℕ)
+      → total.mark ≡ Some mark → top_for lines plan number ≡ Some top → IsSigned lines total.name rule
+      → field_named lines total.name ≡ Some field → HasPunchAt (mark_text mark) k row
+      → LineWire lines plan number (says.TotalAmount total)
+      (BAT top (3 + k)) (W (mark_wheel total.wheel total.digits (decimals_of field.kind) + k))
   -- The transfer of a total to the next higher total of its amount: its digits enter that one, position by position, which adds
   -- them, or subtracts them where the latch is set.
-  transfer : (level : Level) (wheel : ℕ) (name : List ℕ) (digits : ℕ) (mark : Option Mark) (group upper : Group)
-      (other position place upper_place : ℕ)
-      → ServesPosition lines plan number position group place → IsNextHigher lines name (level_number level) other
-      → ServesPosition lines plan other position upper upper_place → 1 ≤ position → position ≤ digits
-      → LineWire lines plan number (says.TotalAmount level wheel name digits mark) (GX group place) (GE upper upper_place)
-  transfer_adds : (level : Level) (wheel : ℕ) (name : List ℕ) (digits : ℕ) (mark : Option Mark) (upper : Group) (other : ℕ)
-      → IsUnsigned lines name → IsNextHigher lines name (level_number level) other → ServesTotal lines plan other upper
-      → LineWire lines plan number (says.TotalAmount level wheel name digits mark) (PX (level_number level) 3) (PL upper)
-  transfer_sign : (level : Level) (wheel : ℕ) (name : List ℕ) (digits : ℕ) (mark : Option Mark) (rule : SignRule) (top : Group)
-      (other : ℕ)
-      → top_for lines plan number ≡ Some top → IsSigned lines name rule
-      → IsNextHigher lines name (level_number level) other
-      → LineWire lines plan number (says.TotalAmount level wheel name digits mark) (PX (level_number level) 3) (BAC top 2)
-  transfer_plus : (level : Level) (wheel : ℕ) (name : List ℕ) (digits : ℕ) (mark : Option Mark) (rule : SignRule)
-      (top upper : Group) (other : ℕ)
-      → top_for lines plan number ≡ Some top → IsSigned lines name rule
-      → IsNextHigher lines name (level_number level) other → ServesTotal lines plan other upper
-      → LineWire lines plan number (says.TotalAmount level wheel name digits mark) (BAN top 2) (PL upper)
-  transfer_minus : (level : Level) (wheel : ℕ) (name : List ℕ) (digits : ℕ) (mark : Option Mark) (rule : SignRule)
-      (top upper : Group) (other : ℕ)
-      → top_for lines plan number ≡ Some top → IsSigned lines name rule
-      → IsNextHigher lines name (level_number level) other → ServesTotal lines plan other upper
-      → LineWire lines plan number (says.TotalAmount level wheel name digits mark) (BAT top 2) (MI upper)
+  transfer : (total : TotalLine) (group upper : Group) (other position place upper_place : ℕ)
+      → ServesPosition lines plan number position group place → IsNextHigher lines total.name (level_number total.level) other
+      → ServesPosition lines plan other position upper upper_place → 1 ≤ position → position ≤ total.digits
+      → LineWire lines plan number (says.TotalAmount total) (GX group place) (GE upper upper_place)
+  transfer_adds : (total : TotalLine) (upper : Group) (other : ℕ)
+      → IsUnsigned lines total.name → IsNextHigher lines total.name (level_number total.level) other → ServesTotal lines plan other upper
+      → LineWire lines plan number (says.TotalAmount total) (PX (level_number total.level) 3) (PL upper)
+  transfer_sign : (total : TotalLine) (rule : SignRule) (top : Group) (other : ℕ)
+      → top_for lines plan number ≡ Some top → IsSigned lines total.name rule
+      → IsNextHigher lines total.name (level_number total.level) other
+      → LineWire lines plan number (says.TotalAmount total) (PX (level_number total.level) 3) (BAC top 2)
+  transfer_plus : (total : TotalLine) (rule : SignRule) (top upper : Group) (other : ℕ)
+      → top_for lines plan number ≡ Some top → IsSigned lines total.name rule
+      → IsNextHigher lines total.name (level_number total.level) other → ServesTotal lines plan other upper
+      → LineWire lines plan number (says.TotalAmount total) (BAN top 2) (PL upper)
+  transfer_minus : (total : TotalLine) (rule : SignRule) (top upper : Group) (other : ℕ)
+      → top_for lines plan number ≡ Some top → IsSigned lines total.name rule
+      → IsNextHigher lines total.name (level_number total.level) other → ServesTotal lines plan other upper
+      → LineWire lines plan number (says.TotalAmount total) (BAT top 2) (MI upper)
   -- A text on a total line: a storage unit takes its columns from each card, and gives them in the cycle that prints the line.
   total_text_in : (level : Level) (wheel : ℕ) (name : List ℕ) (field : Field) (unit j : ℕ)
       → IsText lines name field → j < columns_of field → unit_for plan number ≡ Some unit

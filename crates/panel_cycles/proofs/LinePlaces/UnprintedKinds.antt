@@ -1,8 +1,7 @@
 -- A lawful chart says nothing of the spacing of a kind of line that it doesn't print, nor of what follows it.
-use Rattle.std.proofs.Common.{◌≡◌, sym, Option, nat_lt, arith, ℕ, ◌==◌, ◌||◌, not, Bool, true, false, List, [], ◌∷◌, Some, None, refl, ap, subst, ◌∙◌, ◌⊎◌, inl, inr, if◌then◌else◌}
-use Rattle.std.specs.List.{list_any}
+use Rattle.std.proofs.Common.{◌≡◌, sym, Option, nat_lt, arith, ℕ, ◌==◌, ◌||◌, Bool, true, false, List, [], ◌∷◌, Some, None, refl, ap, subst, ◌∙◌, ◌⊎◌, if◌then◌else◌}
 use Rattle.std.proofs.lemmas.Bool.Decides.{nat_tests}
-use Rattle.std.proofs.lemmas.Bool.{not-false, or_parts}
+use Rattle.std.proofs.lemmas.Bool.{not-false}
 use Rattle.report.specs.Below.charts.declared.statement.After.{After}
 use Rattle.carriage.specs.Below.net.Printing.{prints}
 use Rattle.carriage.specs.Below.net.declared.cycle.Cycle.{Cycle}
@@ -11,7 +10,6 @@ use Rattle.carriage.specs.Asked.{nothing_asked}
 use Rattle.carriage.specs.Carriage.{CarriageState}
 use Rattle.report.specs.Below.charts.Chart.{Chart}
 use Rattle.report.specs.Below.charts.Levels.{level_number}
-use Rattle.report.specs.Below.charts.Spacings.{spacing_number}
 use Rattle.report.specs.Below.charts.declared.chart.Line.{Line}
 use Rattle.report.specs.Below.charts.declared.level.Level.{Level}
 use Rattle.report.specs.Below.charts.declared.level.Level.TheVariants as level
@@ -26,7 +24,7 @@ use Rattle.report.specs.Below.print_rules.Printing.{is_kind, has_item_of, is_pri
 use Rattle.report.specs.Below.chart_rules.Rules.{IsLawful}
 use Rattle.report.proofs.Below.charts.Listed.{any-passing}
 use Rattle.report.proofs.Below.chart_rules.Laws.{kept-line, lacks-lawful}
-use Rattle.report.specs.ChartForm.{is_print_detail, prints_details, is_total_item, prints_totals, kind_number, spacing_of, spacing_from, after_of, after_from}
+use Rattle.report.specs.ChartForm.{is_print_detail, prints_details, is_total_item, prints_totals, kind_number, spacing_of, after_of}
 use Rattle.panel_cycles.specs.LinePlaces.Placing.{prints_kind, channel_of, turns_page, kind_of, asked_of, IsCarriageOf}
 use Rattle.panel_cycles.specs.LinePlaces.CarriageCycles.{carriage_after, begins_page}
 use Rattle.panel_cycles.proofs.LinePlaces.BodyLines.{jacks-print}
@@ -74,8 +72,8 @@ totals-printed (line ∷ lines) its has = by line.statement has (totals-printed 
         either (level_number one == level_number its) (has_item_of lines (body.Total its)) (prints_totals lines (level_number its)) below there
     by (says.TotalText one wheel name) there below =
         either (level_number one == level_number its) (has_item_of lines (body.Total its)) (prints_totals lines (level_number its)) below there
-    by (says.TotalAmount one wheel name digits mark) there below =
-        either (level_number one == level_number its) (has_item_of lines (body.Total its)) (prints_totals lines (level_number its)) below there
+    by (says.TotalAmount total) there below =
+        either (level_number total.level == level_number its) (has_item_of lines (body.Total its)) (prints_totals lines (level_number its)) below there
     by other there below = below there
 
 -- a kind with items is printed

@@ -1,4 +1,4 @@
-use Rattle.std.proofs.Common.{Contains, List, Option, Some, sym, ap, ◌∙◌, ◌≡◌}
+use Rattle.std.proofs.Common.{sym, ap, ◌∙◌, ◌≡◌}
 use Rattle.charts.specs.declared.statement.Statement.TheVariants as says
 use Rattle.panel_plans.specs.NamingWires.NamesPart.{marking}
 use Rattle.panel_plans.proofs.PilotsTold.{mark-no, mark-yes, total-no, total-yes}
@@ -28,7 +28,7 @@ pub returns-then-is-2-clause-yes : goal.returns-then-is-2-clause-yes
 returns-then-is-2-clause-yes c = λ other its shows listed leads.
     let t = c.in-TotalAmount in
     total-yes c.args.chart.now other c.lines-lines.ensures.lawful c.lines-lines.ensures.rising its shows.wired c.args.amount.now c.requires
-    t.name (sym c.if-is-2.ensures) c.args.line.now t.level t.wheel t.digits t.mark c.args.pilot listed t.is
+    c.args.line.now t.total c.args.pilot (sym c.if-is-2.ensures) listed t.is
     ((c.leads_to_total.ensures other its _ shows listed (ap (line_total c.args.chart.now.lines c.args.line.now.number) t.is)).0 leads)
 
 pub returns-then-is-2-clause-no : goal.returns-then-is-2-clause-no
@@ -36,4 +36,4 @@ returns-then-is-2-clause-no c = λ other its shows listed served tells.
     let t = c.in-TotalAmount in
     (c.leads_to_total.ensures other its _ shows listed (ap (line_total c.args.chart.now.lines c.args.line.now.number) t.is)).1
     (total-no c.args.chart.now other c.lines-lines.ensures.lawful c.lines-lines.ensures.rising its shows.wired c.args.amount.now c.requires
-    t.name (sym c.if-is-2.ensures) c.args.line.now t.level t.wheel t.digits t.mark c.args.pilot listed t.is served tells)
+    c.args.line.now t.total c.args.pilot listed t.is served tells)

@@ -1,9 +1,8 @@
 use Rattle.charts.specs.Field.{decimals_of}
 use Rattle.charts.specs.Levels.{level_number}
-use Rattle.std.proofs.Common.{ap, sym, ◌+◌, ◌∙◌}
+use Rattle.std.proofs.Common.{sym, ◌+◌}
 use Rattle.std.proofs.lemmas.Result.{on_ok_weaker}
 use Rattle.line_wires.proofs.Steps.{adds-both, adds-by, adds-some}
-use Rattle.line_wires.specs.Below.wiring_table.Figures.{mark_wheel}
 use Rattle.line_wires.specs.HelperAdds.{OfSome}
 use Rattle.total_wires.specs.HelperLevels.{NextWires}
 use Rattle.line_wires.specs.HelperRows.{PointWires}
@@ -17,15 +16,14 @@ returns c =
     let counter = c.in-Some.counter in
     on_ok_weaker c.wire_carry_up.result (λ carried. adds-some (sym c.in-Some.ensures)
     (adds-both c.in_ok-wire_lowest.ensures
-    (adds-both (adds-by (λ n. ReadOutWires c.args.level c.args.wheel c.args.digits n counter) c.in_ok-wire_read_out.ensures d)
+    (adds-both (adds-by (λ n. ReadOutWires c.args.total.now n counter) c.in_ok-wire_read_out.ensures d)
     (adds-both
-    (adds-by (λ n. PointWires (4 + level_number c.args.level) c.args.wheel c.args.digits n)
-    (adds-by (λ l. PointWires (4 + l) c.args.wheel c.args.digits c.decimals-decimals.result) c.in_ok-wire_point.ensures c.number.ensures) d)
+    (adds-by (λ n. PointWires (4 + level_number c.args.total.now.level) c.args.total.now.wheel c.args.total.now.digits n)
+    (adds-by (λ l. PointWires (4 + l) c.args.total.now.wheel c.args.total.now.digits c.decimals-decimals.result) c.in_ok-wire_point.ensures c.number-emitter.ensures) d)
     (adds-both
-    (adds-by (λ s. OfSome s (λ its_rule. SignedTotal c.args.level (mark_wheel c.args.wheel c.args.digits (decimals_of c.args.field.kind)) c.args.mark counter))
-    (adds-by (λ w. OfSome c.rule_of-rule.result (λ its_rule. SignedTotal c.args.level w c.args.mark counter))
-    c.in_ok-wire_sign.ensures (c.mark_wheel-after.ensures ∙ ap (mark_wheel c.args.wheel c.args.digits) d)) r)
+    (adds-by (λ s. OfSome s (λ its_rule. SignedTotal c.args.total.now (decimals_of c.args.field.kind) counter))
+    (adds-by (λ n. OfSome c.rule_of-rule.result (λ its_rule. SignedTotal c.args.total.now n counter)) c.in_ok-wire_sign.ensures d) r)
     (adds-both
-    (adds-by (NextWires c.args.chart.now.lines c.args.plan.now c.args.name c.args.level c.args.digits counter)
+    (adds-by (NextWires c.args.chart.now.lines c.args.plan.now c.args.total.now counter)
     c.in_ok-wire_transfer.ensures r) carried))))))
     c.wire_carry_up.ensures

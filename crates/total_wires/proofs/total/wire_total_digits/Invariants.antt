@@ -7,4 +7,4 @@ use Rattle.total_wires.proofs.total.wire_total_digits.Given as goal
 
 abbrev pub invariant-loop-place : goal.invariant-loop-place
 invariant-loop-place l =
-    Adds (Upto l.place (λ place. One (exit_of (place_of l.counter (place + 1))) (W (digit_wheel l.wheel l.digits l.decimals (place + 1))))) l.initial.setup l.setup
+    Adds (Upto l.place (λ place. One (exit_of (place_of l.counter (place + 1))) (W (digit_wheel l.total.wheel l.total.digits l.decimals (place + 1))))) l.initial.setup l.setup
