@@ -7,6 +7,7 @@ use commands::{replay_by_orders, serve};
 use fault_guide::guides::fault_to_end;
 use match_calls::{match_deck_to_end, match_to_end};
 use panel_guides::{Place, explain_to_end, legend_to_end};
+use sheet_calls::{fields_to_end, layout_to_end};
 use std::alloc::Global;
 use std::io::{Read, Write};
 use trace_calls::trace_to_end;
@@ -74,6 +75,29 @@ impl Served {
     pub fn legend(alloc: Global, chart: &[u8]) -> Served {
         let mut served = Served::new(alloc);
         served.status = legend_to_end(alloc, chart, &mut served.output, &mut served.told).status;
+        served
+    }
+
+    /// The layout of a chart.
+    pub fn layout(alloc: Global, chart: &[u8]) -> Served {
+        let mut served = Served::new(alloc);
+        served.status = layout_to_end(alloc, chart, &mut served.output, &mut served.told).status;
+        served
+    }
+
+    /// What the fields of a chart read on a card.
+    pub fn fields<R: Read + Drop>(alloc: Global, chart: &[u8], deck: R, card: u32) -> Served {
+        let mut served = Served::new(alloc);
+        served.status = fields_to_end(
+            alloc,
+            chart,
+            "my.deck",
+            deck,
+            card,
+            &mut served.output,
+            &mut served.told,
+        )
+        .status;
         served
     }
 

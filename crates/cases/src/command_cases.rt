@@ -6,8 +6,8 @@
 //! `(10000000 letters)` in one line, and `(1000000 empty lines)` and `(1000001 empty lines)`, in place of a text or deck; `(every wire)`
 //! in place of a wiring chart; `(unreadable)` and `(1000000 blank cards)` in place of a deck; and last of all `(unwritable)`, where the
 //! output can't be written.
-//! A command `replay --orders` has its orders behind it, given as a text is; `fault` has its number behind it, and `explain` the page, the
-//! line and the wheel. A `check deck` checks the deck too, where `check` leaves it alone. The rows of `show` are refused; its pages stand
+//! A command `replay --orders` has its orders behind it, given as a text is; `fault` has its number behind it, `fields` that of the card, and
+//! `explain` the page, the line and the wheel. A `check deck` checks the deck too, where `check` leaves it alone. The rows of `show` are refused; its pages stand
 //! in `shown_cases`.
 //! Of a million cards the number of bytes printed stands in place of these.
 
@@ -171,6 +171,9 @@ fn worded<R: Read + Drop>(rt: &HostRuntime, command: &str, text: &[u8], deck: R)
     if let Some(number) = command.strip_prefix("fault ") {
         return Ok(Served::of_fault(alloc, number.parse()?));
     }
+    if let Some(card) = command.strip_prefix("fields ") {
+        return Ok(Served::fields(alloc, text, deck, card.parse()?));
+    }
     match command.strip_prefix("explain ").and_then(place_of) {
         Some(place) => Ok(Served::explain(alloc, text, deck, place)),
         None => Ok(Served::of(alloc, command, text, deck)),
@@ -181,6 +184,7 @@ fn worded<R: Read + Drop>(rt: &HostRuntime, command: &str, text: &[u8], deck: R)
 fn answer<R: Read + Drop>(rt: &HostRuntime, command: &str, text: &[u8], deck: R) -> Result<Served> {
     let alloc = rt.alloc();
     match command {
+        "layout" => Ok(Served::layout(alloc, text)),
         "legend" => Ok(Served::legend(alloc, text)),
         "trace" => Ok(Served::trace(alloc, text, deck)),
         "check deck" => Ok(Served::check_deck(alloc, text, deck)),
