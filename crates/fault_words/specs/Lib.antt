@@ -1,0 +1,5 @@
+pub mod Below
+pub mod Parts
+pub mod Others
+pub mod Words
+pub mod Entries

@@ -1,0 +1,34 @@
+-- The words that are told of a line that no form derives.
+use Rattle.std.specs.Prelude.{ℕ, Bool, List, codes, if◌then◌else◌}
+use Rattle.std.specs.Str.{str_eq_ignore_ascii_case}
+use Rattle.line_slips.specs.declared.slip.Slip.{Slip}
+use Rattle.line_slips.specs.declared.slip.Slip.TheVariants as slip
+
+-- what is wrong by a slip
+unfoldable pub slip_words : Slip → List ℕ
+slip_words slip.Tab = codes "there is a tab, and only spaces divide words"
+slip_words slip.Comment = codes "a chart has no comments"
+slip_words slip.Quotation = codes "literals stand in apostrophes, '..', and a chart has ASCII characters alone"
+slip_words slip.Unclosed = codes "an apostrophe is not closed"
+slip_words slip.Small = codes "a chart has capital letters alone"
+slip_words slip.Other = codes "the words of this line are those of no form of a chart"
+
+-- whether a word, in capital or small letters, is one in capital letters
+abbrev pub is_word : List ℕ → List ℕ → Bool
+is_word word capitals = str_eq_ignore_ascii_case word capitals
+
+-- the form of a word, in capital or small letters
+unfoldable pub form_words : List ℕ → List ℕ
+form_words word =
+    if is_word word (codes "FIELD") then codes "FIELD takes a name and columns: FIELD NAME TEXT 1 20, or FIELD AMT AMOUNT 21 26 2, with X 26 or NX 26 behind it for a sign column"
+    else if is_word word (codes "CONTROL") then codes "CONTROL takes a level 1 to 3 and a name: CONTROL 1 DEPT"
+    else if is_word word (codes "PRINT") then codes "PRINT takes one word: PRINT DETAIL or PRINT GROUP"
+    else if is_word word (codes "HEAD") then codes "HEAD takes a heading line 1 to 3, a wheel and a literal: HEAD 1 40 'SALES'"
+    else if is_word word (codes "DETAIL") then codes "DETAIL takes a wheel first: DETAIL 9 ITEM, DETAIL 9 'TEXT', and INDICATE 1 or MARK CR behind a name"
+    else if is_word word (codes "TOTAL") then codes "TOTAL takes a level 1 to 4 and a wheel first: TOTAL 1 40 AMT 8, and MARK CR behind the digits, or TOTAL 1 9 'TEXT', or TOTAL 1 9 DEPT"
+    else if is_word word (codes "SPACE") then codes "SPACE takes a kind of line and 1 to 3: SPACE DETAIL 2 or SPACE TOTAL 1 2"
+    else if is_word word (codes "AFTER") then codes "AFTER takes a kind of line: AFTER TOTAL 1 PAGE or AFTER DETAIL SKIP 3"
+    else if is_word word (codes "FORM") then codes "FORM takes three numbers, lines, first line and overflow line: FORM 66 6 60"
+    else if is_word word (codes "TAPE") then codes "TAPE takes a channel and 1 to 10 stops: TAPE 3 10 20"
+    else if is_word word (codes "END") then codes "END stands alone, and nothing behind it"
+    else codes "a line begins with FIELD, CONTROL, PRINT, HEAD, DETAIL, TOTAL, SPACE, AFTER, FORM, TAPE or END"

@@ -1,0 +1,3 @@
+pub mod Slips
+pub mod Forms
+pub mod LineEntries

@@ -1,0 +1,62 @@
+-- The slips of a line that no form derives: bytes that no line of a chart has, but in a literal.
+use Rattle.std.specs.Prelude.{ℕ, ◌+◌, ◌==◌, ◌&&◌, ◌||◌, Bool, false, List, Option, Some, None, position, fold, nat_le, not, if◌then◌else◌}
+use Rattle.std.specs.List.{list_any}
+use Rattle.line_marks.specs.Spans.{span_of}
+use Rattle.line_marks.specs.declared.span.Span.{Span}
+use Rattle.line_slips.specs.declared.slip.Slip.{Slip}
+use Rattle.line_slips.specs.declared.slip.Slip.TheVariants as slip
+
+-- a tab
+abbrev pub is_tab : ℕ → Bool
+is_tab byte = byte == 9
+
+-- a sign with which comments begin elsewhere: # or ;
+abbrev pub is_comment : ℕ → Bool
+is_comment byte = (byte == 35) || (byte == 59)
+
+-- a quotation mark, or a byte of a typographic one
+abbrev pub is_quotation : ℕ → Bool
+is_quotation byte = (byte == 34) || nat_le 128 byte
+
+-- a small letter
+abbrev pub is_small : ℕ → Bool
+is_small byte = nat_le 97 byte && nat_le byte 122
+
+-- an apostrophe
+abbrev pub is_apostrophe : ℕ → Bool
+is_apostrophe byte = byte == 39
+
+-- whether an odd number of bytes are apostrophes: each one closes what the one before it opened
+abbrev pub is_unclosed : List ℕ → Bool
+is_unclosed line = fold (λ unclosed byte. if is_apostrophe byte then not unclosed else unclosed) false line
+
+-- the slip of a line: the first of these that it has
+unfoldable pub slip_of : List ℕ → Slip
+slip_of line =
+    if list_any is_tab line then slip.Tab
+    else if list_any is_comment line then slip.Comment
+    else if list_any is_quotation line then slip.Quotation
+    else if is_unclosed line then slip.Unclosed
+    else if list_any is_small line then slip.Small
+    else slip.Other
+
+-- the byte by which a slip is known
+abbrev pub is_sign : Slip → ℕ → Bool
+is_sign slip.Tab byte = is_tab byte
+is_sign slip.Comment byte = is_comment byte
+is_sign slip.Quotation byte = is_quotation byte
+is_sign slip.Unclosed byte = is_apostrophe byte
+is_sign slip.Small byte = is_small byte
+is_sign slip.Other byte = false
+
+-- one byte of a line
+abbrev pub byte_span : ℕ → Span
+byte_span place = record { start = place; end = place + 1 }
+
+-- what is marked: the first byte by which the slip is known, or else the first word
+abbrev pub marked_span : List ℕ → Option ℕ → Span
+marked_span line (Some place) = byte_span place
+marked_span line None = span_of 0 line
+
+abbrev pub slip_span : List ℕ → Span
+slip_span line = marked_span line (position (is_sign (slip_of line)) line)

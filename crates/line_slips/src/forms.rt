@@ -1,0 +1,61 @@
+//! The words that are told of a line that no form derives.
+
+ghost use Rattle.std.specs.Prelude.{◌≡◌};
+ghost use Rattle.line_slips.specs.Forms as law;
+
+use crate::slip::Slip;
+
+/// What is wrong by a slip.
+#[tactic(auto, unfolding(crate::specs::Forms::slip_words))]
+pub(crate) fn slip_words(slip: Slip) -> &'static str
+    ensures { result.now ≡ law.slip_words slip }
+{
+    match slip {
+        Slip::Tab => "there is a tab, and only spaces divide words",
+        Slip::Comment => "a chart has no comments",
+        Slip::Quotation =>
+            "literals stand in apostrophes, '..', and a chart has ASCII characters alone",
+        Slip::Unclosed => "an apostrophe is not closed",
+        Slip::Small => "a chart has capital letters alone",
+        Slip::Other => "the words of this line are those of no form of a chart",
+    }
+}
+
+/// Whether a word, in capital or small letters, is one in capital letters.
+fn is_word(word: &[u8], capitals: &[u8]) -> bool
+    ensures { result ≡ law.is_word word.now capitals.now }
+{
+    word.eq_ignore_ascii_case(capitals)
+}
+
+/// The form of a word, in capital or small letters.
+#[tactic(auto, unfolding(crate::specs::Forms::form_words))]
+pub(crate) fn form_words(word: &[u8]) -> &'static str
+    ensures { result.now ≡ law.form_words word.now }
+{
+    if is_word(word, b"FIELD") {
+        "FIELD takes a name and columns: FIELD NAME TEXT 1 20, or FIELD AMT AMOUNT 21 26 2, with X 26 or NX 26 behind it for a sign column"
+    } else if is_word(word, b"CONTROL") {
+        "CONTROL takes a level 1 to 3 and a name: CONTROL 1 DEPT"
+    } else if is_word(word, b"PRINT") {
+        "PRINT takes one word: PRINT DETAIL or PRINT GROUP"
+    } else if is_word(word, b"HEAD") {
+        "HEAD takes a heading line 1 to 3, a wheel and a literal: HEAD 1 40 'SALES'"
+    } else if is_word(word, b"DETAIL") {
+        "DETAIL takes a wheel first: DETAIL 9 ITEM, DETAIL 9 'TEXT', and INDICATE 1 or MARK CR behind a name"
+    } else if is_word(word, b"TOTAL") {
+        "TOTAL takes a level 1 to 4 and a wheel first: TOTAL 1 40 AMT 8, and MARK CR behind the digits, or TOTAL 1 9 'TEXT', or TOTAL 1 9 DEPT"
+    } else if is_word(word, b"SPACE") {
+        "SPACE takes a kind of line and 1 to 3: SPACE DETAIL 2 or SPACE TOTAL 1 2"
+    } else if is_word(word, b"AFTER") {
+        "AFTER takes a kind of line: AFTER TOTAL 1 PAGE or AFTER DETAIL SKIP 3"
+    } else if is_word(word, b"FORM") {
+        "FORM takes three numbers, lines, first line and overflow line: FORM 66 6 60"
+    } else if is_word(word, b"TAPE") {
+        "TAPE takes a channel and 1 to 10 stops: TAPE 3 10 20"
+    } else if is_word(word, b"END") {
+        "END stands alone, and nothing behind it"
+    } else {
+        "a line begins with FIELD, CONTROL, PRINT, HEAD, DETAIL, TOTAL, SPACE, AFTER, FORM, TAPE or END"
+    }
+}

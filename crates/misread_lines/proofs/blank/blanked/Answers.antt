@@ -1,0 +1,12 @@
+use Rattle.std.proofs.Common.{get_or, refl}
+use Rattle.misread_lines.proofs.Steps.{CopiedTo-all, CopiedTo-more}
+use Rattle.misread_lines.proofs.blank.blanked.Goals as goal
+
+pub loop-byte-preserved : goal.loop-byte-preserved
+loop-byte-preserved c =
+    rw (c.in_ok-push.ensures.items, c.blank_byte.ensures, c.line_left-left.ensures)
+    (CopiedTo-more c.args.line c.args.text.now c.loop-byte.copy.items c.loop-byte.left c.loop-byte.byte-index
+    (get_or c.args.text.now c.loop-byte.byte-index 0) c.loop-byte-test.true refl c.loop-byte.invariant)
+
+pub returns : goal.returns
+returns c = CopiedTo-all c.args.line c.args.text.now c.loop-byte.copy.items c.loop-byte.left c.loop-byte.byte-index c.loop-byte-test.false c.loop-byte.invariant

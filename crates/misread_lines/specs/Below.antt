@@ -1,0 +1,1 @@
+pub use Rattle.chart_text.specs as chart_text

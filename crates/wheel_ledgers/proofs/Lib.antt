@@ -1,0 +1,3 @@
+mod Accounts
+mod Behind
+mod Lists

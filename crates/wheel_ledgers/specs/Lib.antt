@@ -1,0 +1,6 @@
+pub mod Places
+pub mod Printed
+pub mod Totals
+pub mod Told
+pub mod Resting
+pub mod Scopes

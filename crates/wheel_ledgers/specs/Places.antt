@@ -1,0 +1,17 @@
+-- The places of counter groups.
+use Rattle.std.specs.Prelude.{ℕ, zero, suc, ◌+◌, ◌==◌, ◌&&◌, Bool, Option, Some, None, if◌then◌else◌}
+use Rattle.counters.specs.Counters.{group_of_unit}
+use Rattle.hubs.specs.declared.hub.Group.{Group}
+
+-- two groups are the same
+abbrev pub is_group : Group → Group → Bool
+is_group one other = (one.width == other.width) && (one.number == other.number)
+
+-- the place of a group among the first so many; unit 3 has place 0
+abbrev pub place_below : ℕ → Group → Option ℕ
+place_below zero group = None
+place_below (suc place) group = if is_group (group_of_unit (3 + place)) group then Some place else place_below place group
+
+-- the place of a group; none for what is no group of the panel
+abbrev pub place_of : Group → Option ℕ
+place_of group = place_below 32 group

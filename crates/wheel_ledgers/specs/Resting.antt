@@ -1,0 +1,52 @@
+-- The ledgers of all counter groups that a wheel is printed of.
+use Rattle.std.specs.Prelude.{◌≡◌, ℕ, ◌+◌, ◌==◌, ◌||◌, Bool, false, true, List, [], ◌∷◌, ◌++◌, Option, Some, None, Vec, option_and_then}
+use Rattle.std.specs.declared.alloc.Global.{Global}
+use Rattle.explanations.specs.Explanations.{IsExplanation}
+use Rattle.explanations.specs.declared.explanation.Explanation.{Explanation}
+use Rattle.hubs.specs.declared.hub.Hub.{Hub}
+use Rattle.ledgers.specs.Running.{PlacesLine}
+use Rattle.ledgers.specs.declared.found.FoundCycle.{FoundCycle}
+use Rattle.setups.specs.Wiring.{Wiring}
+use Rattle.wheel_ledgers.specs.Places.{place_of}
+use Rattle.wheel_ledgers.specs.Printed.{group_of_way}
+use Rattle.wheel_ledgers.specs.Told.{IsPlaceText}
+use Rattle.wheel_ledgers.specs.Totals.{find_total}
+use Rattle.wheel_ledgers.specs.declared.chart_totals.TitledAccount.{TitledAccount}
+
+-- a place is this one
+abbrev pub is_place : Option ℕ → ℕ → Bool
+is_place None place = false
+is_place (Some own) place = own == place
+
+-- a way begins at an exit of the group of a place
+abbrev pub begins_at : Option (Vec Hub Global) → ℕ → Bool
+begins_at way place = is_place (option_and_then place_of (group_of_way way)) place
+
+-- one of some ways does
+abbrev pub is_printed_of : List (Option (Vec Hub Global)) → ℕ → Bool
+is_printed_of [] place = false
+is_printed_of (way ∷ ways) place = begins_at way place || is_printed_of ways place
+
+-- The texts of the ledgers, one behind the other, of those of the first places at whose groups one of some ways begins.
+pub data AreTexts (wiring : Wiring) (cards : List (List ℕ)) (totals : List TitledAccount) (ends : ℕ) (found : FoundCycle) (wheel : ℕ)
+    (ways : List (Option (Vec Hub Global))) : ℕ → List ℕ → Type 0 where
+  none : AreTexts wiring cards totals ends found wheel ways 0 []
+  more :
+      (place : ℕ) (texts text : List ℕ) → AreTexts wiring cards totals ends found wheel ways place texts
+      → is_printed_of ways place ≡ true → IsPlaceText wiring cards ends found wheel (find_total totals place) place text
+      → AreTexts wiring cards totals ends found wheel ways (place + 1) (texts ++ text)
+  other :
+      (place : ℕ) (texts : List ℕ) → AreTexts wiring cards totals ends found wheel ways place texts → is_printed_of ways place ≡ false
+      → AreTexts wiring cards totals ends found wheel ways (place + 1) texts
+
+-- On a panel, over cards, by the totals of a chart: the text tells the ledgers of all counter groups that are printed on the wheel of the
+-- line at this page and line of it, as the explanation of the wheel has it, before a cycle that placed the line there.
+pub record TellsLedgers (wiring : Wiring) (cards : List (List ℕ)) (totals : List TitledAccount) (ends page line wheel : ℕ)
+    (answer : List ℕ) : Type 0 where
+  pub explanation : Explanation
+  pub explains : IsExplanation wiring cards page line wheel explanation
+  pub found : FoundCycle
+  pub places : PlacesLine wiring cards found
+  pub at_page : found.line.page ≡ page
+  pub at_line : found.line.line ≡ line
+  pub texts : AreTexts wiring cards totals ends found wheel explanation.rows.items 32 answer

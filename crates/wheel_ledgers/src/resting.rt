@@ -1,0 +1,159 @@
+//! The ledgers of all counter groups that a wheel is printed of.
+
+ghost use Rattle.std.specs.Prelude.{◌≡◌, ◌≤◌, ◌<◌, ◌+◌, ◌⊎◌, length, Err, IfOk, OnOk};
+ghost use Rattle.card_code.specs.MostCards.{most_cards};
+ghost use Rattle.explanations.specs.Explanations.{IsExplanation};
+ghost use Rattle.explanations.specs.PlacedInRun.{PrintsNoneAt};
+ghost use Rattle.explanations.specs.declared.refusal.Refusal.TheVariants.{NoSuchLine, NoSuchWheel};
+ghost use Rattle.ledgers.specs.Running.{PlacesLine};
+ghost use Rattle.wheel_ledgers.specs.Resting.{AreTexts, TellsLedgers, begins_at, is_printed_of};
+ghost use Rattle.wheel_ledgers.specs.Totals.{AreAccounts};
+
+use crate::chart_totals::TitledAccount;
+use crate::places::{GROUPS, place_of};
+use crate::printed::group_of_way;
+use crate::telling::{cycle_of, place_text};
+use card_code::Card;
+use explanations::{Explanation, Refusal, explain};
+use hubs::Hub;
+use ledgers::FoundCycle;
+use setups::Setup;
+use std::alloc::{AllocError, Global};
+
+// Whether a way begins at an exit of the group of a place.
+fn begins_at(way: &Option<Vec<Hub>>, place: usize) -> bool
+    ensures { result ≡ begins_at way.now place }
+{
+    let Some(group) = group_of_way(way) else {
+        return false;
+    };
+    match place_of(group) {
+        Some(own) => own == place,
+        None => false,
+    }
+}
+
+// Whether one of some ways begins at an exit of the group of a place.
+fn is_printed_of(ways: &[Option<Vec<Hub>>], place: usize) -> bool
+    ensures { result ≡ is_printed_of ways.now place }
+{
+    for way in ways {
+        if begins_at(way, place) {
+            return true;
+        }
+    }
+    false
+}
+
+// Puts behind a text the ledger of a place if one of the ways to a wheel begins at an exit of its group.
+fn add_ledger(
+    alloc: Global,
+    text: &mut Vec<u8>,
+    setup: &Setup,
+    totals: &[TitledAccount],
+    cards: &[Card],
+    found: FoundCycle,
+    ways: &[Option<Vec<Hub>>],
+    place: usize,
+    wheel: u8,
+    ends: usize,
+) -> Result<(), AllocError>
+    requires few { length cards.now ≤ most_cards }
+    requires accounts { AreAccounts totals.now }
+    requires places { PlacesLine setup.now cards.now found }
+    requires place { place < 32 }
+    requires wheel { (1 ≤ wheel) × (wheel ≤ 120) }
+    requires texts { AreTexts setup.now cards.now totals.now ends found wheel ways.now place text.old.items }
+    ensures { OnOk result (AreTexts setup.now cards.now totals.now ends found wheel ways.now (place + 1) text.new.items) }
+{
+    if !is_printed_of(ways, place) {
+        return Ok(());
+    }
+    let ledger = place_text(alloc, setup, totals, cards, found, place, wheel, ends)?;
+    Ok(text.extend_from_slice(ledger.as_slice())?)
+}
+
+// The ledgers of all places at whose groups ways to a wheel begin, one behind the other.
+fn texts_of(
+    alloc: Global,
+    setup: &Setup,
+    totals: &[TitledAccount],
+    cards: &[Card],
+    found: FoundCycle,
+    ways: &[Option<Vec<Hub>>],
+    wheel: u8,
+    ends: usize,
+) -> Result<Vec<u8>, AllocError>
+    requires few { length cards.now ≤ most_cards }
+    requires accounts { AreAccounts totals.now }
+    requires places { PlacesLine setup.now cards.now found }
+    requires wheel { (1 ≤ wheel) × (wheel ≤ 120) }
+    ensures { IfOk result (λ text. AreTexts setup.now cards.now totals.now ends found wheel ways.now 32 text.items) }
+{
+    let mut text = Vec::new(alloc);
+    for place in 0..GROUPS {
+        add_ledger(
+            alloc, &mut text, setup, totals, cards, found, ways, place, wheel, ends,
+        )?;
+    }
+    Ok(text)
+}
+
+// The ledgers for a wheel, which is explained, of a line, by the totals that are known.
+fn ledgers_of(
+    alloc: Global,
+    setup: &Setup,
+    totals: &[TitledAccount],
+    cards: &[Card],
+    page: u64,
+    line: u32,
+    wheel: u8,
+    told: &Explanation,
+    ends: usize,
+) -> Result<Vec<u8>, Refusal>
+    requires few { length cards.now ≤ most_cards }
+    requires accounts { AreAccounts totals.now }
+    requires wheel { (1 ≤ wheel) × (wheel ≤ 120) }
+    requires explained { IsExplanation setup.now cards.now page line wheel told.now }
+    ensures told { IfOk result (λ text. TellsLedgers setup.now cards.now totals.now ends page line wheel text.items) }
+    ensures there { result ≡ Err NoSuchWheel → ⊥ }
+    ensures no_line { result ≡ Err NoSuchLine → PrintsNoneAt setup.now cards.now page line }
+{
+    let found = cycle_of(alloc, setup, cards, page, line)?;
+    let ways = told.rows.as_slice();
+    match texts_of(alloc, setup, totals, cards, found, ways, wheel, ends) {
+        Ok(text) => Ok(text),
+        Err(_) => Err(Refusal::Memory),
+    }
+}
+
+/// The texts of the ledgers of all counter groups that a wheel of a line is printed of, one behind the other: of each group at one of whose
+/// exits a way to the wheel begins, in the order of the groups on the panel. None of them if no way does. Otherwise as [`tell_ledger`].
+///
+/// Refused with `NoSuchWheel` if the wheel isn't one of 1 to 120, else with `NoSuchLine` if no line stands there, and with `Memory` if
+/// no memory is left.
+///
+/// [`tell_ledger`]: crate::tell_ledger
+pub fn tell_ledgers(
+    alloc: Global,
+    setup: &Setup,
+    totals: &[TitledAccount],
+    cards: &[Card],
+    page: u64,
+    line: u32,
+    wheel: u8,
+    ends: usize,
+) -> Result<Vec<u8>, Refusal>
+    requires few { length cards.now ≤ most_cards }
+    requires accounts { AreAccounts totals.now }
+    ensures told { IfOk result (λ text. TellsLedgers setup.now cards.now totals.now ends page line wheel text.items) }
+    ensures no_wheel { (wheel < 1) ⊎ (120 < wheel) → result ≡ Err NoSuchWheel }
+    ensures wheel { result ≡ Err NoSuchWheel → (wheel < 1) ⊎ (120 < wheel) }
+    ensures no_line { result ≡ Err NoSuchLine → PrintsNoneAt setup.now cards.now page line }
+{
+    if wheel < 1 || 120 < wheel {
+        return Err(Refusal::NoSuchWheel);
+    }
+    let told = explain(alloc, setup, cards, page, line, wheel)?;
+    ledgers_of(alloc, setup, totals, cards, page, line, wheel, &told, ends)
+}
