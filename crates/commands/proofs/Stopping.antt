@@ -1,10 +1,9 @@
 -- Why commands stop, and which status each cause has.
-use Rattle.std.proofs.Common.{◌≡◌, ◌≢◌, ap, sym, ◌∙◌, arith, ℕ, Bool, true, false, List, Result, Ok, Err}
-use Rattle.std.proofs.lemmas.Bool.{false≢true}
+use Rattle.std.proofs.Common.{◌≡◌, ◌≢◌, ap, ◌∙◌, ℕ, List, Result, Ok, Err}
 use Rattle.std.specs.Prelude.{IfErr}
 use Rattle.commands.specs.Refusals.{Refuses, RefusesChart, RefusesReplay, RefusesRun, cards, chart, punches, wires}
 use Rattle.program_io.proofs.Stopping.{deck_refusal, named_status, stops_by_status}
-use Rattle.program_io.specs.Stops.{Stops, deck_unread, memory_wanting, output_unwritten, texts_refused}
+use Rattle.program_io.specs.Stops.{Stops}
 use Rattle.program_io.specs.declared.command.Command.{Command}
 use Rattle.program_io.specs.declared.command.Command.TheVariants as command
 use Rattle.faults.proofs.Statuses.{chart_status, run_status, wiring_status}
@@ -42,23 +41,6 @@ module _ (told unreadable : Fault) (Unprinted : Type 0) where
       stops_by_status told unreadable Unprinted (λ not_memory.
       let met_not_memory : met ≢ fault.Memory = λ is. not_memory (same ∙ is) in
       ap status_of same ∙ refusal_status command text deck met (refuses met_not_memory) met_not_memory)
-
--- whether a file is told of
-abbrev is_file : Fault → Bool
-is_file (fault.File path) = true
-is_file other = false
-
--- what stops a command whatever the deck's fault is, is no file that can't be read
-pub no_file_stops : {path : _} (told : Fault) (Unprinted : Type 0) → Stops told fault.Memory Unprinted → told ≡ fault.File path → ⊥
-no_file_stops told Unprinted (texts_refused three unprinted) is = omega (arith, three, ap status_of is)
-no_file_stops told Unprinted (deck_unread memory unprinted) is = omega (arith, ap status_of memory, ap status_of is)
-no_file_stops told Unprinted (output_unwritten write) is = false≢true (sym (ap is_file write) ∙ ap is_file is)
-no_file_stops told Unprinted (memory_wanting memory) is = omega (arith, ap status_of memory, ap status_of is)
-
-pub no_file : {X : Type 0} (result : Result X Fault) (path : _) (Unprinted Good : Type 0)
-    → IfErr result (λ told. (unreadable : Fault) → Stops told unreadable Unprinted) → IfErr result (λ told. told ≡ fault.File path → Good)
-no_file (Ok _) path Unprinted Good stops = tt
-no_file (Err told) path Unprinted Good stops = λ is. absurd (no_file_stops told Unprinted (stops fault.Memory) is)
 
 -- why a replay stops, and what is known where its deck can't be read
 pub with_wiring : {X : Type 0} (result : Result X Fault) (unreadable : Fault) (Unprinted Good : Type 0)

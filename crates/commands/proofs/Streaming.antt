@@ -1,12 +1,12 @@
 -- What a run that comes card by card prints and tells.
-use Rattle.std.proofs.Common.{◌≡◌, ◌≢◌, ◌∙◌, ◌⊎◌, inl, inr, ap, sym, subst, refl, arith, ℕ, Bool, List, Option, Some, Result, Ok, Err, IfSome}
+use Rattle.std.proofs.Common.{◌≡◌, ◌≢◌, ◌∙◌, ◌⊎◌, ◌≤◌, inl, inr, ap, sym, subst, refl, arith, ℕ, Bool, List, Option, Some, Result, Ok, Err, IfSome}
 use Rattle.std.proofs.KnownBytes.{Appends-kept}
-use Rattle.std.specs.Prelude.{IfErr, MatchResult, OnOk}
+use Rattle.std.specs.Prelude.{IfErr, MatchResult, OnOk, ⊤}
 use Rattle.std.specs.Io.KnownBytes.{Appends, Keeps}
 use Rattle.card_lines.specs.declared.fault.ReadFault.{ReadFault}
 use Rattle.card_lines.specs.declared.fault.ReadFault.TheVariants as read
 use Rattle.commands.proofs.Stopping.{chart_refusal}
-use Rattle.program_io.proofs.Stopping.{named_status, told_of_device, told_of_memory}
+use Rattle.program_io.proofs.Stopping.{named_status, stopped_status, told_of_device, told_of_memory}
 use Rattle.commands.specs.Answers.{CompilesAs, HasWiring}
 use Rattle.program_io.specs.Commands.{word_of}
 use Rattle.program_io.specs.Stops.{Stops, deck_unread, memory_wanting, output_unwritten, texts_refused}
@@ -23,7 +23,7 @@ use Rattle.faults.specs.declared.deck.RunFault.{RunFault}
 use Rattle.faults.specs.declared.deck.RunFault.TheVariants as deck
 use Rattle.faults.specs.declared.fault.Fault.{Fault}
 use Rattle.faults.specs.declared.fault.Fault.TheVariants as fault
-use Rattle.compile407.specs.Below.streamed_runs.Runs.{HasRun, StopsShort}
+use Rattle.compile407.specs.Below.streamed_runs.Runs.{HasRun, RunsToEnd, StopsShort}
 use Rattle.compile407.specs.Below.streamed_runs.declared.fault.StreamCause.{StreamCause}
 use Rattle.compile407.specs.Below.streamed_runs.declared.fault.StreamCause.TheVariants as cause
 use Rattle.compile407.specs.Below.streamed_runs.declared.fault.StreamFault.{StreamFault}
@@ -81,20 +81,6 @@ ends_by_chart text reader old new met told Unprinted refuses same unprinted = by
     by (inl is) = chart_unread (same ∙ is) unprinted
     by (inr not_memory) = chart_refused (subst (RefusesChart text) (sym same) (refuses not_memory)) unprinted
 
--- what holds for any text that compiles so holds for this one
-pub whole_of_text : {X E : Type 0} (result : Result X E) (text : List ℕ) (compiled : Compilation) (reader old new : Option (List ℕ))
-    → CompilesAs text compiled → OnOk result ((any : List ℕ) → CompilesAs any compiled → HasRunWhole any reader old new)
-    → OnOk result (HasRunWhole text reader old new)
-whole_of_text (Ok _) text compiled reader old new compiles of_any = of_any text compiles
-whole_of_text (Err _) text compiled reader old new compiles of_any = tt
-
-pub ends_of_text : {X : Type 0} (result : Result X Fault) (text : List ℕ) (compiled : Compilation) (reader old new : Option (List ℕ))
-    (Unprinted : Type 0) → CompilesAs text compiled
-    → IfErr result (λ told. (any : List ℕ) → CompilesAs any compiled → StopsInRun any reader old new told)
-    → IfErr result (λ told. EndsRun text reader old new told Unprinted)
-ends_of_text (Ok _) text compiled reader old new Unprinted compiles of_any = tt
-ends_of_text (Err told) text compiled reader old new Unprinted compiles of_any = run_stopped (of_any text compiles)
-
 -- what can be told of a run
 data Tells (told : Fault) : Type 0 where
   refused : status_of told ≡ 3 → Tells told
@@ -132,7 +118,7 @@ ends_tell text reader old new told Unprinted (chart_unread is unprinted) = memor
 ends_tell text reader old new told Unprinted (run_stopped stops) = cause_tells stops.fault.cause told stops.named
 
 -- a run whose texts are refused
-refused_run : (text : List ℕ) (reader old new : Option (List ℕ)) (told : Fault) (Unprinted : Type 0)
+pub refused_run : (text : List ℕ) (reader old new : Option (List ℕ)) (told : Fault) (Unprinted : Type 0)
     → EndsRun text reader old new told Unprinted → status_of told ≡ 3 → HasRefused command.Run text reader old new told Unprinted
 refused_run text reader old new told Unprinted (chart_refused refuses unprinted) three = inl (refuses, unprinted)
 refused_run text reader old new told Unprinted (chart_unread is unprinted) three = absurd (omega (arith, ap status_of is, three))
@@ -174,50 +160,71 @@ module _ (text : List ℕ) (reader old new : Option (List ℕ)) (told unreadable
   line_of : (met : Fault) → told ≡ met → IsTold met is_told before after
   line_of met is = subst (λ (of : Fault). IsTold of is_told before after) is line
 
-  abbrev Device : List ℕ → Type 0
-  Device word = (Unprinted × (word ≡ word_of command.Replay) × HasWiring text × IsTold unreadable is_told before after)
+  -- a run: a card that was not read, or the output
+  pub run_device : EndsRun text reader old new told Unprinted → status ≡ 4
+      → IsTold fault.Write is_told before after ⊎ ((card : ℕ) × IsTold (fault.Unread card) is_told before after)
+  run_device ends four = by (ends_tell text reader old new told Unprinted ends)
+    where
+      by : Tells told → IsTold fault.Write is_told before after ⊎ ((card : ℕ) × IsTold (fault.Unread card) is_told before after)
+      by (refused three) = absurd (omega (arith, is_status, three, four))
+      by (unread card is) = inr (card, line_of (fault.Unread card) is)
+      by (unwritten is) = inl (line_of fault.Write is)
+      by (memory is) = absurd (omega (arith, is_status, ap status_of is, four))
+
+  pub run_memory : EndsRun text reader old new told Unprinted → status ≡ 5 → IsTold fault.Memory is_told before after
+  run_memory ends five = by (ends_tell text reader old new told Unprinted ends)
+    where
+      by : Tells told → IsTold fault.Memory is_told before after
+      by (refused three) = absurd (omega (arith, is_status, three, five))
+      by (unread card is) = absurd (omega (arith, is_status, ap status_of is, five))
+      by (unwritten is) = absurd (omega (arith, is_status, ap status_of is, five))
+      by (memory is) = line_of fault.Memory is
+
+  pub run_ends_status : EndsRun text reader old new told Unprinted → 3 ≤ status × status ≤ 5
+  run_ends_status ends = by (ends_tell text reader old new told Unprinted ends)
+    where
+      by : Tells told → 3 ≤ status × status ≤ 5
+      by (refused three) = (omega (arith, is_status, three), omega (arith, is_status, three))
+      by (unread card is) = (omega (arith, is_status, ap status_of is), omega (arith, is_status, ap status_of is))
+      by (unwritten is) = (omega (arith, is_status, ap status_of is), omega (arith, is_status, ap status_of is))
+      by (memory is) = (omega (arith, is_status, ap status_of is), omega (arith, is_status, ap status_of is))
+
+  abbrev Device : Command → Type 0
+  Device known = (Unprinted × (known ≡ command.Replay) × HasWiring text × IsTold unreadable is_told before after)
       ⊎ IsTold fault.Write is_told before after
-      ⊎ ((word ≡ word_of command.Run) × ((card : ℕ) × IsTold (fault.Unread card) is_told before after))
-
-  run_device : (word : List ℕ) → word ≡ word_of command.Run → status ≡ 4 → Tells told → Device word
-  run_device word is_word four (refused three) = absurd (omega (arith, is_status, three, four))
-  run_device word is_word four (unread card is) = inr (inr (is_word, (card, line_of (fault.Unread card) is)))
-  run_device word is_word four (unwritten is) = inr (inl (line_of fault.Write is))
-  run_device word is_word four (memory is) = absurd (omega (arith, is_status, ap status_of is, four))
-
-  run_memory : status ≡ 5 → Tells told → IsTold fault.Memory is_told before after
-  run_memory five (refused three) = absurd (omega (arith, is_status, three, five))
-  run_memory five (unread card is) = absurd (omega (arith, is_status, ap status_of is, five))
-  run_memory five (unwritten is) = absurd (omega (arith, is_status, ap status_of is, five))
-  run_memory five (memory is) = line_of fault.Memory is
+      ⊎ ((known ≡ command.Run) × ((card : ℕ) × IsTold (fault.Unread card) is_told before after))
 
   -- of a command that reads no deck the output is told
-  output_device : (word : List ℕ) → status ≡ 4 → Stops told fault.Write Unprinted → Device word
-  output_device word four stops = by (told_of_device told fault.Write Unprinted status is_told before after stops is_status line refl four)
+  output_device : (known : Command) → status ≡ 4 → Stops told fault.Write Unprinted → Device known
+  output_device known four stops =
+      by (told_of_device told fault.Write Unprinted status is_told before after stops is_status line refl ⊤ (λ _. tt) four)
     where
-      by : (Unprinted × IsTold fault.Write is_told before after) ⊎ IsTold fault.Write is_told before after → Device word
-      by (inl both) = inr (inl both.1)
+      by : (Unprinted × ⊤ × IsTold fault.Write is_told before after) ⊎ IsTold fault.Write is_told before after → Device known
+      by (inl both) = inr (inl both.2)
       by (inr told_of_it) = inr (inl told_of_it)
 
   -- of a replay its deck too, where the wiring chart reads
-  replay_device : (word : List ℕ) → word ≡ word_of command.Replay → status ≡ 4 → Stops told unreadable Unprinted
-      → (told ≡ unreadable → HasWiring text) → Device word
-  replay_device word is_word four (texts_refused three unprinted) reads = absurd (omega (arith, is_status, three, four))
-  replay_device word is_word four (deck_unread is unprinted) reads = inl (unprinted, is_word, reads is, line_of unreadable is)
-  replay_device word is_word four (output_unwritten is) reads = inr (inl (line_of fault.Write is))
-  replay_device word is_word four (memory_wanting is) reads = absurd (omega (arith, is_status, ap status_of is, four))
+  replay_device : status ≡ 4 → Stops told unreadable Unprinted → (told ≡ unreadable → HasWiring text) → Device command.Replay
+  replay_device four (texts_refused three unprinted) reads = absurd (omega (arith, is_status, three, four))
+  replay_device four (deck_unread is unprinted) reads = inl (unprinted, refl, reads is, line_of unreadable is)
+  replay_device four (output_unwritten is) reads = inr (inl (line_of fault.Write is))
+  replay_device four (memory_wanting is) reads = absurd (omega (arith, is_status, ap status_of is, four))
 
-  pub told_of_device_by : (known : Command) (word : List ℕ) → word ≡ word_of known
-      → HasFailed known text reader old new told unreadable Unprinted → status ≡ 4 → Device word
-  told_of_device_by command.Run word is_word has four = run_device word is_word four (ends_tell text reader old new told Unprinted has)
-  told_of_device_by command.Check word is_word has four = output_device word four has
-  told_of_device_by command.Wire word is_word has four = output_device word four has
-  told_of_device_by command.Replay word is_word has four = replay_device word is_word four has.0 has.1
-  told_of_device_by command.Upgrade word is_word has four = output_device word four has
+  of_run_device : IsTold fault.Write is_told before after ⊎ ((card : ℕ) × IsTold (fault.Unread card) is_told before after)
+      → Device command.Run
+  of_run_device (inl written) = inr (inl written)
+  of_run_device (inr unread_card) = inr (inr (refl, unread_card))
+
+  pub told_of_device_by : (known : Command) → HasFailed known text reader old new told unreadable Unprinted → status ≡ 4 → Device known
+  told_of_device_by command.Run has four = of_run_device (run_device has four)
+  told_of_device_by command.Check has four = output_device command.Check four has
+  told_of_device_by command.Wire has four = output_device command.Wire four has
+  told_of_device_by command.Replay has four = replay_device four has.0 has.1
+  told_of_device_by command.Upgrade has four = output_device command.Upgrade four has
 
   pub told_of_memory_by : (known : Command) → HasFailed known text reader old new told unreadable Unprinted → status ≡ 5
       → IsTold fault.Memory is_told before after
-  told_of_memory_by command.Run has five = run_memory five (ends_tell text reader old new told Unprinted has)
+  told_of_memory_by command.Run has five = run_memory has five
   told_of_memory_by command.Check has five =
       told_of_memory told fault.Write Unprinted status is_told before after has is_status line refl five
   told_of_memory_by command.Wire has five =
@@ -226,6 +233,22 @@ module _ (text : List ℕ) (reader old new : Option (List ℕ)) (told unreadable
       told_of_memory told unreadable Unprinted status is_told before after has.0 is_status line path five
   told_of_memory_by command.Upgrade has five =
       told_of_memory told fault.Write Unprinted status is_told before after has is_status line refl five
+
+  pub told_status_by : (known : Command) → HasFailed known text reader old new told unreadable Unprinted → 3 ≤ status × status ≤ 5
+  told_status_by command.Run has = run_ends_status has
+  told_status_by command.Check has = stopped_status told fault.Write Unprinted status is_told before after has is_status line refl
+  told_status_by command.Wire has = stopped_status told fault.Write Unprinted status is_told before after has is_status line refl
+  told_status_by command.Replay has = stopped_status told unreadable Unprinted status is_told before after has.0 is_status line path
+  told_status_by command.Upgrade has = stopped_status told fault.Write Unprinted status is_told before after has is_status line refl
+
+-- what is told of a device by the word of a command
+pub device_by_word : {Unprinted Wired Written : Type 0} {Unread : ℕ → Type 0} {Read : Type 0} (word : List ℕ) (known : Command)
+    → word ≡ word_of known
+    → (Unprinted × (known ≡ command.Replay) × Wired × Read) ⊎ Written ⊎ ((known ≡ command.Run) × ((card : ℕ) × Unread card))
+    → (Unprinted × (word ≡ word_of command.Replay) × Wired × Read) ⊎ Written ⊎ ((word ≡ word_of command.Run) × ((card : ℕ) × Unread card))
+device_by_word word known is (inl replay) = inl (replay.0, is ∙ ap word_of replay.1, replay.2, replay.3)
+device_by_word word known is (inr (inl written)) = inr (inl written)
+device_by_word word known is (inr (inr run)) = inr (inr (is ∙ ap word_of run.0, run.1))
 
 -- what a call that is told for both outcomes has done
 pub of_either_ok : {X E : Type 0} (Ends : X → Type 0) (Stops : E → Type 0) (result : Result X E) (value : X) → result ≡ Ok value
@@ -236,6 +259,13 @@ of_either_ok {X = X} {E = E} Ends Stops result value is holds = subst (λ (answe
 pub of_either_err : {X E : Type 0} (Ends : X → Type 0) (Stops : E → Type 0) (result : Result X E) (error : E) → result ≡ Err error
     → MatchResult result Ends Stops → Stops error
 of_either_err {X = X} {E = E} Ends Stops result error is holds = subst (λ (answer : Result X E). MatchResult answer Ends Stops) is holds
+
+-- what a run by a chart has done is done by the chart that it is
+pub run_by : {chart : _} (compiled : Compilation) (result : Result ℕ StreamFault) (reader left lent held : Option (List ℕ))
+    → chart ≡ compiled.chart → MatchResult result (RunsToEnd chart reader left lent held) (StopsShort chart reader left lent held)
+    → MatchResult result (RunsToEnd compiled.chart reader left lent held) (StopsShort compiled.chart reader left lent held)
+run_by compiled result reader left lent held is =
+    subst (λ of. MatchResult result (RunsToEnd of reader left lent held) (StopsShort of reader left lent held)) is
 
 -- A writer that was lent shows, once it is back, what its lender left of it: what was appended while it was lent stands after what it held.
 pub handed_back : {W N : Type 0} (contents : W → Option (List ℕ)) (written : List ℕ) {name last : N} {old lent left now : W}

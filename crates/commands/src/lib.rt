@@ -1,11 +1,12 @@
 //! The program's commands on texts, over any reader and writers, without a word of a command line.
 //!
-//! [`serve`] does one command: it checks a planning chart, wires it or runs a deck through it, replays a deck through a wiring chart, or
-//! prints a wiring chart in the second version of its language.
+//! [`run_to_end`] runs a deck through a planning chart. [`serve_command`] does one command: it checks a planning chart, wires it or runs a
+//! deck through it, replays a deck through a wiring chart, or prints a wiring chart in the second version of its language; [`serve`] does
+//! the one that a word names.
 //! [`replay_by_orders`] replays a deck with the units served by orders, and tells what was counted.
 //! [`chart_and_deck`] divides a text that has both, as standard input does. Why a command was not carried out is a [`Fault`] of the
-//! crate `faults`, whose [`tell`] writes it on one line; its status is the program's. [`serve_to_end`] answers beside the status whether
-//! that line was written whole, so its contract says which line that is. The crate stands on the compiler's calls, the machine
+//! crate `faults`, whose [`tell`] writes it on one line; its status is the program's. The calls that do a command to its end answer beside the
+//! status whether that line was written whole, so their contracts say which line that is. The crate stands on the compiler's calls, the machine
 //! and wiring charts, and on `program_io` for what is read and written. The program above it reads the words and opens the files.
 #![tactic(auto)]
 
@@ -24,5 +25,5 @@ pub use faults::{Ending, Fault, tell, unprinted, write_line};
 pub use laws::answered_texts_are_not_refused;
 pub use program_io::{Command, chart_and_deck, read_whole};
 pub use replaying::print_replay;
-pub use running::print_run;
-pub use serving::{serve, serve_to_end};
+pub use running::{print_run, run_to_end};
+pub use serving::{serve, serve_command, serve_to_end};

@@ -1,17 +1,20 @@
 //! Runs, printed card by card.
 
-ghost use Rattle.std.specs.Prelude.{◌≡◌, ◌⊎◌, ℕ, List, IfErr, OnOk};
-ghost use Rattle.commands.specs.Answers.{CompilesAs};
+ghost use Rattle.std.specs.Prelude.{◌≡◌, ◌≤◌, ◌⊎◌, ℕ, IfErr, OnOk};
+ghost use Rattle.commands.specs.Refusals.{RefusesChart};
 ghost use Rattle.commands.specs.Streamed.{EndsRun, HasRunWhole, IsToldOf, StopsInRun, read_told};
+ghost use Rattle.faults.specs.Lines.{IsTold};
+ghost use Rattle.faults.specs.Status.{status_of};
 
 use crate::answers::compilation;
 use card_lines::ReadFault;
-use compile407::{Compiled, RunFault, StreamCause, Streamed, stream_deck};
+use compile407::RunFault;
 use devices::{FromRead, Sink};
-use faults::Fault;
+use faults::{Ending, Fault, tell};
 use program_io::Lent;
 use std::alloc::Global;
 use std::io::{Read, Write};
+use streamed_runs::{StreamCause, Streamed, stream_deck};
 
 // What is told of a card that was not read.
 fn told_of_reading<'a>(fault: ReadFault) -> Fault<'a>
@@ -43,39 +46,6 @@ fn told_of<'a>(cause: StreamCause, unwritten: Fault<'a>) -> Fault<'a>
     }
 }
 
-// Prints the pages of a deck for a compiled chart, whatever text compiles to it, card by card.
-fn run_deck<'a, R: Read + Drop, W: Write>(
-    alloc: Global,
-    compiled: &Compiled,
-    deck: R,
-    out: &mut W,
-) -> Result<(), Fault<'a>>
-    ensures whole { OnOk result ((text : List ℕ) → CompilesAs text compiled.now
-        → HasRunWhole text (R.remaining deck) (W.contents out.old) (W.contents out.new)) }
-    ensures stopped { IfErr result (λ told. (text : List ℕ) → CompilesAs text compiled.now
-        → StopsInRun text (R.remaining deck) (W.contents out.old) (W.contents out.new) told) }
-{
-    let Streamed { mut sink, run, .. } = stream_deck(
-        alloc,
-        compiled,
-        FromRead::new(deck),
-        Lent::new(out),
-    );
-    let unwritten = sink.told();
-    match run {
-        Ok(_) => {
-            let _out = sink.into_writer();
-            Ok(())
-        }
-        Err(fault) => {
-            // What was written is handed on; where that fails too, the first fault is told.
-            let _ = sink.flush();
-            let _out = sink.into_writer();
-            Err(told_of(fault.cause, unwritten))
-        }
-    }
-}
-
 /// Prints the pages of a planning chart and a deck, card by card. The chart is compiled before any byte of the deck is read.
 ///
 /// # Errors
@@ -95,5 +65,60 @@ pub fn print_run<'a, R: Read + Drop, W: Write>(
         EndsRun chart.now (R.remaining deck) (W.contents out.old) (W.contents out.new) told (out.new ≡ out.old)) }
 {
     let compiled = compilation(alloc, chart)?;
-    run_deck(alloc, &compiled, deck, out)
+    let Streamed { mut sink, run, .. } = stream_deck(
+        alloc,
+        compiled.chart(),
+        compiled.setup(),
+        FromRead::new(deck),
+        Lent::new(out),
+    );
+    let unwritten = sink.told();
+    match run {
+        Ok(_) => {
+            let _out = sink.into_writer();
+            Ok(())
+        }
+        Err(fault) => {
+            // What was written is handed on; where that fails too, the first fault is told.
+            let _ = sink.flush();
+            let _out = sink.into_writer();
+            Err(told_of(fault.cause, unwritten))
+        }
+    }
+}
+
+/// Runs a deck through a planning chart, and tells on one line of `faults` why the run stopped.
+///
+/// The chart compiles before any byte of the deck is read, and the pages are printed card by card. The statuses are 0 done, and then nothing
+/// is told, 3 refused input, 4 file fault, 5 memory. If the chart is refused, nothing is printed. A fault of a card, of a total or of the
+/// reader leaves the lines before those of a card printed, and no byte more. If the output can't be written or memory runs out, a part of
+/// the pages may have been.
+pub fn run_to_end<R: Read + Drop, W: Write, V: Write>(
+    alloc: Global,
+    chart: &[u8],
+    deck: R,
+    out: &mut W,
+    faults: &mut V,
+) -> Ending
+    ensures done { result.status ≡ 0 → HasRunWhole chart.now (R.remaining deck) (W.contents out.old) (W.contents out.new)
+        × (faults.new ≡ faults.old) }
+    ensures refused { result.status ≡ 3 → (told : Fault)
+        × ((RefusesChart chart.now told × (out.new ≡ out.old))
+        ⊎ StopsInRun chart.now (R.remaining deck) (W.contents out.old) (W.contents out.new) told)
+        × IsTold told result.is_told (V.contents faults.old) (V.contents faults.new) }
+    ensures device { result.status ≡ 4 → IsTold Fault.Write result.is_told (V.contents faults.old) (V.contents faults.new)
+        ⊎ ((card : ℕ) × IsTold (Fault.Unread card) result.is_told (V.contents faults.old) (V.contents faults.new)) }
+    ensures memory { result.status ≡ 5 → IsTold Fault.Memory result.is_told (V.contents faults.old) (V.contents faults.new) }
+    ensures stopped { 3 ≤ result.status → (told : Fault) × (result.status ≡ status_of told)
+        × EndsRun chart.now (R.remaining deck) (W.contents out.old) (W.contents out.new) told (out.new ≡ out.old)
+        × IsTold told result.is_told (V.contents faults.old) (V.contents faults.new) }
+    ensures statuses { (result.status ≡ 0) ⊎ (3 ≤ result.status × result.status ≤ 5) }
+{
+    match print_run(alloc, chart, deck, out) {
+        Ok(()) => Ending {
+            status: 0,
+            is_told: true,
+        },
+        Err(fault) => tell(&fault, faults),
+    }
 }

@@ -103,15 +103,51 @@ fn carry_out<'a, R: Read + Drop, W: Write>(
 
 /// Does one command, and tells on one line of `faults` why it was not carried out.
 ///
-/// The command is `check`, which compiles the chart `text` and prints `ok`, `wire`, which prints its wiring chart, `run`,
-/// which prints the pages of the deck, `replay`, which prints the pages that the machine wired as the wiring chart `text` says
-/// prints of the deck, whatever is on its cards, or `upgrade`, which prints the wiring chart in version 2. By any other word nothing is
-/// read and nothing printed. `path` names the deck in what `replay` tells of one that can't be read, after a fault of the wiring chart.
-/// The statuses are 0 done, and then nothing is told, 2 no such command, 3 refused input, 4 file fault, 5 memory.
+/// The command is `Check`, which compiles the chart `text` and prints `ok`, `Wire`, which prints its wiring chart, `Run`, which does as
+/// [`crate::run_to_end`] says, `Replay`, which prints the pages that the machine wired as the wiring chart `text` says prints of the deck,
+/// whatever is on its cards, or `Upgrade`, which prints the wiring chart in version 2. `path` names the deck in what `Replay` tells of one
+/// that can't be read, after a fault of the wiring chart. The statuses are 0 done, and then nothing is told, 3 refused input, 4 file
+/// fault, 5 memory.
 ///
-/// `run` reads and prints card by card, after the chart has compiled. A fault of a card, of a total or of the reader then leaves the lines
-/// before those of a card printed, and no byte more. The other commands print nothing by status 3, nor where the deck can't be read; by
-/// status 2 nothing is printed either. Where the output can't be written or memory runs out, a part of the answer may have been.
+/// Nothing is printed by status 3, but by a run whose chart compiles, nor if the deck of a replay can't be read. If the output can't be
+/// written or memory runs out, a part of the answer may have been.
+pub fn serve_command<R: Read + Drop, W: Write, V: Write>(
+    alloc: Global,
+    command: Command,
+    text: &[u8],
+    path: &str,
+    deck: R,
+    out: &mut W,
+    faults: &mut V,
+) -> Ending
+    ensures done { result.status ≡ 0 → HasServed command text.now (R.remaining deck) (W.contents out.old) (W.contents out.new)
+        × (faults.new ≡ faults.old) }
+    ensures refused { result.status ≡ 3 → (told : Fault)
+        × HasRefused command text.now (R.remaining deck) (W.contents out.old) (W.contents out.new) told (out.new ≡ out.old)
+        × IsTold told result.is_told (V.contents faults.old) (V.contents faults.new) }
+    ensures device { result.status ≡ 4
+        → ((out.new ≡ out.old) × (command ≡ Command.Replay) × HasWiring text.now
+        × IsTold (Fault.File path.entry) result.is_told (V.contents faults.old) (V.contents faults.new))
+        ⊎ IsTold Fault.Write result.is_told (V.contents faults.old) (V.contents faults.new)
+        ⊎ ((command ≡ Command.Run)
+        × ((card : ℕ) × IsTold (Fault.Unread card) result.is_told (V.contents faults.old) (V.contents faults.new))) }
+    ensures memory { result.status ≡ 5 → IsTold Fault.Memory result.is_told (V.contents faults.old) (V.contents faults.new) }
+    ensures failed { 3 ≤ result.status → (told : Fault) × (result.status ≡ status_of told)
+        × HasFailed command text.now (R.remaining deck) (W.contents out.old) (W.contents out.new) told (Fault.File path.entry) (out.new ≡ out.old)
+        × IsTold told result.is_told (V.contents faults.old) (V.contents faults.new) }
+    ensures statuses { (result.status ≡ 0) ⊎ (3 ≤ result.status × result.status ≤ 5) }
+{
+    match carry_out(alloc, command, text, path, deck, out) {
+        Ok(()) => Ending {
+            status: 0,
+            is_told: true,
+        },
+        Err(fault) => tell(&fault, faults),
+    }
+}
+
+/// Does the command of a word as [`serve_command`] does. By a word that is no command nothing is read and nothing printed, and the status is
+/// 2.
 pub fn serve_to_end<R: Read + Drop, W: Write, V: Write>(
     alloc: Global,
     command: &str,
@@ -145,13 +181,7 @@ pub fn serve_to_end<R: Read + Drop, W: Write, V: Write>(
     let Some(known) = Command::named(command) else {
         return tell(&Fault::Unknown { word: command }, faults);
     };
-    match carry_out(alloc, known, text, path, deck, out) {
-        Ok(()) => Ending {
-            status: 0,
-            is_told: true,
-        },
-        Err(fault) => tell(&fault, faults),
-    }
+    serve_command(alloc, known, text, path, deck, out, faults)
 }
 
 /// Does one command as [`serve_to_end`] does, and answers the status alone.

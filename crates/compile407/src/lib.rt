@@ -24,5 +24,5 @@ pub use laws::{
 };
 pub use misfits::Misfit;
 pub use running::{first_misfit, run};
-pub use streamed_runs::{StreamCause, StreamFault, Streamed};
-pub use streaming::{run_stream, stream_deck};
+pub use streamed_runs::{StreamCause, StreamFault};
+pub use streaming::run_stream;

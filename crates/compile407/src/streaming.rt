@@ -8,7 +8,7 @@ ghost use Rattle.streamed_runs.specs.declared.fault.StreamCause.TheVariants as c
 use crate::compiled::Compiled;
 use devices::{Sink, Source};
 use std::alloc::Global;
-use streamed_runs::{StreamFault, Streamed};
+use streamed_runs::StreamFault;
 
 /// Runs a deck through the machine, wired as compiled: its cards come one by one from the source, and the pages of its report go to the
 /// sink. Answers how many cards there were; then no byte of the source is left, exactly the report was written, and the sink was flushed.
@@ -44,27 +44,4 @@ pub fn run_stream<S: Source, W: Sink>(
     let chart = compiled.chart();
     let setup = compiled.setup();
     streamed_runs::run_stream(alloc, chart, setup, source, sink)
-}
-
-/// Runs a deck as [`run_stream`] does, over a source and a sink of its own, and hands both back, also where one has failed.
-///
-/// The fault is the one that `run_stream` tells.
-pub fn stream_deck<S: Source + Drop, W: Sink + Drop>(
-    alloc: Global,
-    compiled: &Compiled,
-    source: S,
-    sink: W,
-) -> Streamed<S, W>
-    ensures run { MatchResult result.run
-        (RunsToEnd compiled.now.chart (S.left source) (S.left result.source) (W.held sink) (W.held result.sink))
-        (StopsShort compiled.now.chart (S.left source) (S.left result.source) (W.held sink) (W.held result.sink)) }
-    ensures flushed { OnOk result.run (W.is_flushed result.sink ≡ true) }
-    ensures read { IfErr result.run (λ fault. (line : ℕ) → fault.cause ≡ cause.Card (read.Read line) → S.has_failed result.source ≡ true) }
-    ensures write { IfErr result.run (λ fault. fault.cause ≡ cause.Write → W.has_failed result.sink ≡ true) }
-    ensures same_source { S.borrow result.source ≡ S.borrow source }
-    ensures same_sink { W.borrow result.sink ≡ W.borrow sink }
-{
-    let chart = compiled.chart();
-    let setup = compiled.setup();
-    streamed_runs::stream_deck(alloc, chart, setup, source, sink)
 }

@@ -3,13 +3,13 @@
 use Rattle.std.specs.Prelude.{◌≡◌, ℕ, List, Option, IfSome}
 use Rattle.std.specs.Io.KnownBytes.{Appends}
 use Rattle.faults.specs.declared.fault.Fault.{Fault}
-use Rattle.faults.specs.declared.fault.Fault.TheVariants as fault
 use Rattle.panel_guides.specs.Explained.{IsExplained, IsUnexplained}
 use Rattle.panel_guides.specs.Panels.{HasPanel}
 use Rattle.panel_guides.specs.Unexplained.{unexplained_status}
 use Rattle.panel_guides.specs.declared.place.Place.{Place}
 use Rattle.panel_guides.specs.declared.unexplained.Unexplained.{Unexplained}
 use Rattle.panel_guides.specs.declared.unexplained.Unexplained.TheVariants as why
+use Rattle.program_io.specs.Stops.{StopsWith}
 
 -- the explanation of the run over the deck that was read was written after what was there
 pub record PrintsExplanation (text : List ℕ) (deck : Option (List ℕ)) (place : Place) (old new : Option (List ℕ)) : Type 0 where
@@ -27,10 +27,7 @@ pub record LeavesUnexplained (text : List ℕ) (deck : Option (List ℕ)) (place
 
 -- Why no explanation was printed: the texts are refused or there is no such place, or the deck can't be read, and nothing was printed; or
 -- the output can't be written, or memory ran out, and a part of the explanation may have been printed.
-pub data StopsExplanation (text : List ℕ) (deck : Option (List ℕ)) (place : Place) (told : Unexplained) (unreadable : Fault)
-    (Unprinted : Type 0) : Type 0 where
-  refused : unexplained_status told ≡ 3 → LeavesUnexplained text deck place told → Unprinted
-      → StopsExplanation text deck place told unreadable Unprinted
-  unread : told ≡ why.Failed unreadable → HasPanel text → Unprinted → StopsExplanation text deck place told unreadable Unprinted
-  unwritten : told ≡ why.Failed fault.Write → StopsExplanation text deck place told unreadable Unprinted
-  memory_wanting : told ≡ why.Failed fault.Memory → StopsExplanation text deck place told unreadable Unprinted
+abbrev pub StopsExplanation : (text : List ℕ) (deck : Option (List ℕ)) (place : Place) (told : Unexplained) (unreadable : Fault)
+    (Unprinted : Type 0) → Type 0
+StopsExplanation text deck place told unreadable Unprinted =
+    StopsWith unexplained_status why.Failed told unreadable (LeavesUnexplained text deck place told) (HasPanel text) Unprinted

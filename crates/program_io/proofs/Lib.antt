@@ -1,3 +1,4 @@
 mod Division
 pub mod Refusing
 pub mod Stopping
+pub mod StoppingWith

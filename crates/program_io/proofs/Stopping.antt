@@ -1,5 +1,6 @@
 -- Why commands stop, and which status each cause has.
-use Rattle.std.proofs.Common.{◌≡◌, ◌≢◌, ◌⊎◌, inl, inr, ap, ◌∙◌, subst, arith, ℕ, Bool, List, Option, Result, Ok, Err}
+use Rattle.std.proofs.Common.{◌≡◌, ◌≢◌, ◌⊎◌, ◌≤◌, inl, inr, ap, ◌∙◌, subst, sym, arith, ℕ, Bool, true, false, List, Option, Result, Ok, Err}
+use Rattle.std.proofs.lemmas.Bool.{false≢true}
 use Rattle.std.specs.Prelude.{IfErr}
 use Rattle.faults.proofs.Statuses.{deck_status, memory_or_not, wiring_status}
 use Rattle.faults.specs.Lines.{IsTold}
@@ -57,27 +58,73 @@ pub stops_for_deck : {X : Type 0} (result : Result X Fault) (unreadable : Fault)
 stops_for_deck (Ok _) unreadable Unprinted stops = tt
 stops_for_deck (Err _) unreadable Unprinted stops = stops unreadable
 
+-- whether a file is told of
+abbrev is_file : Fault → Bool
+is_file (fault.File path) = true
+is_file other = false
+
+-- what stops a command whatever the deck's fault is, is no file that can't be read
+pub no_file_stops : {path : _} (told : Fault) (Unprinted : Type 0) → Stops told fault.Memory Unprinted → told ≡ fault.File path → ⊥
+no_file_stops told Unprinted (texts_refused three unprinted) is = omega (arith, three, ap status_of is)
+no_file_stops told Unprinted (deck_unread memory unprinted) is = omega (arith, ap status_of memory, ap status_of is)
+no_file_stops told Unprinted (output_unwritten write) is = false≢true (sym (ap is_file write) ∙ ap is_file is)
+no_file_stops told Unprinted (memory_wanting memory) is = omega (arith, ap status_of memory, ap status_of is)
+
+pub no_file : {X : Type 0} (result : Result X Fault) (path : _) (Unprinted Good : Type 0)
+    → IfErr result (λ told. (unreadable : Fault) → Stops told unreadable Unprinted) → IfErr result (λ told. told ≡ fault.File path → Good)
+no_file (Ok _) path Unprinted Good stops = tt
+no_file (Err told) path Unprinted Good stops = λ is. absurd (no_file_stops told Unprinted (stops fault.Memory) is)
+
+-- what is refused, but for want of memory, has the status of refused input
+module _ (Refuses : Fault → Type 0) (three_of : (met : Fault) → Refuses met → met ≢ fault.Memory → status_of met ≡ 3) (met told : Fault)
+    (refuses : met ≢ fault.Memory → Refuses met) (same : told ≡ met) where
+  -- it is handed on as it was met
+  pub refused_on : status_of told ≡ 3 → Refuses told
+  refused_on three =
+      subst Refuses (sym same)
+      (refuses (λ is.
+      let five : status_of met ≡ 5 = ap status_of is in
+      omega (arith, sym (ap status_of same) ∙ three, five)))
+
+  -- it stops a command, with nothing printed
+  pub refusal_stops : (unreadable : Fault) (Unprinted : Type 0) → Unprinted → Stops told unreadable Unprinted
+  refusal_stops unreadable Unprinted =
+      stops_by_status told unreadable Unprinted (λ not_memory.
+      let met_not_memory : met ≢ fault.Memory = λ is. not_memory (same ∙ is) in
+      ap status_of same ∙ three_of met (refuses met_not_memory) met_not_memory)
+
 -- which line is told by the status of what stopped a command
 module _ (told unreadable : Fault) (Unprinted : Type 0) (status : ℕ) (is_told : Bool) (old new : Option (List ℕ))
-    (stops : Stops told unreadable Unprinted) (is_status : status ≡ status_of told) (line : IsTold told is_told old new) where
+    (stops : Stops told unreadable Unprinted) (is_status : status ≡ status_of told) (line : IsTold told is_told old new)
+    (path : status_of unreadable ≡ 4) where
   line_of_cause : (cause : Fault) → told ≡ cause → IsTold cause is_told old new
   line_of_cause cause is = subst (λ (of : Fault). IsTold of is_told old new) is line
 
-  pub told_of_device : status_of unreadable ≡ 4 → status ≡ 4
-      → (Unprinted × IsTold unreadable is_told old new) ⊎ IsTold fault.Write is_told old new
-  told_of_device path four = by stops
+  -- of a deck that can't be read, if all before it is good, or of the output
+  pub told_of_device : (Good : Type 0) → (told ≡ unreadable → Good) → status ≡ 4
+      → (Unprinted × Good × IsTold unreadable is_told old new) ⊎ IsTold fault.Write is_told old new
+  told_of_device Good good four = by stops
     where
-      by : Stops told unreadable Unprinted → (Unprinted × IsTold unreadable is_told old new) ⊎ IsTold fault.Write is_told old new
+      by : Stops told unreadable Unprinted → (Unprinted × Good × IsTold unreadable is_told old new) ⊎ IsTold fault.Write is_told old new
       by (texts_refused three unprinted) = absurd (omega (arith, is_status, three, four))
-      by (deck_unread is unprinted) = inl (unprinted, line_of_cause unreadable is)
+      by (deck_unread is unprinted) = inl (unprinted, good is, line_of_cause unreadable is)
       by (output_unwritten is) = inr (line_of_cause fault.Write is)
       by (memory_wanting is) = absurd (omega (arith, is_status, ap status_of is, four))
 
-  pub told_of_memory : status_of unreadable ≡ 4 → status ≡ 5 → IsTold fault.Memory is_told old new
-  told_of_memory path five = by stops
+  pub told_of_memory : status ≡ 5 → IsTold fault.Memory is_told old new
+  told_of_memory five = by stops
     where
       by : Stops told unreadable Unprinted → IsTold fault.Memory is_told old new
       by (texts_refused three unprinted) = absurd (omega (arith, is_status, three, five))
       by (deck_unread is unprinted) = absurd (omega (arith, is_status, ap status_of is, path, five))
       by (output_unwritten is) = absurd (omega (arith, is_status, ap status_of is, five))
       by (memory_wanting is) = line_of_cause fault.Memory is
+
+  pub stopped_status : 3 ≤ status × status ≤ 5
+  stopped_status = by stops
+    where
+      by : Stops told unreadable Unprinted → 3 ≤ status × status ≤ 5
+      by (texts_refused three unprinted) = (omega (arith, is_status, three), omega (arith, is_status, three))
+      by (deck_unread is unprinted) = (omega (arith, is_status, ap status_of is, path), omega (arith, is_status, ap status_of is, path))
+      by (output_unwritten is) = (omega (arith, is_status, ap status_of is), omega (arith, is_status, ap status_of is))
+      by (memory_wanting is) = (omega (arith, is_status, ap status_of is), omega (arith, is_status, ap status_of is))

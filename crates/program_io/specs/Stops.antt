@@ -1,5 +1,5 @@
 -- Why a command was not carried out.
-use Rattle.std.specs.Prelude.{◌≡◌}
+use Rattle.std.specs.Prelude.{◌≡◌, ℕ}
 use Rattle.faults.specs.Status.{status_of}
 use Rattle.faults.specs.declared.fault.Fault.{Fault}
 use Rattle.faults.specs.declared.fault.Fault.TheVariants as fault
@@ -11,3 +11,12 @@ pub data Stops (told unreadable : Fault) (Unprinted : Type 0) : Type 0 where
   deck_unread : told ≡ unreadable → Unprinted → Stops told unreadable Unprinted
   output_unwritten : told ≡ fault.Write → Stops told unreadable Unprinted
   memory_wanting : told ≡ fault.Memory → Stops told unreadable Unprinted
+
+-- The same of a command that tells what it tells in words of its own, among them each fault, and that says what is refused and what was good
+-- before a deck that can't be read.
+pub data StopsWith {Told : Type 0} (status : Told → ℕ) (of_fault : Fault → Told) (told : Told) (unreadable : Fault)
+    (Refused Good Unprinted : Type 0) : Type 0 where
+  refused : status told ≡ 3 → Refused → Unprinted → StopsWith status of_fault told unreadable Refused Good Unprinted
+  unread : told ≡ of_fault unreadable → Good → Unprinted → StopsWith status of_fault told unreadable Refused Good Unprinted
+  unwritten : told ≡ of_fault fault.Write → StopsWith status of_fault told unreadable Refused Good Unprinted
+  out_of_memory : told ≡ of_fault fault.Memory → StopsWith status of_fault told unreadable Refused Good Unprinted

@@ -4,9 +4,9 @@ use Rattle.std.specs.Prelude.{◌≡◌, ℕ, List, Option, IfSome}
 use Rattle.std.specs.Io.KnownBytes.{Appends}
 use Rattle.faults.specs.Status.{status_of}
 use Rattle.faults.specs.declared.fault.Fault.{Fault}
-use Rattle.faults.specs.declared.fault.Fault.TheVariants as fault
 use Rattle.panel_guides.specs.Explained.{RefusesTexts}
 use Rattle.panel_guides.specs.Panels.{HasPanel}
+use Rattle.program_io.specs.Stops.{StopsWith}
 use Rattle.trace_calls.specs.Traced.{IsTraceOf}
 
 -- the trace of the run over the deck that was read was written after what was there
@@ -25,8 +25,6 @@ pub record LeavesUntraced (text : List ℕ) (deck : Option (List ℕ)) (told : F
 
 -- Why no trace was printed: the texts are refused, or the deck can't be read, and nothing was printed; or the output can't be written, or
 -- memory ran out, and a part of the trace may have been printed.
-pub data StopsTrace (text : List ℕ) (deck : Option (List ℕ)) (told unreadable : Fault) (Unprinted : Type 0) : Type 0 where
-  refused : status_of told ≡ 3 → LeavesUntraced text deck told → Unprinted → StopsTrace text deck told unreadable Unprinted
-  unread : told ≡ unreadable → HasPanel text → Unprinted → StopsTrace text deck told unreadable Unprinted
-  unwritten : told ≡ fault.Write → StopsTrace text deck told unreadable Unprinted
-  memory_wanting : told ≡ fault.Memory → StopsTrace text deck told unreadable Unprinted
+abbrev pub StopsTrace : (text : List ℕ) (deck : Option (List ℕ)) (told unreadable : Fault) (Unprinted : Type 0) → Type 0
+StopsTrace text deck told unreadable Unprinted =
+    StopsWith status_of (λ met. met) told unreadable (LeavesUntraced text deck told) (HasPanel text) Unprinted

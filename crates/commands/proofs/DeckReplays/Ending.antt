@@ -1,5 +1,5 @@
 -- What a sink holds where a replay ends and where it stops.
-use Rattle.std.proofs.Common.{◌≡◌, ◌∙◌, refl, sym, ap, subst, arith, List, ℕ, ◌+◌, Bool, true, false, [], ◌++◌, Option, Result, Ok, Err, OnOk, length, take, drop, append_assoc, append-nil, length-append}
+use Rattle.std.proofs.Common.{◌≡◌, ◌∙◌, sym, ap, subst, arith, List, ℕ, ◌+◌, Bool, true, [], ◌++◌, Option, Result, Ok, Err, OnOk, length, take, drop, append_assoc, length-append}
 use Rattle.std.proofs.KnownBytes.{starts_with_rest}
 use Rattle.std.proofs.Math.Seq.{take-append_seam}
 use Rattle.std.proofs.lemmas.Bool.{false≢true}

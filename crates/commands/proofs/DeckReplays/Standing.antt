@@ -1,12 +1,12 @@
 -- How a replay stands, feed by feed.
-use Rattle.std.proofs.Common.{◌≡◌, ◌∙◌, Bool, refl, sym, ap, subst, arith, List, ℕ, ◌≤◌, [], ◌∷◌, ◌++◌, Option, Some, None, Result, Ok, Err, length, append_assoc, append-nil}
+use Rattle.std.proofs.Common.{◌≡◌, ◌∙◌, Bool, refl, sym, ap, subst, List, ℕ, ◌≤◌, [], ◌∷◌, ◌++◌, Option, Some, None, Result, Ok, Err, length, append_assoc, append-nil}
 use Rattle.std.specs.Prelude.{MatchResult}
 use Rattle.card_code.specs.MostCards.{most_cards}
 use Rattle.machine.proofs.FeedsInRuns.{feeds-in-run}
 use Rattle.machine.proofs.Order.{MachineLines-in_order}
 use Rattle.machine.proofs.SomeOutcome.{LinesFrom-some, MachineLines-some}
 use Rattle.machine.specs.Feeds.{Feeds, LinesFrom}
-use Rattle.machine.specs.Machine.{MachineState, machine_at_start}
+use Rattle.machine.specs.Machine.{MachineState}
 use Rattle.machine.specs.Running.{IsStarted, Running}
 use Rattle.machine.specs.Runs.{MachineLines}
 use Rattle.net.specs.Nets.{IsNetOf}

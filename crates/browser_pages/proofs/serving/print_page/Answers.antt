@@ -1,7 +1,9 @@
 use Rattle.std.proofs.Common.{◌≡◌, refl, []}
 use Rattle.std.proofs.lemmas.Result.{err_from_is_err_and}
-use Rattle.program_io.proofs.Stopping.{stops_for_deck}
-use Rattle.browser_pages.proofs.Stopping.{no_file, no_file_stops, refusal_stops, refused_for_any}
+use Rattle.browser_pages.proofs.Stopping.{refused_for_any}
+use Rattle.panel_guides.proofs.RefusedTexts.{texts_status}
+use Rattle.panel_guides.specs.Explained.{RefusesTexts}
+use Rattle.program_io.proofs.Stopping.{no_file, no_file_stops, refusal_stops, stops_for_deck}
 use Rattle.browser_pages.proofs.serving.print_page.Goals as goal
 
 pub returns-in_err-check_panel-in-Err-clause-refused : goal.returns-in_err-check_panel-in-Err-clause-refused
@@ -16,8 +18,8 @@ returns-in_err-check_panel-in-Err-clause-refused g c =
 pub returns-in_err-check_panel-in-Err-clause-stopped : goal.returns-in_err-check_panel-in-Err-clause-stopped
 returns-in_err-check_panel-in-Err-clause-stopped g c =
     let exit = err_from_is_err_and c.from_residual.result c.from_residual.ensures.1 in
-    rw exit.1 (refusal_stops c.args.text.now [] c.in_err-check_panel-in-Err.field-0.0 exit.0 _ _
-    (λ not_memory. c.in_err-check_panel-in-Err.ensures.refused not_memory []) exit.2 refl)
+    rw exit.1 (refusal_stops (RefusesTexts c.args.text.now []) (texts_status c.args.text.now []) c.in_err-check_panel-in-Err.field-0.0 exit.0
+    (λ not_memory. c.in_err-check_panel-in-Err.ensures.refused not_memory []) exit.2 _ _ refl)
 
 pub returns-in-Ok-clause-stopped : goal.returns-in-Ok-clause-stopped
 returns-in-Ok-clause-stopped g c = stops_for_deck c.print_shown.result _ _ c.print_shown.ensures.stopped
@@ -26,8 +28,8 @@ pub returns-in_err-check_panel-in-Err-clause-unread : goal.returns-in_err-check_
 returns-in_err-check_panel-in-Err-clause-unread g c =
     let exit = err_from_is_err_and c.from_residual.result c.from_residual.ensures.1 in
     rw exit.1 (λ is. absurd (no_file_stops exit.0 (c.args.out.now ≡ c.args.out.now)
-    (refusal_stops c.args.text.now [] c.in_err-check_panel-in-Err.field-0.0 exit.0 _ _
-    (λ not_memory. c.in_err-check_panel-in-Err.ensures.refused not_memory []) exit.2 refl) is))
+    (refusal_stops (RefusesTexts c.args.text.now []) (texts_status c.args.text.now []) c.in_err-check_panel-in-Err.field-0.0 exit.0
+    (λ not_memory. c.in_err-check_panel-in-Err.ensures.refused not_memory []) exit.2 _ _ refl) is))
 
 pub returns-in-Ok-clause-unread : goal.returns-in-Ok-clause-unread
 returns-in-Ok-clause-unread g c = no_file c.print_shown.result _ _ _ c.print_shown.ensures.stopped

@@ -1,12 +1,11 @@
 use Rattle.std.proofs.Common.{refl}
-use Rattle.program_io.proofs.Stopping.{told_of_memory}
-use Rattle.browser_pages.proofs.Stopping.{told_of_device}
+use Rattle.program_io.proofs.Stopping.{told_of_device, told_of_memory}
 use Rattle.browser_pages.proofs.serving.show_to_end.Goals as goal
 
 pub returns-in-Err-clause-device : goal.returns-in-Err-clause-device
 returns-in-Err-clause-device g c =
-    told_of_device c.in-Err.fault _ _ _ c.tell.result.status c.tell.result.is_told (g.V.Write.contents c.args.faults.now)
-    (g.V.Write.contents c.tell.new.faults) c.in-Err.ensures.stopped c.in-Err.ensures.unread c.tell.ensures.status c.tell.ensures.line
+    told_of_device c.in-Err.fault _ _ c.tell.result.status c.tell.result.is_told (g.V.Write.contents c.args.faults.now)
+    (g.V.Write.contents c.tell.new.faults) c.in-Err.ensures.stopped c.tell.ensures.status c.tell.ensures.line refl _ c.in-Err.ensures.unread
 
 pub returns-in-Err-clause-memory : goal.returns-in-Err-clause-memory
 returns-in-Err-clause-memory g c =

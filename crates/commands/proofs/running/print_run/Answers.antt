@@ -1,6 +1,9 @@
-use Rattle.std.proofs.Common.{refl}
+use denote.Ref.{MutBor}
+use Rattle.std.proofs.Common.{◌∙◌, ap, refl, sym}
 use Rattle.std.proofs.lemmas.Result.{err_from_is_err_and}
-use Rattle.commands.proofs.Streaming.{ends_by_chart, ends_of_text, whole_of_text}
+use Rattle.commands.proofs.Streaming.{ends_by_chart, handed_back, of_either_err, of_either_ok, run_by, run_whole, stopped_in_run}
+use Rattle.commands.specs.Streamed.{run_stopped}
+use Rattle.compile407.proofs.Promised.{begins, form_lines, prints}
 use Rattle.commands.proofs.running.print_run.Goals as goal
 
 pub returns-in_err-compiled-clause-ends : goal.returns-in_err-compiled-clause-ends
@@ -10,12 +13,46 @@ returns-in_err-compiled-clause-ends g c =
     (ends_by_chart c.args.chart.now (g.R.Read.remaining c.args.deck) _ _ c.in_err-compiled.field-0.0 exit.0 _ c.in_err-compiled.ensures.refused
     exit.2 refl)
 
-pub returns-clause-whole : goal.returns-clause-whole
-returns-clause-whole g c =
-    whole_of_text c.run_deck.result c.args.chart.now c.in_ok-compiled.compiled (g.R.Read.remaining c.args.deck) _ _
-    c.in_ok-compiled.ensures.compiles c.run_deck.ensures.whole
+pub stream_deck-sink-requires-clause-prints : goal.stream_deck-sink-requires-clause-prints
+stream_deck-sink-requires-clause-prints g c =
+    prints c.chart.result.now c.setup.result.now c.in_ok-compiled.compiled c.chart.ensures.value c.setup.ensures.value
+    c.chart.ensures.compiled
+
+pub stream_deck-sink-requires-clause-begins : goal.stream_deck-sink-requires-clause-begins
+stream_deck-sink-requires-clause-begins g c =
+    begins c.chart.result.now c.setup.result.now c.in_ok-compiled.compiled c.chart.ensures.value c.setup.ensures.value
+    c.chart.ensures.compiled
+
+pub stream_deck-sink-requires-clause-form : goal.stream_deck-sink-requires-clause-form
+stream_deck-sink-requires-clause-form g c =
+    form_lines c.chart.result.now c.setup.result.now c.in_ok-compiled.compiled c.chart.ensures.value c.setup.ensures.value
+    c.chart.ensures.compiled
+
+pub returns-in-Ok-clause-whole : goal.returns-in-Ok-clause-whole
+returns-in-Ok-clause-whole g c =
+    run_whole c.in_ok-compiled.compiled c.args.chart.now c.in_ok-compiled.ensures.compiles (g.R.Read.remaining c.args.deck) _ _ c.in-Ok.field-0
+    (λ known is.
+    let ends = of_either_ok _ _ c.stream_deck-sink.result.run _ c.in-Ok.is (run_by c.in_ok-compiled.compiled c.stream_deck-sink.result.run _ _ _ _ c.chart.ensures.value c.stream_deck-sink.ensures.run) in
+    let ran = ends.run known (ap g.R.Read.remaining c.new.ensures.reader ∙ is) in
+    let lent = ap (λ (writer : MutBor g.row.W.Denot). writer.ghost_name) c.new-2.ensures.writer in
+    let back = ap (λ (writer : MutBor g.row.W.Denot). writer.ghost_name) c.into_writer-out.ensures in (
+      ran.0,
+      ran.1,
+      handed_back g.W.Write.contents ran.0 c.out-1.given (sym lent ∙ sym c.stream_deck-sink.ensures.same_sink ∙ sym back)
+          (ap (λ (writer : MutBor g.row.W.Denot). writer.now) c.new-2.ensures.writer)
+          (ap (λ (writer : MutBor g.row.W.Denot). writer.now) c.into_writer-out.ensures) ran.2,
+    ))
 
 pub returns-clause-ends : goal.returns-clause-ends
 returns-clause-ends g c =
-    ends_of_text c.run_deck.result c.args.chart.now c.in_ok-compiled.compiled (g.R.Read.remaining c.args.deck) _ _ _
-    c.in_ok-compiled.ensures.compiles c.run_deck.ensures.stopped
+    let stops = of_either_err _ _ c.stream_deck-sink.result.run c.in-Err.fault c.in-Err.is (run_by c.in_ok-compiled.compiled c.stream_deck-sink.result.run _ _ _ _ c.chart.ensures.value c.stream_deck-sink.ensures.run) in
+    let lent = ap (λ (writer : MutBor g.row.W.Denot). writer.ghost_name) c.new-2.ensures.writer in
+    let back = ap (λ (writer : MutBor g.row.W.Denot). writer.ghost_name) c.into_writer-out-in-Err.ensures in
+    run_stopped
+    (stopped_in_run c.in_ok-compiled.compiled c.args.chart.now c.in_ok-compiled.ensures.compiles (g.R.Read.remaining c.args.deck) _ _ _ _ _ _ _
+    c.in-Err.fault _ c.told_of.ensures (ap g.R.Read.remaining c.new.ensures.reader) stops c.flush.ensures.bytes
+    (λ written appended.
+    handed_back g.W.Write.contents written c.out-in-Err-1.given
+    (sym lent ∙ sym c.stream_deck-sink.ensures.same_sink ∙ sym c.flush.ensures.same ∙ sym back)
+    (ap (λ (writer : MutBor g.row.W.Denot). writer.now) c.new-2.ensures.writer)
+    (ap (λ (writer : MutBor g.row.W.Denot). writer.now) c.into_writer-out-in-Err.ensures) appended))

@@ -1,8 +1,7 @@
 use Rattle.std.proofs.Common.{◌≡◌, refl}
 use Rattle.std.proofs.lemmas.Result.{err_from_is_err_and}
 use Rattle.commands.proofs.Outcomes.{replay_done, replay_refused, wiring_refused_for_any}
-use Rattle.program_io.proofs.Stopping.{stops_for_deck, wiring_stops}
-use Rattle.commands.proofs.Stopping.{no_file, no_file_stops}
+use Rattle.program_io.proofs.Stopping.{no_file, no_file_stops, stops_for_deck, wiring_stops}
 use Rattle.commands.proofs.serving.serve_replay.Goals as goal
 
 pub returns-in-Ok-clause-done : goal.returns-in-Ok-clause-done

@@ -1,6 +1,7 @@
 use Rattle.std.proofs.Common.{refl}
 use Rattle.std.proofs.lemmas.Result.{err_from_is_err_and}
-use Rattle.trace_calls.proofs.Stopping.{deck_unread, prints_for, refused_unread, stops_for}
+use Rattle.program_io.proofs.StoppingWith.{deck_stops_with}
+use Rattle.trace_calls.proofs.Stopping.{prints_for, refused_unread, stops_for}
 use Rattle.trace_calls.proofs.serving.print_trace.Goals as goal
 
 pub returns-in-Ok-clause-printed : goal.returns-in-Ok-clause-printed
@@ -21,5 +22,4 @@ returns-in_err-check_panel-in-Err-clause-stopped g c =
 
 pub returns-in_ok-check_panel-in-Err-clause-stopped : goal.returns-in_ok-check_panel-in-Err-clause-stopped
 returns-in_ok-check_panel-in-Err-clause-stopped g c =
-    deck_unread c.args.text.now (g.R.Read.remaining c.args.deck) c.in-Err.unread _ _ c.in-Err.ensures.told
-    c.in_ok-check_panel-in-Err.ensures.good refl
+    deck_stops_with c.in-Err.unread c.in-Err.ensures.told refl c.in_ok-check_panel-in-Err.ensures.good refl

@@ -1,13 +1,16 @@
 use Rattle.std.proofs.Common.{Some, inl, refl}
 use Rattle.std.proofs.lemmas.Result.{err_from_is_err_and}
 use Rattle.panel_guides.specs.Panels.{replayed}
-use Rattle.trace_calls.proofs.Stopping.{output_stops_any, texts_stop, traced}
+use Rattle.faults.specs.Status.{status_of}
+use Rattle.program_io.proofs.StoppingWith.{outcome_output_stops}
+use Rattle.trace_calls.proofs.Stopping.{texts_stop, traced}
+use Rattle.trace_calls.specs.Served.{LeavesUntraced}
 use Rattle.trace_calls.proofs.serving.print_wired.Goals as goal
 
 pub returns-in_err-wired-clause-stopped : goal.returns-in_err-wired-clause-stopped
 returns-in_err-wired-clause-stopped g c =
     let exit = err_from_is_err_and c.from_residual.result c.from_residual.ensures.1 in
-    rw exit.1 (λ unreadable. texts_stop c.args.wiring.now c.args.deck.now c.in_err-wired.field-0.0 exit.0 unreadable _
+    rw exit.1 (λ unreadable. texts_stop c.args.wiring.now (Some c.args.deck.now) c.args.deck.now refl c.in_err-wired.field-0.0 exit.0 unreadable _
     (λ not_memory. inl (c.requires, c.in_err-wired.ensures.refused not_memory)) exit.2 refl)
 
 pub returns-clause-printed : goal.returns-clause-printed
@@ -17,4 +20,5 @@ returns-clause-printed g c =
     (replayed c.requires c.in_ok-wired.wired.setup c.in_ok-wired.ensures.reads c.in_ok-wired.ensures.deck) c.print_run.ensures.printed
 
 pub returns-clause-stopped : goal.returns-clause-stopped
-returns-clause-stopped g c = output_stops_any c.print_run.result c.args.wiring.now (Some c.args.deck.now) _ c.print_run.ensures.told
+returns-clause-stopped g c =
+    outcome_output_stops status_of (λ met. met) c.print_run.result (LeavesUntraced c.args.wiring.now (Some c.args.deck.now)) _ _ c.print_run.ensures.told

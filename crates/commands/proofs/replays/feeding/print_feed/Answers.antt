@@ -1,4 +1,4 @@
-use Rattle.std.proofs.Common.{◌∙◌, sym, subst, refl, List, ap}
+use Rattle.std.proofs.Common.{◌∙◌, sym, subst, refl, List}
 use Rattle.std.proofs.lemmas.Result.{err_from_is_err_and}
 use Rattle.page_writer.specs.Added.{added_all}
 use Rattle.page_writer.specs.Outgoing.{Breaks}
