@@ -1,0 +1,75 @@
+-- What is printed and told of a panel that is read back.
+use Rattle.std.specs.Prelude.{◌≡◌, ℕ, List, Option, Some, None}
+use Rattle.std.specs.Io.KnownBytes.{Appends}
+use Rattle.commands.specs.Answers.{CompilesAs}
+use Rattle.commands.specs.Refusals.{RefusesChart}
+use Rattle.compile407.specs.Compilation.{Compilation}
+use Rattle.faults.specs.declared.fault.Fault.{Fault}
+use Rattle.faults.specs.declared.fault.Fault.TheVariants as fault
+use Rattle.match_calls.specs.MatchTexts.Counts.{CountsDifferences}
+use Rattle.match_calls.specs.Unmatched.{unmatched_status}
+use Rattle.match_calls.specs.declared.match_texts.counts.Counts.{Counts}
+use Rattle.match_calls.specs.declared.unmatched.Unmatched.{Unmatched}
+use Rattle.match_calls.specs.declared.unmatched.Unmatched.TheVariants as why
+use Rattle.matching.specs.Answers.{DiffersBy}
+use Rattle.panel_plans.specs.Wired.{IsWiredBy}
+use Rattle.plans.specs.Plans.{Lists}
+use Rattle.program_io.specs.Refusals.{RefusesWiring}
+use Rattle.setups.specs.Wiring.{Wiring}
+use Rattle.streamed_runs.specs.PrintPromises.Promises.{BeginsReport, PrintsReport}
+use Rattle.wire_chart.specs.Below.wiring_text.WiringText.{ReadsAs}
+
+-- The panel is wired for the chart by a plan. So the machine prints the chart's report of every deck that can be run, wired as this panel, and
+-- begins the report where not all totals fit.
+pub record IsWiredFor (compiled : Compilation) (setup : Wiring) : Type 0 where
+  pub plan : Lists
+  pub wired : IsWiredBy compiled.chart.lines setup plan
+  pub prints : PrintsReport compiled.chart setup
+  pub begins : BeginsReport compiled.chart setup
+
+-- The panel is wired for the chart by no plan. By some plan these are what is missing and what is too much, and so much is counted of both.
+pub record IsUnwiredFor (counts : Counts) (compiled : Compilation) (setup : Wiring) : Type 0 where
+  pub unwired : (plan : Lists) → ¬ IsWiredBy compiled.chart.lines setup plan
+  pub plan : Lists
+  pub missing : Wiring
+  pub extra : Wiring
+  pub differs : DiffersBy compiled.chart.lines setup plan missing extra
+  pub counted : CountsDifferences missing extra counts
+
+-- the panel beside the chart, by the counts that are told
+abbrev pub IsBeside : Option Counts → Compilation → Wiring → Type 0
+IsBeside None compiled setup = IsWiredFor compiled setup
+IsBeside (Some counts) compiled setup = IsUnwiredFor counts compiled setup
+
+-- the text of a chart, and how the panel of a wiring chart stands beside it
+pub record IsChartOf (wiring : List ℕ) (counts : Option Counts) (text : List ℕ) : Type 0 where
+  pub setup : Wiring
+  pub reads : ReadsAs wiring setup
+  pub compiled : Compilation
+  pub compiles : CompilesAs text compiled
+  pub beside : IsBeside counts compiled setup
+
+-- such a text was written after what was there
+pub record PrintsChart (wiring : List ℕ) (counts : Option Counts) (old new : Option (List ℕ)) : Type 0 where
+  pub text : List ℕ
+  pub right : IsChartOf wiring counts text
+  pub written : Appends old new text
+
+-- the fault of the wiring chart, else that of the text of a chart that was tried
+pub data RefusesPanel (wiring : List ℕ) (told : Fault) : Type 0 where
+  of_wiring : RefusesWiring wiring told → RefusesPanel wiring told
+  of_chart : (text : List ℕ) → RefusesChart text told → RefusesPanel wiring told
+
+-- What is told of a panel that is wired for no chart: it is not wired for the chart that was printed; or it is refused, and nothing was
+-- printed.
+pub data LeavesUnread (wiring : List ℕ) (told : Unmatched) (old new : Option (List ℕ)) (Unprinted : Type 0) : Type 0 where
+  unwired : (counts : Counts) → told ≡ why.Unwired counts → PrintsChart wiring (Some counts) old new
+      → LeavesUnread wiring told old new Unprinted
+  refused : (fault : Fault) → told ≡ why.Failed fault → RefusesPanel wiring fault → Unprinted
+      → LeavesUnread wiring told old new Unprinted
+
+-- Why the command does not end well: that; or the output can't be written, or memory ran out, and a part of the chart may have been printed.
+pub data StopsChart (wiring : List ℕ) (told : Unmatched) (old new : Option (List ℕ)) (Unprinted : Type 0) : Type 0 where
+  unread : unmatched_status told ≡ 3 → LeavesUnread wiring told old new Unprinted → StopsChart wiring told old new Unprinted
+  unwritten : told ≡ why.Failed fault.Write → StopsChart wiring told old new Unprinted
+  memory_wanting : told ≡ why.Failed fault.Memory → StopsChart wiring told old new Unprinted

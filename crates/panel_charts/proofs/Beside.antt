@@ -1,0 +1,20 @@
+-- What is found of a panel beside a chart, by what is found of it beside the lines of that chart.
+use Rattle.std.proofs.Common.{◌≡◌, Err, IfOk, Ok, Result, subst}
+use Rattle.charts.specs.Chart.{Chart}
+use Rattle.compile407.specs.Compilation.{Compilation}
+use Rattle.matching.specs.Answers.{IsMatched, IsMatchingOf}
+use Rattle.matching.specs.declared.answer.Matching.{Matching}
+use Rattle.panel_charts.specs.PanelChart.{IsFound}
+use Rattle.panel_plans.specs.Wired.{IsWiredBy}
+use Rattle.plans.specs.Plans.{Lists}
+use Rattle.setups.specs.Wiring.{Wiring}
+
+pub found-as : {E : Type 0} (compiled : Compilation) (chart : Chart) (setup : Wiring) (r : Result Matching E) → chart ≡ compiled.chart
+    → IfOk r (IsMatchingOf chart.lines setup)
+    → IfOk r (λ matching. (its : Lists) → IsWiredBy chart.lines setup its → IsMatched matching)
+    → IfOk r (IsFound setup compiled)
+found-as compiled chart setup (Ok matching) same told found = record {
+  told = subst (λ (of : Chart). IsMatchingOf of.lines setup matching) same told;
+  found = subst (λ (of : Chart). (its : Lists) → IsWiredBy of.lines setup its → IsMatched matching) same found;
+}
+found-as compiled chart setup (Err e) same told found = tt

@@ -1,0 +1,10 @@
+use Rattle.std.proofs.Common.{IfOk, subst}
+use Rattle.charts.specs.Chart.{Chart}
+use Rattle.matching.specs.Answers.{IsMatched, IsMatchingOf}
+use Rattle.panel_charts.proofs.Beside.{found-as}
+use Rattle.panel_charts.proofs.answer.found_of.Goals as goal
+
+pub returns : goal.returns
+returns c =
+    found-as c.args.compiled.now _ c.args.setup.now c.match_setup.result c.chart.ensures.value c.match_setup.ensures.told
+    c.match_setup.ensures.found

@@ -1,0 +1,11 @@
+//! Which chart a panel is wired for: the chart that is read off it, compiled and matched with it.
+//!
+//! [`read_back`] has the reader propose a draft. What it answers is decided by others: the draft's text is compiled as any chart's text is,
+//! and the panel is matched with it as with any chart. So nothing that the reader does can make the answer wrong. [`read_beside`] reads one panel
+//! and matches another with what is read.
+#![tactic(auto)]
+
+mod answer;
+mod lawful;
+
+pub use answer::{PanelChart, read_back, read_beside};

@@ -1,0 +1,171 @@
+//! The counters that a setup reads out.
+
+use crate::hub_rows::{HubRow, lowest_entry};
+use crate::zones::{Zone, zone_with_units};
+use hubs::{Group, Hub, is_one_group};
+use setups::Setup;
+use std::alloc::{AllocError, Global};
+
+/// A counter: a group, or two that are coupled.
+#[derive(Clone, Copy)]
+pub(crate) struct Counter {
+    /// The group of the lower positions.
+    pub(crate) lower: Group,
+    /// The group of the positions above 8.
+    pub(crate) upper: Option<Group>,
+}
+
+impl Counter {
+    // The group in which a position is, and its number there.
+    fn at(self, position: u8) -> (Group, u8) {
+        match self.upper {
+            Some(upper) if position > 8 => (upper, position - 8),
+            _ => (self.lower, position),
+        }
+    }
+
+    /// The exit of a position.
+    pub(crate) fn exit(self, position: u8) -> Hub {
+        let (group, place) = self.at(position);
+        Hub::GX(group, place)
+    }
+
+    /// The entry of a position.
+    pub(crate) fn entry(self, position: u8) -> Hub {
+        let (group, place) = self.at(position);
+        Hub::GE(group, place)
+    }
+
+    /// How many positions it has.
+    pub(crate) fn size(self) -> u8 {
+        if self.upper.is_some() {
+            16
+        } else {
+            self.lower.width
+        }
+    }
+}
+
+/// A counter that is read out on a total line.
+#[derive(Clone, Copy)]
+pub(crate) struct Total {
+    /// The number of the level, 1 to 4.
+    pub(crate) level: u8,
+    /// The counter.
+    pub(crate) counter: Counter,
+    /// The zone in which the total stands.
+    pub(crate) zone: Zone,
+    /// How many digits it has.
+    pub(crate) digits: u8,
+}
+
+// The counter group at a place, 0 to 31: those of 3 positions first, then those of 4, 6 and 8, each by number.
+fn group_at(place: u8) -> Group {
+    let width = match place / 8 {
+        0 => 3,
+        1 => 4,
+        2 => 6,
+        _ => 8,
+    };
+    Group {
+        width,
+        number: place % 8 + 1,
+    }
+}
+
+// The lowest other group to which the carry of a group leads.
+fn carried_to(setup: &Setup, group: Group) -> Option<Group> {
+    for place in 0..32 {
+        let other = group_at(place);
+        if !is_one_group(group, other) && setup.has(Hub::CO(group), Hub::CI(other)) {
+            return Some(other);
+        }
+    }
+    None
+}
+
+// Whether a group is the lower one of two, whose carry leads to the other: of two that carry to one another it is that of the lower number.
+fn is_below(setup: &Setup, group: Group, other: Group) -> bool {
+    match carried_to(setup, other) {
+        Some(back) => !is_one_group(back, group) || group.number < other.number,
+        None => true,
+    }
+}
+
+// The group above a group, if the two are coupled and this is the lower one.
+fn upper_of(setup: &Setup, group: Group) -> Option<Group> {
+    let other = carried_to(setup, group)?;
+    if is_below(setup, group, other) {
+        Some(other)
+    } else {
+        None
+    }
+}
+
+// Whether a group is the upper one of two.
+fn is_upper(setup: &Setup, group: Group) -> bool {
+    for place in 0..32 {
+        if let Some(upper) = upper_of(setup, group_at(place)) {
+            if is_one_group(upper, group) {
+                return true;
+            }
+        }
+    }
+    false
+}
+
+// The lowest level whose third program cycle reads a group out.
+fn level_of(setup: &Setup, group: Group) -> Option<u8> {
+    for place in 0..4 {
+        if setup.has(Hub::PX(place + 1, 3), Hub::RO(group)) {
+            return Some(place + 1);
+        }
+    }
+    None
+}
+
+// How many digits of a counter lead to the wheels of a zone, from the units on.
+fn digits_on(setup: &Setup, counter: Counter, zone: Zone) -> u8 {
+    for place in 0..counter.size() {
+        let position = place + 1;
+        if !setup.has(counter.exit(position), Hub::W(zone.digit_wheel(position))) {
+            return place;
+        }
+    }
+    counter.size()
+}
+
+// The total of a group that is read out on a total line, if it is one and not the upper one of two.
+fn total_of(setup: &Setup, zones: &[Zone], lower: Group) -> Option<Total> {
+    let level = level_of(setup, lower)?;
+    if is_upper(setup, lower) {
+        return None;
+    }
+    let counter = Counter {
+        lower,
+        upper: upper_of(setup, lower),
+    };
+    let wheel = lowest_entry(setup, counter.exit(1), HubRow::Wheels)?;
+    let zone = zone_with_units(zones, wheel);
+    Some(Total {
+        level,
+        counter,
+        zone,
+        digits: digits_on(setup, counter, zone),
+    })
+}
+
+/// The totals that a setup prints, by the zones that its jacks show.
+pub(crate) fn totals_of(
+    alloc: Global,
+    setup: &Setup,
+    zones: &[Zone],
+) -> Result<Vec<Total>, AllocError> {
+    let mut totals = Vec::new(alloc);
+    for place in 0..32 {
+        if let Some(total) = total_of(setup, zones, group_at(place)) {
+            totals.push(total)?;
+        }
+    }
+    Ok(totals)
+}

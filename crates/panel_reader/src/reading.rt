@@ -1,0 +1,89 @@
+//! Reading a panel.
+
+ghost use Rattle.std.specs.Prelude.{IfOk};
+ghost use Rattle.panel_reader.specs.Lines.{AreOf, EndsWithForm};
+
+use crate::card_line::{put_amounts, put_texts};
+use crate::chains::put_chains;
+use crate::control_fields::put_controls;
+use crate::counters::{Total, totals_of};
+use crate::draft::Draft;
+use crate::lines::{DraftLine, lines_of};
+use crate::literals::put_literals;
+use crate::zones::{Zone, zones_of};
+use hubs::Jack;
+use setups::Setup;
+use std::alloc::{AllocError, Global};
+
+/// How many lines a chart has at most, but for the first and END.
+const MOST_LINES: usize = 498;
+
+// Adds the zone of a total whose units stand on a wheel, where it isn't there.
+fn add_zone_at(zones: &mut Vec<Zone>, totals: &[Total], wheel: u8) -> Result<(), AllocError> {
+    for total in totals {
+        if total.zone.units == wheel && !zones.contains(&total.zone) {
+            zones.push(total.zone)?;
+        }
+    }
+    Ok(())
+}
+
+// Adds a zone of one wheel for each total that stands on a wheel alone, from the left.
+fn add_small_zones(zones: &mut Vec<Zone>, totals: &[Total]) -> Result<(), AllocError> {
+    for wheel in 1..121 {
+        add_zone_at(zones, totals, wheel)?;
+    }
+    Ok(())
+}
+
+// The draft of the chart of a setup; in its literals at most so many blanks stand side by side.
+fn drafted(alloc: Global, setup: &Setup, most_blanks: u8) -> Result<Draft, AllocError> {
+    let mut draft = Draft::new(alloc);
+    let mut zones = zones_of(alloc, setup)?;
+    let totals = totals_of(alloc, setup, zones.as_slice())?;
+    add_small_zones(&mut zones, totals.as_slice())?;
+    put_chains(setup, totals.as_slice(), &mut draft)?;
+    if setup.has_jack(Jack::List) {
+        put_amounts(setup, zones.as_slice(), &mut draft)?;
+        put_texts(setup, zones.as_slice(), &mut draft)?;
+    }
+    put_controls(alloc, setup, &mut draft)?;
+    put_literals(alloc, setup, &mut draft, most_blanks)?;
+    Ok(draft)
+}
+
+/// What is read of a panel: a draft of its chart, and the lines of that.
+#[derive(Drop)]
+pub struct Reading {
+    /// The draft.
+    pub draft: Draft,
+    /// Its lines.
+    pub lines: Vec<DraftLine>,
+}
+
+// Reads a panel, with literals of at most so many blanks side by side.
+fn read_with(alloc: Global, setup: &Setup, most_blanks: u8) -> Result<Reading, AllocError>
+    ensures of { IfOk result (λ reading. AreOf reading.draft reading.lines.items) }
+    ensures form { IfOk result (λ reading. EndsWithForm setup.now.tape reading.lines.items) }
+{
+    let draft = drafted(alloc, setup, most_blanks)?;
+    let lines = lines_of(alloc, setup, &draft)?;
+    Ok(Reading { draft, lines })
+}
+
+/// Reads a panel: the draft of the chart whose wiring it is, if it is one of a chart. Literals side by side with one blank between are one;
+/// where the chart would have more lines than a chart can have, those with more blanks are too. Its only refusal is memory.
+///
+/// Each line speaks of a field, a control field or an item of the draft, if of any, and the last one is the panel's form. That it is the
+/// chart whose wiring the panel is isn't said: whoever wants to know matches the two.
+pub fn read_panel(alloc: Global, setup: &Setup) -> Result<Reading, AllocError>
+    ensures of { IfOk result (λ reading. AreOf reading.draft reading.lines.items) }
+    ensures form { IfOk result (λ reading. EndsWithForm setup.now.tape reading.lines.items) }
+{
+    let reading = read_with(alloc, setup, 1)?;
+    if reading.lines.len() <= MOST_LINES {
+        Ok(reading)
+    } else {
+        read_with(alloc, setup, 120)
+    }
+}
