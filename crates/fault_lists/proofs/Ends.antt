@@ -1,0 +1,117 @@
+-- What a list of faults comes to.
+use Rattle.std.proofs.Common.{◌≡◌, ◌≢◌, ℕ, List, [], ◌∷◌, Option, Result, Ok, Err, IfErr, OnOk, refl, ap, arith, inl, inr, codes, subst}
+use Rattle.std.proofs.KnownBytes.{Appends-trans}
+use Rattle.std.specs.Io.KnownBytes.{Appends}
+use Rattle.allocate.specs.Exceeded.{FitsMachine, HasCapacityFault}
+use Rattle.capacity.specs.Capacities.{standard}
+use Rattle.plans.specs.Below.wanted.Wanted.{wanted_of}
+use Rattle.charts.specs.Chart.{Chart}
+use Rattle.chart_faults.specs.Listed.{HasAllListed}
+use Rattle.chart_faults.specs.declared.listing.BrokenRule.{BrokenRule}
+use Rattle.chart_faults.proofs.Exact.{broken_of}
+use Rattle.chart_rules.specs.RuleFaults.{IsTold}
+use Rattle.chart_rules.specs.Rules.{IsKept, IsLawful}
+use Rattle.chart_rules.specs.declared.fault.RuleFault.{RuleFault}
+use Rattle.chart_rules.specs.declared.fault.RuleFault.TheVariants as broken
+use Rattle.chart_text.specs.ChartText.{Reads}
+use Rattle.chart_text.specs.TextFaults.{HasTextFault}
+use Rattle.chart_text.specs.declared.fault.TextFault.{TextFault}
+use Rattle.chart_text.specs.declared.fault.TextFault.TheVariants as text
+use Rattle.fault_words.specs.Entries.{entries_text}
+use Rattle.faults.specs.ChartCauses.{of_rule, of_text}
+use Rattle.faults.specs.Told.{chart_told}
+use Rattle.faults.specs.declared.fault.Fault.{Fault}
+use Rattle.fault_lists.specs.Endings.{AnswersOk, EndsCapacity, EndsListing, HasListed, by_capacity, by_rules, by_text, broken_off}
+use Rattle.fault_lists.specs.TextEntries.{text_entry}
+use Rattle.misread_lines.specs.Misread.{AreMisread}
+
+-- a fault of a text
+pub text_lists : (source lines : List ℕ) (old new : Option (List ℕ)) (cause : TextFault) (fault : Fault)
+    → (cause ≢ text.Memory → HasTextFault source cause) → AreMisread 500 source lines → fault ≡ chart_told (of_text cause)
+    → Appends old new (text_entry source lines cause) → EndsListing source old new fault
+text_lists source lines old new text.TooLarge fault has misread is written =
+    by_text (record { cause = text.TooLarge; at_fault = has (λ same. cc); lines = lines; misread = misread; is_told = is; written = written })
+text_lists source lines old new text.NoFirstLine fault has misread is written =
+    by_text (record { cause = text.NoFirstLine; at_fault = has (λ same. cc); lines = lines; misread = misread; is_told = is; written = written })
+text_lists source lines old new (text.NotALine line) fault has misread is written =
+    by_text (record { cause = text.NotALine line; at_fault = has (λ same. cc); lines = lines; misread = misread; is_told = is; written = written })
+text_lists source lines old new text.NoEnd fault has misread is written =
+    by_text (record { cause = text.NoEnd; at_fault = has (λ same. cc); lines = lines; misread = misread; is_told = is; written = written })
+text_lists source lines old new text.Memory fault has misread is written = broken_off (inl is)
+
+-- nothing is listed of a lawful chart
+pub nothing_listed : (chart : Chart) (list : List BrokenRule) → HasAllListed chart list → IsLawful chart → list ≡ []
+unfolding IsLawful IsKept
+nothing_listed chart [] all lawful = refl
+nothing_listed chart (first ∷ list) all lawful =
+    absurd (lawful first.rule first.line (broken_of chart ((all first).0 (0, omega arith, refl))))
+
+-- so nothing was written
+unwritten : (source : List ℕ) (chart : Chart) (old middle new : Option (List ℕ)) (more : List ℕ) → HasListed source chart old middle → IsLawful chart
+    → Appends middle new more → Appends old new more
+unwritten source chart old middle new more listed lawful written =
+    let none : entries_text source chart listed.list ≡ [] = ap (entries_text source chart) (nothing_listed chart listed.list listed.all lawful) in
+    Appends-trans old middle new [] more (subst (Appends old middle) none listed.written) written
+
+-- a chart that was checked, and what its capacities come to
+pub answers_ok : (source : List ℕ) (raw chart : Chart) (old middle new : Option (List ℕ)) → Reads source raw → chart ≡ raw → IsLawful raw
+    → HasListed source raw old middle → FitsMachine (wanted_of chart.lines) standard × Appends middle new (codes "ok\n")
+    → AnswersOk source old new
+answers_ok source raw chart old middle new reads same lawful listed (fits, written) = record {
+  good = record {
+    chart = raw;
+    reads = reads;
+    lawful = lawful;
+    fits = subst (λ (c : Chart). FitsMachine (wanted_of c.lines) standard) same fits;
+  };
+  written = unwritten source raw old middle new (codes "ok\n") listed lawful written;
+}
+
+pub ok_answered : {U : Type 0} (answer : Result U Fault) (source : List ℕ) (raw chart : Chart) (old middle new : Option (List ℕ)) → Reads source raw → chart ≡ raw
+    → IsLawful raw → HasListed source raw old middle
+    → OnOk answer (FitsMachine (wanted_of chart.lines) standard × Appends middle new (codes "ok\n")) → OnOk answer (AnswersOk source old new)
+ok_answered (Ok done) source raw chart old middle new reads same lawful listed fits =
+    answers_ok source raw chart old middle new reads same lawful listed fits
+ok_answered (Err fault) source raw chart old middle new reads same lawful listed fits = tt
+
+ends_by : (source : List ℕ) (raw chart : Chart) (old middle new : Option (List ℕ)) (fault : Fault) → Reads source raw → chart ≡ raw
+    → IsLawful raw → HasListed source raw old middle → EndsCapacity chart middle new fault → EndsListing source old new fault
+ends_by source raw chart old middle new fault reads same lawful listed (inl off) = broken_off off
+ends_by source raw chart old middle new fault reads same lawful listed (inr (cause, has, is, written)) =
+    by_capacity (record {
+      chart = raw;
+      reads = reads;
+      lawful = lawful;
+      cause = cause;
+      exceeds = subst (λ (c : Chart). HasCapacityFault (wanted_of c.lines) standard cause) same has;
+      is_told = is;
+      written = unwritten source raw old middle new _ listed lawful written;
+    })
+
+pub capacity_listed : {U : Type 0} (answer : Result U Fault) (source : List ℕ) (raw chart : Chart) (old middle new : Option (List ℕ)) → Reads source raw → chart ≡ raw
+    → IsLawful raw → HasListed source raw old middle → IfErr answer (λ fault. EndsCapacity chart middle new fault)
+    → IfErr answer (λ fault. EndsListing source old new fault)
+capacity_listed (Ok done) source raw chart old middle new reads same lawful listed ends = tt
+capacity_listed (Err fault) source raw chart old middle new reads same lawful listed ends =
+    ends_by source raw chart old middle new fault reads same lawful listed ends
+
+-- a rule that is broken
+pub rules_listed : (source : List ℕ) (raw : Chart) (old new : Option (List ℕ)) (cause : RuleFault) (fault : Fault) → Reads source raw
+    → HasListed source raw old new → (cause ≢ broken.Memory → IsTold raw cause) → fault ≡ chart_told (of_rule cause)
+    → EndsListing source old new fault
+rules_listed source raw old new broken.Memory fault reads listed told is = broken_off (inl is)
+rules_listed source raw old new (broken.Rule first line) fault reads listed told is =
+    let found = told (λ same. cc) in
+    by_rules (record {
+      chart = raw;
+      reads = reads;
+      list = listed.list;
+      all = listed.all;
+      ordered = listed.ordered;
+      rule = first;
+      line = line;
+      broken = found;
+      first = listed.begins first line found;
+      is_told = is;
+      written = listed.written;
+    })

@@ -1,0 +1,2 @@
+pub mod TextEntries
+pub mod Endings
