@@ -1,16 +1,27 @@
 //! What the program's commands give, over texts that are all in memory.
 
+ghost use Rattle.std.specs.Prelude.{IsSome};
+ghost use Rattle.card_code.specs.CardCode.{rows_of};
+
 use anyhow::Result;
 use browser_pages::show_to_end;
+use chart_calls::chart_to_end;
 use check_calls::check_deck_to_end;
 use commands::{replay_by_orders, serve};
+use decks_in_row::DecksInRow;
+use devices::limited::LimitedReader;
 use fault_guide::guides::fault_to_end;
+use fault_lists::list_chart_to_end;
+use fold_calls::fold_to_end;
+use ledger_calls::ledger_to_end;
 use match_calls::{match_deck_to_end, match_to_end};
 use panel_guides::{Place, explain_to_end, legend_to_end};
 use sheet_calls::{fields_to_end, layout_to_end};
 use std::alloc::Global;
+use std::collections::VecDeque;
 use std::io::{Read, Write};
 use trace_calls::trace_to_end;
+use whole_runs::{PageRange, run_whole_to_end};
 
 /// What a command printed, what it told, and its status.
 #[derive(Drop)]
@@ -117,6 +128,29 @@ impl Served {
         served
     }
 
+    /// The ledger of the figure on a wheel, with all entries of a long one or only some.
+    pub fn ledger<R: Read + Drop>(
+        alloc: Global,
+        text: &[u8],
+        deck: R,
+        place: Place,
+        all: bool,
+    ) -> Served {
+        let mut served = Served::new(alloc);
+        served.status = ledger_to_end(
+            alloc,
+            text,
+            "my.deck",
+            deck,
+            place,
+            all,
+            &mut served.output,
+            &mut served.told,
+        )
+        .status;
+        served
+    }
+
     /// The trace of a deck.
     pub fn trace<R: Read + Drop>(alloc: Global, text: &[u8], deck: R) -> Served {
         let mut served = Served::new(alloc);
@@ -145,6 +179,51 @@ impl Served {
         served
     }
 
+    /// Pages of a run that are printed once the whole deck has run.
+    pub fn run_pages<R: Read + Drop>(
+        alloc: Global,
+        chart: &[u8],
+        deck: R,
+        pages: PageRange,
+    ) -> Served {
+        let mut served = Served::new(alloc);
+        served.status = run_whole_to_end(
+            alloc,
+            chart,
+            deck,
+            pages,
+            &mut served.output,
+            &mut served.told,
+        )
+        .status;
+        served
+    }
+
+    /// A run over decks in a row, each read three bytes at a time.
+    pub fn run_decks(alloc: Global, chart: &[u8], decks: &[u8]) -> Result<Served> {
+        let mut row = VecDeque::new(alloc);
+        for deck in decks.split(|byte| *byte == b'~') {
+            row.push_back(LimitedReader::new(deck, 3, None))?;
+        }
+        Ok(Served::of(alloc, "run", chart, DecksInRow::new(row)))
+    }
+
+    /// Every fault of a chart.
+    pub fn list_faults(alloc: Global, text: &[u8]) -> Served {
+        let mut served = Served::new(alloc);
+        served.status = list_chart_to_end(alloc, text, &mut served.output, &mut served.told).status;
+        served
+    }
+
+    /// A text, folded into a deck.
+    pub fn fold(alloc: Global, text: &[u8], fill: u8) -> Served
+        requires { IsSome (rows_of fill) }
+    {
+        let mut served = Served::new(alloc);
+        served.status = fold_to_end(alloc, text, fill, &mut served.output, &mut served.told).status;
+        served
+    }
+
     /// The page for a browser.
     pub fn show<R: Read + Drop>(alloc: Global, text: &[u8], deck: R) -> Served {
         let mut served = Served::new(alloc);
@@ -170,6 +249,13 @@ impl Served {
             &mut served.output,
             &mut served.told,
         ).status;
+        served
+    }
+
+    /// The chart that a panel is read back as.
+    pub fn reading_back(alloc: Global, wiring: &[u8]) -> Served {
+        let mut served = Served::new(alloc);
+        served.status = chart_to_end(alloc, wiring, &mut served.output, &mut served.told).status;
         served
     }
 

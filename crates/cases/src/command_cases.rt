@@ -7,19 +7,27 @@
 //! in place of a wiring chart; `(unreadable)` and `(1000000 blank cards)` in place of a deck; and last of all `(unwritable)`, where the
 //! output can't be written.
 //! A command `replay --orders` has its orders behind it, given as a text is; `fault` has its number behind it, `fields` that of the card, and
-//! `explain` the page, the line and the wheel. A `check deck` checks the deck too, where `check` leaves it alone. The rows of `show` are refused; its pages stand
-//! in `shown_cases`.
+//! `explain`, `ledger` and `ledger --all` the page, the line and the wheel.
+//! A `check deck` checks the deck too, where `check` leaves it alone, and a `check all` tells every fault of the chart.
+//! Behind `run pages` stand the first and the last page that are printed.
+//! A `run decks` has its decks in a row, divided by `~`, and `fold` its character behind it, or nothing for a blank.
+//! The rows of `show` are refused; its pages stand in `shown_cases`.
 //! Of a million cards the number of bytes printed stands in place of these.
+
+ghost use Rattle.std.specs.Prelude.{IsSome};
+ghost use Rattle.card_code.specs.CardCode.{rows_of};
 
 use crate::answered::{Served, write_status};
 use allocate::CapacityFault;
 use anyhow::Result;
+use card_code::Column;
 use commands::{Fault, chart_and_deck, serve, tell};
 use devices::limited::{LimitedReader, LimitedWriter, Stop};
 use panel_guides::Place;
 use std::alloc::Global;
 use std::fs;
 use std::io::{Read, Write};
+use whole_runs::PageRange;
 
 // The words between parentheses, where a row's part is that.
 fn named(part: &str) -> Option<&str> {
@@ -162,6 +170,27 @@ fn by_orders<R: Read + Drop>(
     Ok(Served::by_orders(rt.alloc(), wiring, orders.as_slice(), deck))
 }
 
+// The pages from one number to another.
+fn pages_of(words: &str) -> Option<PageRange> {
+    let Some((first, last)) = words.split_once(' ') else {
+        return None;
+    };
+    match (first.parse(), last.parse()) {
+        (Ok(first), Ok(last)) => Some(PageRange { first, last }),
+        _ => None,
+    }
+}
+
+// The character that a fold puts for what no card has; a blank if no card has what stands there.
+fn fill_of(words: &str) -> u8
+    ensures { IsSome (rows_of result) }
+{
+    match words.as_bytes() {
+        [byte] if Column::of_char(char::from(*byte)).is_some() => *byte,
+        _ => b' ',
+    }
+}
+
 // What a command gives that may have more words behind it.
 fn worded<R: Read + Drop>(rt: &HostRuntime, command: &str, text: &[u8], deck: R) -> Result<Served> {
     let alloc = rt.alloc();
@@ -171,8 +200,20 @@ fn worded<R: Read + Drop>(rt: &HostRuntime, command: &str, text: &[u8], deck: R)
     if let Some(number) = command.strip_prefix("fault ") {
         return Ok(Served::of_fault(alloc, number.parse()?));
     }
+    if let Some(fill) = command.strip_prefix("fold ") {
+        return Ok(Served::fold(alloc, text, fill_of(fill)));
+    }
+    if let Some(pages) = command.strip_prefix("run pages ").and_then(pages_of) {
+        return Ok(Served::run_pages(alloc, text, deck, pages));
+    }
     if let Some(card) = command.strip_prefix("fields ") {
         return Ok(Served::fields(alloc, text, deck, card.parse()?));
+    }
+    if let Some(place) = command.strip_prefix("ledger ").and_then(place_of) {
+        return Ok(Served::ledger(alloc, text, deck, place, false));
+    }
+    if let Some(place) = command.strip_prefix("ledger --all ").and_then(place_of) {
+        return Ok(Served::ledger(alloc, text, deck, place, true));
     }
     match command.strip_prefix("explain ").and_then(place_of) {
         Some(place) => Ok(Served::explain(alloc, text, deck, place)),
@@ -186,7 +227,9 @@ fn answer<R: Read + Drop>(rt: &HostRuntime, command: &str, text: &[u8], deck: R)
     match command {
         "layout" => Ok(Served::layout(alloc, text)),
         "legend" => Ok(Served::legend(alloc, text)),
+        "fold" => Ok(Served::fold(alloc, text, b' ')),
         "trace" => Ok(Served::trace(alloc, text, deck)),
+        "check all" => Ok(Served::list_faults(alloc, text)),
         "check deck" => Ok(Served::check_deck(alloc, text, deck)),
         "show" => Ok(Served::show(alloc, text, deck)),
         _ => worded(rt, command, text, deck),
@@ -222,6 +265,9 @@ fn row_answer(rt: &HostRuntime, row: Row, text: &[u8]) -> Result<Served> {
         return Ok(serve_unwritable(rt.alloc(), row.command, text, deck.reader()));
     }
     let deck = RowDeck::of(rt, row.deck)?;
+    if row.command == "run decks" {
+        return Served::run_decks(rt.alloc(), text, deck.cards.as_slice());
+    }
     answer(rt, row.command, text, deck.reader())
 }
 

@@ -4,6 +4,7 @@ use crate::command_cases::{write_row, write_told};
 use crate::explained_cases::{write_chart, write_panel};
 use crate::hostile_cases::{Trial, write_trial};
 use crate::match_cases::write_match;
+use crate::read_back_cases::{write_read_back, write_wired_back};
 use crate::report_cases::{write_pages, write_report};
 use crate::run_cases::{write_checked, write_replay, write_run, write_served};
 use crate::shown_cases::write_shown;
@@ -23,6 +24,8 @@ enum Named {
     Pages,
     Stream,
     Match,
+    ReadBack,
+    WiredBack,
     Command,
     Shown,
 }
@@ -51,7 +54,7 @@ enum Part {
 }
 
 #[rattlefmt::skip]
-static PARTS: [Part; 42] = [
+static PARTS: [Part; 45] = [
     Part::Heading("== charts"),
     Part::Cases("charts/index", Kind::Checked),
     Part::Heading("== wirings"),
@@ -69,6 +72,9 @@ static PARTS: [Part; 42] = [
     Part::Cases("streams/index", Kind::Named(Named::Stream)),
     Part::Heading("== matches"),
     Part::Cases("matches/index", Kind::Named(Named::Match)),
+    Part::Heading("== read back"),
+    Part::Cases("read_back/panels", Kind::Named(Named::ReadBack)),
+    Part::Cases("read_back/charts", Kind::Named(Named::WiredBack)),
     Part::Heading("== commands"),
     Part::Cases("commands/rows", Kind::Named(Named::Command)),
     Part::Told,
@@ -113,6 +119,8 @@ fn write_named<W: Write>(rt: &HostRuntime, out: &mut W, named: Named, line: &str
         Named::Pages => write_pages(rt, out, line),
         Named::Stream => write_run(rt, out, line),
         Named::Match => write_match(rt, out, line),
+        Named::ReadBack => write_read_back(rt, out, line),
+        Named::WiredBack => write_wired_back(rt, out, line),
         Named::Command => write_row(rt, out, line),
         Named::Shown => write_shown(rt, out, line),
     }

@@ -1,4 +1,4 @@
-//! Runs all cases whose answers are known: charts, wiring charts, wired panels with decks, and with orders too, wiring charts in both versions, panels beside charts, charts with decks, decks with a fault, commands, hostile texts, explanations, and pages for a browser.
+//! Runs all cases whose answers are known: charts, wiring charts, wired panels with decks, and with orders too, wiring charts in both versions, panels beside charts, panels that are read back, charts with decks, decks with a fault, commands, hostile texts, explanations, and pages for a browser.
 //!
 //! Each kind has a folder of `data`, and its file here says what is told of its cases; `kinds` goes over them. What this program must
 //! print was made outside of this repository or worked out by hand, never by the program.
@@ -14,6 +14,7 @@ mod explained_cases;
 mod hostile_cases;
 mod kinds;
 mod match_cases;
+mod read_back_cases;
 mod report_cases;
 mod run_cases;
 mod shown_cases;

@@ -6,4 +6,4 @@
 mod parser;
 mod wanted;
 
-pub use wanted::{Refused, Wanted, read_words};
+pub use wanted::{Pages, Refused, Run, Wanted, read_words};

@@ -1,7 +1,7 @@
 //! The words that the program takes.
 
 use clap::builder::ValueParser;
-use clap::{Arg, Command, value_parser};
+use clap::{Arg, ArgAction, Command, value_parser};
 use std::alloc::{AllocError, Global};
 
 /// The version that the program answers.
@@ -9,19 +9,19 @@ const VERSION: &str = "0.3";
 
 /// What stands behind the commands of the program's help.
 const AFTER_HELP: &str =
-    "Status: 0 done, 2 words that can't be obeyed, 3 a text that is refused, a line or wheel that isn't there, or a panel that isn't wired for its chart, 4 a file that can't be read or an output that can't be written, 5 no memory. Why is told on one line of standard error.\n\nDocuments, in the folder docs: CHART.md the planning chart, GALLERY.md whole charts with their pages, WIRING.md wiring charts, MACHINE.md the machine, EXPLAIN.md explanations, SHOW.md the page for a browser, FAULTS.md every fault.";
+    "Status: 0 done, 2 words that can't be obeyed, 3 a text that is refused, a line or wheel that isn't there, or a panel that isn't wired for its chart, 4 a file that can't be read or an output that can't be written, 5 no memory. Why is told on one line of standard error. A file that is read may be -, standard input; one of them at most.\n\nDocuments, in the folder docs: CHART.md the planning chart, GALLERY.md whole charts with their pages, WIRING.md wiring charts, MACHINE.md the machine, EXPLAIN.md explanations, SHOW.md the page for a browser, FAULTS.md every fault.";
 
 /// How large a number may be: as large as the type has it.
 #[derive(Clone, Copy)]
-enum Size {
+pub(crate) enum Size {
     U8,
     U32,
     U64,
 }
 
-/// A word of a command, or a word with the one after it.
+/// A word of a command, or a word with the one after it. A file that is read may be `-`, which is standard input.
 #[derive(Clone, Copy)]
-enum Word {
+pub(crate) enum Word {
     /// A file, which has to be named.
     File {
         name: &'static str,
@@ -32,6 +32,11 @@ enum Word {
         name: &'static str,
         help: &'static str,
         size: Size,
+    },
+    /// Files, of which the first has to be named.
+    Files {
+        name: &'static str,
+        help: &'static str,
     },
     /// A file, which may be left out.
     Extra {
@@ -51,14 +56,43 @@ enum Word {
         value: &'static str,
         help: &'static str,
     },
+    /// Anything but a file that is read, behind a word of two hyphens, which may be left out.
+    Value {
+        name: &'static str,
+        long: &'static str,
+        value: &'static str,
+        help: &'static str,
+    },
+    /// A word of two hyphens alone, which may be left out.
+    Flag {
+        name: &'static str,
+        long: &'static str,
+        help: &'static str,
+    },
+}
+
+impl Word {
+    /// The name of a word that names files which are read.
+    pub(crate) fn input(&self) -> Option<&'static str> {
+        match self {
+            Word::File { name, .. }
+            | Word::Files { name, .. }
+            | Word::Extra { name, .. }
+            | Word::Option { name, .. } => Some(name),
+            Word::Number { .. }
+            | Word::ExtraNumber { .. }
+            | Word::Value { .. }
+            | Word::Flag { .. } => None,
+        }
+    }
 }
 
 /// A command with its words in their order.
 #[derive(Clone, Copy)]
-struct CommandRow {
-    name: &'static str,
+pub(crate) struct CommandRow {
+    pub name: &'static str,
     about: &'static str,
-    words: &'static [Word],
+    pub words: &'static [Word],
 }
 
 const CHART: Word = Word::File {
@@ -69,6 +103,11 @@ const CHART: Word = Word::File {
 const DECK: Word = Word::File {
     name: "DECK",
     help: "the deck of cards, a file",
+};
+
+const DECKS: Word = Word::Files {
+    name: "DECK",
+    help: "the deck of cards, a file; several are run one behind the other",
 };
 
 const DECK_TOO: Word = Word::Extra {
@@ -98,6 +137,38 @@ const DECK_ON_BOTH: Word = Word::Option {
     long: "deck",
     value: "DECK",
     help: "a deck of cards, a file; the first line that the panel prints otherwise is told",
+};
+
+const OUTPUT: Word = Word::Value {
+    name: "OUTPUT",
+    long: "output",
+    value: "FILE",
+    help: "the file that is written, in place of standard output; it is there only once it is whole",
+};
+
+const PAGES: Word = Word::Value {
+    name: "PAGES",
+    long: "page",
+    value: "N",
+    help: "prints page N alone, or pages N to M by N-M, once the whole deck has run",
+};
+
+const CHECK_FIRST: Word = Word::Flag {
+    name: "CHECK_FIRST",
+    long: "check-first",
+    help: "prints nothing if a card of the deck is refused",
+};
+
+const PLAIN_TEXT: Word = Word::File {
+    name: "TEXT",
+    help: "a text, a file",
+};
+
+const WITH: Word = Word::Value {
+    name: "WITH",
+    long: "with",
+    value: "C",
+    help: "the character for a byte that no card has; a blank if it is left out",
 };
 
 const PAGE: Word = Word::Number {
@@ -130,17 +201,29 @@ const FAULT: Word = Word::Number {
     size: Size::U8,
 };
 
+const ALL: Word = Word::Flag {
+    name: "ALL",
+    long: "all",
+    help: "tells all entries of a long ledger, and not only 20 at each end",
+};
+
+const ALL_FAULTS: Word = Word::Flag {
+    name: "ALL",
+    long: "all",
+    help: "tells every fault of the planning chart by its line, and not only the first",
+};
+
 /// The commands in the order of the help.
-static COMMANDS: [CommandRow; 13] = [
+pub(crate) static COMMANDS: &[CommandRow] = &[
     CommandRow {
         name: "run",
         about: "Prints the pages of a deck",
-        words: &[CHART, DECK],
+        words: &[PAGES, CHECK_FIRST, OUTPUT, CHART, DECKS],
     },
     CommandRow {
         name: "check",
         about: "Checks a planning chart, and all cards of a deck",
-        words: &[CHART, DECK_TOO],
+        words: &[ALL_FAULTS, CHART, DECK_TOO],
     },
     CommandRow {
         name: "layout",
@@ -168,6 +251,11 @@ static COMMANDS: [CommandRow; 13] = [
         words: &[WIRING],
     },
     CommandRow {
+        name: "chart",
+        about: "Prints the planning chart that a panel is wired for",
+        words: &[WIRING],
+    },
+    CommandRow {
         name: "match",
         about: "Tells whether a panel is wired for a planning chart, and so prints its report of every deck",
         words: &[DECK_ON_BOTH, CHART, WIRING],
@@ -183,6 +271,11 @@ static COMMANDS: [CommandRow; 13] = [
         words: &[TEXT, DECK, PAGE, LINE, WHEEL],
     },
     CommandRow {
+        name: "ledger",
+        about: "Prints the sum behind the figure on a wheel of a printed line, card by card",
+        words: &[ALL, TEXT, DECK, PAGE, LINE, WHEEL],
+    },
+    CommandRow {
         name: "trace",
         about: "Prints what each cycle of a run did, a line for each",
         words: &[TEXT, DECK],
@@ -190,7 +283,12 @@ static COMMANDS: [CommandRow; 13] = [
     CommandRow {
         name: "show",
         about: "Prints one page for a browser: the pages of a deck, the panel and one way of each impulse",
-        words: &[TEXT, DECK],
+        words: &[OUTPUT, TEXT, DECK],
+    },
+    CommandRow {
+        name: "fold",
+        about: "Prints a text as a deck: capitals for small letters, blanks for tabs and for what no card has",
+        words: &[WITH, PLAIN_TEXT],
     },
     CommandRow {
         name: "fault",
@@ -216,6 +314,10 @@ fn arg_of<'a>(alloc: Global, word: Word) -> Arg<'a> {
             .help(help)
             .required(true)
             .value_parser(number_parser(size)),
+        Word::Files { name, help } => Arg::new(alloc, name)
+            .help(help)
+            .required(true)
+            .num_args(1..),
         Word::Extra { name, help } => Arg::new(alloc, name).help(help),
         Word::ExtraNumber { name, help, size } => Arg::new(alloc, name)
             .help(help)
@@ -225,10 +327,20 @@ fn arg_of<'a>(alloc: Global, word: Word) -> Arg<'a> {
             long,
             value,
             help,
+        }
+        | Word::Value {
+            name,
+            long,
+            value,
+            help,
         } => Arg::new(alloc, name)
             .long(long)
             .value_name(value)
             .help(help),
+        Word::Flag { name, long, help } => Arg::new(alloc, name)
+            .long(long)
+            .help(help)
+            .action(ArgAction::SetTrue),
     }
 }
 
@@ -267,5 +379,5 @@ fn with_commands<'a>(
 
 /// The program's commands, each with its words.
 pub fn parser<'a>(alloc: Global) -> Result<Command<'a>, AllocError> {
-    with_commands(alloc, program(alloc)?, &COMMANDS)
+    with_commands(alloc, program(alloc)?, COMMANDS)
 }

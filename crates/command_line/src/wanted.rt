@@ -3,23 +3,44 @@
 ghost use Rattle.std.specs.Prelude.{◌≡◌};
 ghost use Rattle.clap.specs.Values.{kind_of};
 
-use crate::parser::parser;
+use crate::parser::{COMMANDS, Word, parser};
 use clap::error::ErrorKind;
 use clap::{ArgMatches, Error};
-use std::alloc::Global;
+use std::alloc::{AllocFailed, Global};
 use std::io;
-use std::io::ErrorKind as IoErrorKind;
+use std::io::{ErrorKind as IoErrorKind, Write};
+
+/// Pages from one to another, both among them, from 1. The last one doesn't come before the first.
+#[derive(Clone, Copy, Debug, PartialEq, Eq)]
+pub struct Pages {
+    pub first: u64,
+    pub last: u64,
+}
+
+/// What the words of a run ask for: the pages of decks, one behind the other, by a planning chart.
+#[derive(Drop)]
+pub struct Run<'a> {
+    pub chart: &'a str,
+    pub decks: Vec<&'a str>,
+    /// These pages alone.
+    pub pages: Option<Pages>,
+    /// Whether nothing is printed if a card is refused.
+    pub checks_first: bool,
+    /// The file that is written in place of standard output.
+    pub output: Option<&'a str>,
+}
 
 /// What the words of the command line ask for; files are told by their paths.
-#[derive(Clone, Copy)]
+#[derive(Drop)]
 pub enum Wanted<'a> {
-    /// The pages of a deck by a planning chart.
-    Run {
-        chart: &'a str,
-        deck: &'a str,
-    },
+    /// The pages of decks.
+    Run(Run<'a>),
     /// Whether a planning chart compiles.
     Check {
+        chart: &'a str,
+    },
+    /// Every fault of a planning chart.
+    ListFaults {
         chart: &'a str,
     },
     /// Whether a planning chart compiles, and all cards of a deck that it can't be run with.
@@ -56,6 +77,10 @@ pub enum Wanted<'a> {
     Upgrade {
         wiring: &'a str,
     },
+    /// The planning chart that a panel is wired for, as a wiring chart wires it.
+    Chart {
+        wiring: &'a str,
+    },
     /// Whether a panel, as a wiring chart wires it, is wired for a planning chart, and so prints its report of every deck.
     Match {
         chart: &'a str,
@@ -79,6 +104,16 @@ pub enum Wanted<'a> {
         line: u32,
         wheel: u32,
     },
+    /// The sum behind the figure on a wheel of a line that is printed of a deck, by a planning chart or a wiring chart; of a long one all
+    /// entries or only some.
+    Ledger {
+        text: &'a str,
+        deck: &'a str,
+        page: u64,
+        line: u32,
+        wheel: u32,
+        all: bool,
+    },
     /// What each cycle of a run over a deck did, by a planning chart or a wiring chart.
     Trace {
         text: &'a str,
@@ -88,6 +123,14 @@ pub enum Wanted<'a> {
     Show {
         text: &'a str,
         deck: &'a str,
+        /// The file that is written in place of standard output.
+        output: Option<&'a str>,
+    },
+    /// A text as a deck that the machine can read.
+    Fold {
+        text: &'a str,
+        /// The character for a byte that no card has.
+        with: Option<&'a str>,
     },
     /// What the guide to faults says of a fault.
     Fault {
@@ -157,6 +200,98 @@ fn file_of<'a>(given: &ArgMatches<'a>, word: &str) -> &'a str {
     given.get_str(word).unwrap_or("")
 }
 
+/// What is wrong with words that the parser lets through.
+#[derive(Clone, Copy, Debug, PartialEq, Eq)]
+enum Mistake {
+    /// Standard input is named for two files.
+    InputTwice,
+    /// The pages are neither a number from 1 nor two with a hyphen between them, the lower first.
+    NoPages,
+    /// A deck is named beside a chart of which every fault is to be told.
+    AllOfDeck,
+    /// Memory ran out.
+    Memory,
+}
+
+impl From<AllocFailed<&str>> for Mistake {
+    fn from(_refused: AllocFailed<&str>) -> Mistake {
+        Mistake::Memory
+    }
+}
+
+impl Mistake {
+    // What is told of it.
+    fn text(self) -> &'static str {
+        match self {
+            Mistake::InputTwice => "error: - is standard input, and stands for one file at most\n",
+            Mistake::NoPages => "error: --page takes the number of a page, or two as 3-5\n",
+            Mistake::AllOfDeck => "error: --all checks a planning chart alone, without a deck\n",
+            Mistake::Memory => "error: out of memory\n",
+        }
+    }
+
+    // Tells it. If standard error can't be written, the status alone tells of it.
+    fn told(self, rt: &HostRuntime) -> Refused {
+        if self == Mistake::Memory {
+            return Refused::Memory;
+        }
+        let _ = rt.stderr().write_all(self.text().as_bytes());
+        Refused::Mistaken
+    }
+}
+
+// The pages that a word names.
+fn pages_of(word: &str) -> Option<Pages> {
+    let pages = match word.split_once('-') {
+        Some((first, last)) => Pages {
+            first: first.parse().ok()?,
+            last: last.parse().ok()?,
+        },
+        None => {
+            let only = word.parse().ok()?;
+            Pages {
+                first: only,
+                last: only,
+            }
+        }
+    };
+    if pages.first < 1 || pages.last < pages.first {
+        return None;
+    }
+    Some(pages)
+}
+
+// What is asked for by the words of a run.
+fn run_wanted<'a>(alloc: Global, given: &ArgMatches<'a>) -> Result<Wanted<'a>, Mistake> {
+    let mut decks = Vec::new(alloc);
+    for deck in given.get_strs("DECK").unwrap_or(&[]) {
+        decks.push(*deck)?;
+    }
+    let pages = match given.get_str("PAGES") {
+        Some(word) => Some(pages_of(word).ok_or(Mistake::NoPages)?),
+        None => None,
+    };
+    Ok(Wanted::Run(Run {
+        chart: file_of(given, "CHART"),
+        decks,
+        pages,
+        checks_first: given.get_flag("CHECK_FIRST"),
+        output: given.get_str("OUTPUT"),
+    }))
+}
+
+// What is asked for by the words of a check, with a deck or without, or of every fault.
+fn check_wanted<'a>(given: &ArgMatches<'a>) -> Result<Wanted<'a>, Mistake> {
+    let chart = file_of(given, "CHART");
+    let all = given.get_flag("ALL");
+    match given.get_str("DECK") {
+        Some(_) if all => Err(Mistake::AllOfDeck),
+        Some(deck) => Ok(Wanted::CheckDeck { chart, deck }),
+        None if all => Ok(Wanted::ListFaults { chart }),
+        None => Ok(Wanted::Check { chart }),
+    }
+}
+
 // What is asked for by the words of a replay, with orders or without.
 fn replay_wanted<'a>(given: &ArgMatches<'a>) -> Wanted<'a> {
     let wiring = file_of(given, "WIRING");
@@ -185,83 +320,105 @@ fn match_wanted<'a>(given: &ArgMatches<'a>) -> Wanted<'a> {
     }
 }
 
-// What is asked for by the words of an explanation.
-fn explain_wanted<'a>(given: &ArgMatches<'a>) -> Wanted<'a> {
-    Wanted::Explain {
-        text: file_of(given, "TEXT"),
-        deck: file_of(given, "DECK"),
-        page: given.get_one("PAGE").unwrap_or(0),
-        line: given.get_one("LINE").unwrap_or(0),
-        wheel: given.get_one("WHEEL").unwrap_or(0),
-    }
-}
-
-// What is asked for by the words of a command on a planning chart and a deck, or on a text of either kind and a deck.
-fn deck_wanted<'a>(name: &str, given: &ArgMatches<'a>) -> Wanted<'a> {
-    let deck = file_of(given, "DECK");
-    match name {
-        "trace" => Wanted::Trace {
-            text: file_of(given, "TEXT"),
-            deck,
-        },
-        "show" => Wanted::Show {
-            text: file_of(given, "TEXT"),
-            deck,
-        },
-        _ => Wanted::Run {
+// What is asked for by the words of a command. The parser lets no other name through, and none without the words that it has to have.
+fn command_wanted<'a>(
+    alloc: Global,
+    name: &str,
+    given: &ArgMatches<'a>,
+) -> Result<Wanted<'a>, Mistake> {
+    Ok(match name {
+        "run" => run_wanted(alloc, given)?,
+        "check" => check_wanted(given)?,
+        "layout" => Wanted::Layout {
             chart: file_of(given, "CHART"),
-            deck,
         },
-    }
-}
-
-// What is asked for by the words of a check, with a deck or without.
-fn check_wanted<'a>(given: &ArgMatches<'a>) -> Wanted<'a> {
-    let chart = file_of(given, "CHART");
-    match given.get_str("DECK") {
-        Some(deck) => Wanted::CheckDeck { chart, deck },
-        None => Wanted::Check { chart },
-    }
-}
-
-// What is asked for by the words of a command on a planning chart alone.
-fn chart_wanted<'a>(name: &str, given: &ArgMatches<'a>) -> Wanted<'a> {
-    let chart = file_of(given, "CHART");
-    match name {
-        "layout" => Wanted::Layout { chart },
-        "legend" => Wanted::Legend { chart },
-        _ => Wanted::Wire { chart },
-    }
-}
-
-// What is asked for by the words of a command.
-fn command_wanted<'a>(name: &str, given: &ArgMatches<'a>) -> Wanted<'a> {
-    match name {
-        "run" | "trace" | "show" => deck_wanted(name, given),
-        "replay" => replay_wanted(given),
-        "match" => match_wanted(given),
-        "check" => check_wanted(given),
-        "explain" => explain_wanted(given),
         "fields" => Wanted::Fields {
             chart: file_of(given, "CHART"),
             deck: file_of(given, "DECK"),
             card: given.get_one("CARD").unwrap_or(1),
         },
+        "wire" => Wanted::Wire {
+            chart: file_of(given, "CHART"),
+        },
+        "replay" => replay_wanted(given),
         "upgrade" => Wanted::Upgrade {
+            wiring: file_of(given, "WIRING"),
+        },
+        "match" => match_wanted(given),
+        "legend" => Wanted::Legend {
+            chart: file_of(given, "CHART"),
+        },
+        "explain" => Wanted::Explain {
+            text: file_of(given, "TEXT"),
+            deck: file_of(given, "DECK"),
+            page: given.get_one("PAGE").unwrap_or(0),
+            line: given.get_one("LINE").unwrap_or(0),
+            wheel: given.get_one("WHEEL").unwrap_or(0),
+        },
+        "ledger" => Wanted::Ledger {
+            text: file_of(given, "TEXT"),
+            deck: file_of(given, "DECK"),
+            page: given.get_one("PAGE").unwrap_or(0),
+            line: given.get_one("LINE").unwrap_or(0),
+            wheel: given.get_one("WHEEL").unwrap_or(0),
+            all: given.get_flag("ALL"),
+        },
+        "trace" => Wanted::Trace {
+            text: file_of(given, "TEXT"),
+            deck: file_of(given, "DECK"),
+        },
+        "show" => Wanted::Show {
+            text: file_of(given, "TEXT"),
+            deck: file_of(given, "DECK"),
+            output: given.get_str("OUTPUT"),
+        },
+        "fold" => Wanted::Fold {
+            text: file_of(given, "TEXT"),
+            with: given.get_str("WITH"),
+        },
+        "chart" => Wanted::Chart {
             wiring: file_of(given, "WIRING"),
         },
         "fault" => Wanted::Fault {
             number: given.get_one("NN").unwrap_or(0),
         },
-        _ => chart_wanted(name, given),
+        _ => Wanted::StandardInput,
+    })
+}
+
+// Whether the words of a command name standard input for two files.
+fn names_input_twice(words: &[Word], given: &ArgMatches) -> bool {
+    let mut is_named = false;
+    for word in words {
+        let Some(name) = word.input() else {
+            continue;
+        };
+        for path in given.get_strs(name).unwrap_or(&[]) {
+            if *path == "-" {
+                if is_named {
+                    return true;
+                }
+                is_named = true;
+            }
+        }
+    }
+    false
+}
+
+// The words that a command takes.
+fn words_of(name: &str) -> &'static [Word] {
+    match COMMANDS.iter().find(|row| row.name == name) {
+        Some(row) => row.words,
+        None => &[],
     }
 }
 
 // What is asked for by words that match.
-fn wanted_by<'a>(matches: &ArgMatches<'a>) -> Wanted<'a> {
+fn wanted_by<'a>(alloc: Global, matches: &ArgMatches<'a>) -> Result<Wanted<'a>, Mistake> {
     match matches.subcommand() {
-        Some((name, given)) => command_wanted(name, given),
-        None => Wanted::StandardInput,
+        Some((name, given)) if names_input_twice(words_of(name), given) => Err(Mistake::InputTwice),
+        Some((name, given)) => command_wanted(alloc, name, given),
+        None => Ok(Wanted::StandardInput),
     }
 }
 
@@ -269,11 +426,11 @@ fn wanted_by<'a>(matches: &ArgMatches<'a>) -> Wanted<'a> {
 ///
 /// # Errors
 ///
-/// `Memory` where a growth was refused; `Mistaken` where the words are no command, and `Answered` where they ask for the help or
-/// the version, with the parser's text written; `Unwritten` where that could not be.
+/// `Memory` if a growth was refused; `Mistaken` if the words are no command, or name standard input for two files, and `Answered` if they
+/// ask for the help or the version, with the text of that written; `Unwritten` if that could not be.
 pub fn read_words<'a>(rt: &HostRuntime, words: &'a [String]) -> Result<Wanted<'a>, Refused> {
     match matches_of(rt.alloc(), words) {
-        Ok(matches) => Ok(wanted_by(&matches)),
+        Ok(matches) => wanted_by(rt.alloc(), &matches).map_err(|mistake| mistake.told(rt)),
         Err(error) => Err(told(rt, &error)),
     }
 }

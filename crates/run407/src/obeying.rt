@@ -1,0 +1,181 @@
+//! What the words ask for, done on the files that they name.
+
+use crate::files::{open, open_all, read};
+use crate::folds::fold;
+use crate::output::Output;
+use crate::running::waiting_pages;
+use crate::watched::Watched;
+use browser_pages::show_to_end;
+use chart_calls::chart_to_end;
+use check_calls::check_deck_to_end;
+use command_line::Wanted;
+use commands::{
+    Command, Ending, Fault, chart_and_deck, read_whole, replay_by_orders_to_end, run_to_end,
+    serve_command,
+};
+use fault_guide::guides::fault_to_end;
+use fault_lists::list_chart_to_end;
+use ledger_calls::ledger_to_end;
+use match_calls::{match_deck_to_end, match_to_end};
+use panel_guides::{Place, explain_to_end, legend_to_end};
+use sheet_calls::{fields_to_end, layout_to_end};
+use trace_calls::trace_to_end;
+use whole_runs::run_whole_to_end;
+
+/// Does what the words ask for. Texts are read whole, and decks and an output are opened, before a fault of any of them is told.
+///
+/// # Errors
+///
+/// `File` if a file can't be read, `Write` if the output can't be written, and `Memory`: nothing is done and nothing is told yet.
+pub fn obey<'a>(rt: &HostRuntime, wanted: Wanted<'a>) -> Result<Ending, Fault<'a>> {
+    let alloc = rt.alloc();
+    let out = &mut rt.stdout();
+    let faults = &mut rt.stderr();
+    let done = match wanted {
+        Wanted::Run(run) => {
+            let text = read(rt, run.chart)?;
+            let decks = open_all(rt, run.decks.as_slice())?;
+            let mut pages = Output::open(rt, run.output)?;
+            let cards = Watched::new(rt, decks, !pages.is_terminal());
+            let text = text.as_slice();
+            let done = match waiting_pages(&run) {
+                Some(range) => run_whole_to_end(alloc, text, cards, range, &mut pages, faults),
+                None => run_to_end(alloc, text, cards, &mut pages, faults),
+            };
+            pages.finish(rt, done)
+        }
+        Wanted::StandardInput => {
+            let text = read_whole(alloc, rt.stdin(), "-")?;
+            let (chart, deck) = chart_and_deck(text.as_slice());
+            run_to_end(alloc, chart, deck, out, faults)
+        }
+        Wanted::Check { chart } => serve_text(rt, Command::Check, chart)?,
+        Wanted::ListFaults { chart } => {
+            let text = read(rt, chart)?;
+            list_chart_to_end(alloc, text.as_slice(), out, faults)
+        }
+        Wanted::CheckDeck { chart, deck } => {
+            let text = read(rt, chart)?;
+            let cards = open(rt, deck)?;
+            check_deck_to_end(alloc, text.as_slice(), cards, out, faults)
+        }
+        Wanted::Layout { chart } => {
+            let text = read(rt, chart)?;
+            layout_to_end(alloc, text.as_slice(), out, faults)
+        }
+        Wanted::Fields { chart, deck, card } => {
+            let text = read(rt, chart)?;
+            let cards = open(rt, deck)?;
+            fields_to_end(alloc, text.as_slice(), deck, cards, card, out, faults)
+        }
+        Wanted::Wire { chart } => serve_text(rt, Command::Wire, chart)?,
+        Wanted::Replay { wiring, deck } => {
+            let text = read(rt, wiring)?;
+            let cards = open(rt, deck)?;
+            let replay = Command::Replay;
+            serve_command(alloc, replay, text.as_slice(), deck, cards, out, faults)
+        }
+        Wanted::ReplayByOrders {
+            wiring,
+            orders,
+            deck,
+        } => {
+            let text = read(rt, wiring)?;
+            let lists = read(rt, orders)?;
+            let cards = open(rt, deck)?;
+            let (text, lists) = (text.as_slice(), lists.as_slice());
+            replay_by_orders_to_end(alloc, text, lists, deck, cards, out, faults)
+        }
+        Wanted::Upgrade { wiring } => serve_text(rt, Command::Upgrade, wiring)?,
+        Wanted::Match { chart, wiring } => {
+            let text = read(rt, chart)?;
+            let panel = read(rt, wiring)?;
+            match_to_end(alloc, text.as_slice(), panel.as_slice(), out, faults)
+        }
+        Wanted::MatchDeck {
+            chart,
+            wiring,
+            deck,
+        } => {
+            let text = read(rt, chart)?;
+            let panel = read(rt, wiring)?;
+            let cards = open(rt, deck)?;
+            let (text, panel) = (text.as_slice(), panel.as_slice());
+            match_deck_to_end(alloc, text, panel, deck, cards, out, faults)
+        }
+        Wanted::Chart { wiring } => {
+            let panel = read(rt, wiring)?;
+            chart_to_end(alloc, panel.as_slice(), out, faults)
+        }
+        Wanted::Legend { chart } => {
+            let text = read(rt, chart)?;
+            legend_to_end(alloc, text.as_slice(), out, faults)
+        }
+        Wanted::Explain {
+            text,
+            deck,
+            page,
+            line,
+            wheel,
+        } => {
+            let panel = read(rt, text)?;
+            let cards = open(rt, deck)?;
+            let place = Place { page, line, wheel };
+            explain_to_end(alloc, panel.as_slice(), deck, cards, place, out, faults)
+        }
+        Wanted::Ledger {
+            text,
+            deck,
+            page,
+            line,
+            wheel,
+            all,
+        } => {
+            let panel = read(rt, text)?;
+            let cards = open(rt, deck)?;
+            let place = Place { page, line, wheel };
+            ledger_to_end(
+                alloc,
+                panel.as_slice(),
+                deck,
+                cards,
+                place,
+                all,
+                out,
+                faults,
+            )
+        }
+        Wanted::Trace { text, deck } => {
+            let panel = read(rt, text)?;
+            let cards = open(rt, deck)?;
+            trace_to_end(alloc, panel.as_slice(), deck, cards, out, faults)
+        }
+        Wanted::Show { text, deck, output } => {
+            let panel = read(rt, text)?;
+            let cards = open(rt, deck)?;
+            let mut page = Output::open(rt, output)?;
+            let done = show_to_end(alloc, panel.as_slice(), deck, cards, &mut page, faults);
+            page.finish(rt, done)
+        }
+        Wanted::Fold { text, with } => fold(rt, text, with)?,
+        Wanted::Fault { number } => fault_to_end(alloc, number, out, faults),
+    };
+    Ok(done)
+}
+
+// Does a command that reads no deck.
+fn serve_text<'a>(rt: &HostRuntime, command: Command, path: &'a str) -> Result<Ending, Fault<'a>> {
+    let text = read(rt, path)?;
+    let no_deck = b"".as_slice();
+    let out = &mut rt.stdout();
+    let faults = &mut rt.stderr();
+    Ok(serve_command(
+        rt.alloc(),
+        command,
+        text.as_slice(),
+        "-",
+        no_deck,
+        out,
+        faults,
+    ))
+}

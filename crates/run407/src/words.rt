@@ -1,0 +1,58 @@
+//! The words of the command line, and what is told of them.
+
+ghost use Rattle.std.specs.Prelude.{◌≡◌, ◌≢◌};
+ghost use Rattle.std.specs.IoError.{error_kind};
+
+use command_line::Refused;
+use commands::{Fault, tell, unprinted};
+use std::io;
+use std::io::{ErrorKind, Write};
+
+/// The status of words that can't be read.
+const USAGE: u8 = 2;
+
+/// The words, the program's name first.
+///
+/// # Errors
+///
+/// One of them is no UTF-8, or a growth was refused.
+pub fn given_words(rt: &HostRuntime) -> io::Result<Vec<String>> {
+    let mut words = Vec::new(rt.alloc());
+    for word in std::env::args(rt)? {
+        words.push(word)?;
+    }
+    Ok(words)
+}
+
+/// Tells why the words can't even be had: no memory was left, or one of them is no UTF-8. Answers the status.
+pub fn tell_wordless(rt: &HostRuntime, error: &io::Error) -> u8
+    ensures memory { error_kind error.now ≡ ErrorKind.OutOfMemory → result ≡ 5 }
+    ensures others { error_kind error.now ≢ ErrorKind.OutOfMemory → result ≡ 2 }
+{
+    let mut faults = rt.stderr();
+    if error.kind() == ErrorKind::OutOfMemory {
+        return tell(&Fault::Memory, &mut faults).status;
+    }
+    // If even this can't be written, the status alone tells of it.
+    let _ = faults.write_all(b"error: a word is no UTF-8 text\n");
+    USAGE
+}
+
+/// Answers the status if the words ask for nothing that is still to be done. Want of memory, and that the help can't be written, are told
+/// here.
+pub fn tell_refused(rt: &HostRuntime, refused: &Refused) -> u8
+    ensures memory { refused.now ≡ Refused.Memory → result ≡ 5 }
+    ensures mistaken { refused.now ≡ Refused.Mistaken → result ≡ 2 }
+    ensures answered { refused.now ≡ Refused.Answered → result ≡ 0 }
+{
+    match refused {
+        Refused::Memory => {
+            tell(&Fault::Memory, &mut rt.stderr());
+        }
+        Refused::Unwritten(error) => {
+            tell(&unprinted(error), &mut rt.stderr());
+        }
+        Refused::Mistaken | Refused::Answered => {}
+    }
+    refused.status()
+}

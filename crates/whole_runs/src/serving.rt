@@ -1,0 +1,65 @@
+//! A run whose pages are printed once the deck has run whole, over any reader and writers.
+
+ghost use Rattle.std.specs.Prelude.{◌≡◌, ◌≤◌, ◌⊎◌, IfErr, OnOk};
+ghost use Rattle.faults.specs.Lines.{IsTold};
+ghost use Rattle.faults.specs.Status.{status_of};
+ghost use Rattle.whole_runs.specs.Whole.{HasPrintedChosen, StopsWhole};
+
+use crate::pages::{PageRange, chosen_pages};
+use commands::print_run;
+use faults::{Ending, Fault, tell};
+use program_io::put;
+use std::alloc::Global;
+use std::io::{Read, Write};
+
+/// Runs a deck through a planning chart, and prints the pages that are in the range once the whole deck has run. The report is held until
+/// then.
+///
+/// # Errors
+///
+/// As `print_run` of `commands` tells, and nothing is printed; `Memory` if a growth was refused and `Write` if the output can't be
+/// written, and then a part of the pages may have been printed.
+pub fn print_whole_run<'a, R: Read + Drop, W: Write>(
+    alloc: Global,
+    chart: &[u8],
+    deck: R,
+    pages: PageRange,
+    out: &mut W,
+) -> Result<(), Fault<'a>>
+    ensures printed { OnOk result (HasPrintedChosen chart.now (R.remaining deck) pages (W.contents out.old) (W.contents out.new)) }
+    ensures stopped { IfErr result (λ told. StopsWhole chart.now (R.remaining deck) told (out.new ≡ out.old)) }
+{
+    let mut report = Vec::new(alloc);
+    print_run(alloc, chart, deck, &mut report)?;
+    put(out, chosen_pages(report.as_slice(), pages))
+}
+
+/// Runs a deck as [`print_whole_run`] does, and tells on one line of `faults` why the pages were not printed.
+///
+/// The statuses are 0 done, and then nothing is told, 3 refused input, 4 file fault, 5 memory. Nothing is printed if a text or a card is
+/// refused or the deck can't be read further. If the output can't be written or memory runs out, a part of the pages may have been.
+pub fn run_whole_to_end<R: Read + Drop, W: Write, V: Write>(
+    alloc: Global,
+    chart: &[u8],
+    deck: R,
+    pages: PageRange,
+    out: &mut W,
+    faults: &mut V,
+) -> Ending
+    ensures done { result.status ≡ 0 → HasPrintedChosen chart.now (R.remaining deck) pages (W.contents out.old) (W.contents out.new)
+        × (faults.new ≡ faults.old) }
+    ensures stopped { 3 ≤ result.status → (told : Fault) × (result.status ≡ status_of told)
+        × StopsWhole chart.now (R.remaining deck) told (out.new ≡ out.old)
+        × IsTold told result.is_told (V.contents faults.old) (V.contents faults.new) }
+    ensures unprinted { result.status ≡ 3 → out.new ≡ out.old }
+    ensures memory { result.status ≡ 5 → IsTold Fault.Memory result.is_told (V.contents faults.old) (V.contents faults.new) }
+    ensures statuses { (result.status ≡ 0) ⊎ (3 ≤ result.status × result.status ≤ 5) }
+{
+    match print_whole_run(alloc, chart, deck, pages, out) {
+        Ok(()) => Ending {
+            status: 0,
+            is_told: true,
+        },
+        Err(fault) => tell(&fault, faults),
+    }
+}
