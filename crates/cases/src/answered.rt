@@ -32,7 +32,8 @@ pub struct Served {
 }
 
 impl Served {
-    fn new(alloc: Global) -> Served {
+    /// Nothing is printed and nothing told, with status 0.
+    pub fn new(alloc: Global) -> Served {
         Served {
             output: Vec::new(alloc),
             told: Vec::new(alloc),

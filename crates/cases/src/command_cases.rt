@@ -14,7 +14,7 @@
 //! The rows of `show` are refused; its pages stand in `shown_cases`.
 //! Of a million cards the number of bytes printed stands in place of these.
 
-ghost use Rattle.std.specs.Prelude.{IsSome};
+ghost use Rattle.std.specs.Prelude.{IfSome, IsSome};
 ghost use Rattle.card_code.specs.CardCode.{rows_of};
 
 use crate::answered::{Served, write_status};
@@ -181,13 +181,21 @@ fn pages_of(words: &str) -> Option<PageRange> {
     }
 }
 
-// The character that a fold puts for what no card has; a blank if no card has what stands there.
-fn fill_of(words: &str) -> u8
-    ensures { IsSome (rows_of result) }
+// The character that a fold puts for what no card has, if it is one of a card.
+fn fill_of(word: &str) -> Option<u8>
+    ensures { IfSome result (λ byte. IsSome (rows_of byte)) }
 {
-    match words.as_bytes() {
-        [byte] if Column::of_char(char::from(*byte)).is_some() => *byte,
-        _ => b' ',
+    match word.as_bytes() {
+        [byte] if Column::of_char(char::from(*byte)).is_some() => Some(*byte),
+        _ => None,
+    }
+}
+
+// A text, folded; nothing is done if the character is none of a card.
+fn folded(alloc: Global, text: &[u8], fill: &str) -> Served {
+    match fill_of(fill) {
+        Some(fill) => Served::fold(alloc, text, fill),
+        None => Served::new(alloc),
     }
 }
 
@@ -201,7 +209,7 @@ fn worded<R: Read + Drop>(rt: &HostRuntime, command: &str, text: &[u8], deck: R)
         return Ok(Served::of_fault(alloc, number.parse()?));
     }
     if let Some(fill) = command.strip_prefix("fold ") {
-        return Ok(Served::fold(alloc, text, fill_of(fill)));
+        return Ok(folded(alloc, text, fill));
     }
     if let Some(pages) = command.strip_prefix("run pages ").and_then(pages_of) {
         return Ok(Served::run_pages(alloc, text, deck, pages));
@@ -227,7 +235,7 @@ fn answer<R: Read + Drop>(rt: &HostRuntime, command: &str, text: &[u8], deck: R)
     match command {
         "layout" => Ok(Served::layout(alloc, text)),
         "legend" => Ok(Served::legend(alloc, text)),
-        "fold" => Ok(Served::fold(alloc, text, b' ')),
+        "fold" => Ok(folded(alloc, text, " ")),
         "trace" => Ok(Served::trace(alloc, text, deck)),
         "check all" => Ok(Served::list_faults(alloc, text)),
         "check deck" => Ok(Served::check_deck(alloc, text, deck)),
