@@ -3,6 +3,7 @@ mod Outcomes
 mod PrintedPages
 pub mod Refusing
 pub mod Stopping
+pub mod RunEnds
 mod Streaming
 mod Upgrading
 pub mod ServedReplays

@@ -5,8 +5,8 @@ use Rattle.std.specs.Prelude.{IfErr, MatchResult, OnOk, ⊤}
 use Rattle.std.specs.Io.KnownBytes.{Appends, Keeps}
 use Rattle.card_lines.specs.declared.fault.ReadFault.{ReadFault}
 use Rattle.card_lines.specs.declared.fault.ReadFault.TheVariants as read
-use Rattle.commands.proofs.Stopping.{chart_refusal}
-use Rattle.program_io.proofs.Stopping.{named_status, stopped_status, told_of_device, told_of_memory}
+use Rattle.commands.proofs.RunEnds.{line_of, run_device, run_ends_status, run_memory}
+use Rattle.program_io.proofs.Stopping.{stopped_status, told_of_device, told_of_memory}
 use Rattle.commands.specs.Answers.{CompilesAs, HasWiring}
 use Rattle.program_io.specs.Commands.{word_of}
 use Rattle.program_io.specs.Stops.{Stops, deck_unread, memory_wanting, output_unwritten, texts_refused}
@@ -15,7 +15,7 @@ use Rattle.commands.specs.Streamed.{EndsRun, HasFailed, HasRefused, HasRunWhole,
 use Rattle.program_io.specs.declared.command.Command.{Command}
 use Rattle.program_io.specs.declared.command.Command.TheVariants as command
 use Rattle.compile407.specs.Compilation.{Compilation}
-use Rattle.faults.proofs.Statuses.{deck_status, memory_or_not, run_status}
+use Rattle.faults.proofs.Statuses.{memory_or_not}
 use Rattle.faults.specs.Lines.{IsTold}
 use Rattle.faults.specs.Status.{status_of}
 use Rattle.faults.specs.Told.{deck_told, of_card, run_told}
@@ -81,42 +81,6 @@ ends_by_chart text reader old new met told Unprinted refuses same unprinted = by
     by (inl is) = chart_unread (same ∙ is) unprinted
     by (inr not_memory) = chart_refused (subst (RefusesChart text) (sym same) (refuses not_memory)) unprinted
 
--- what can be told of a run
-data Tells (told : Fault) : Type 0 where
-  refused : status_of told ≡ 3 → Tells told
-  unread : (card : ℕ) → told ≡ fault.Unread card → Tells told
-  unwritten : told ≡ fault.Write → Tells told
-  memory : told ≡ fault.Memory → Tells told
-
-refused_or_memory : (told : Fault) → (told ≢ fault.Memory → status_of told ≡ 3) → Tells told
-refused_or_memory told three = by (memory_or_not told)
-  where
-    by : (told ≡ fault.Memory) ⊎ (told ≢ fault.Memory) → Tells told
-    by (inl is) = memory is
-    by (inr not_memory) = refused (three not_memory)
-
-reading_tells : (unread : ReadFault) (told : Fault) → told ≡ read_told unread → Tells told
-reading_tells (read.Deck of_deck) told named = refused_or_memory told (named_status deck_told deck_status of_deck told named)
-reading_tells (read.Read line) told named = unread line named
-reading_tells read.Failed told named = refused (ap status_of named)
-
-run_tells : (of_run : RunFault) (told : Fault) → told ≡ run_told of_run → Tells told
-run_tells of_run told named = refused_or_memory told (named_status run_told run_status of_run told named)
-
-cause_tells : (met : StreamCause) (told : Fault) → IsToldOf met told → Tells told
-cause_tells (cause.Card of_read) told named = reading_tells of_read told named
-cause_tells (cause.Invalid invalid card) told named = run_tells (of_card invalid card) told named
-cause_tells (cause.Misfit misfit) told named = run_tells (deck.DoesNotFit misfit.level misfit.name misfit.card) told named
-cause_tells cause.Write told (inl is) = memory is
-cause_tells cause.Write told (inr is) = unwritten is
-cause_tells cause.Memory told named = memory named
-
-ends_tell : (text : List ℕ) (reader old new : Option (List ℕ)) (told : Fault) (Unprinted : Type 0)
-    → EndsRun text reader old new told Unprinted → Tells told
-ends_tell text reader old new told Unprinted (chart_refused refuses unprinted) = refused_or_memory told (chart_refusal text told refuses)
-ends_tell text reader old new told Unprinted (chart_unread is unprinted) = memory is
-ends_tell text reader old new told Unprinted (run_stopped stops) = cause_tells stops.fault.cause told stops.named
-
 -- a run whose texts are refused
 pub refused_run : (text : List ℕ) (reader old new : Option (List ℕ)) (told : Fault) (Unprinted : Type 0)
     → EndsRun text reader old new told Unprinted → status_of told ≡ 3 → HasRefused command.Run text reader old new told Unprinted
@@ -157,38 +121,6 @@ failed_by (Err told) given known text reader old new unreadable Unprinted same h
 module _ (text : List ℕ) (reader old new : Option (List ℕ)) (told unreadable : Fault) (Unprinted : Type 0) (status : ℕ) (is_told : Bool)
     (before after : Option (List ℕ)) (is_status : status ≡ status_of told) (line : IsTold told is_told before after)
     (path : status_of unreadable ≡ 4) where
-  line_of : (met : Fault) → told ≡ met → IsTold met is_told before after
-  line_of met is = subst (λ (of : Fault). IsTold of is_told before after) is line
-
-  -- a run: a card that was not read, or the output
-  pub run_device : EndsRun text reader old new told Unprinted → status ≡ 4
-      → IsTold fault.Write is_told before after ⊎ ((card : ℕ) × IsTold (fault.Unread card) is_told before after)
-  run_device ends four = by (ends_tell text reader old new told Unprinted ends)
-    where
-      by : Tells told → IsTold fault.Write is_told before after ⊎ ((card : ℕ) × IsTold (fault.Unread card) is_told before after)
-      by (refused three) = absurd (omega (arith, is_status, three, four))
-      by (unread card is) = inr (card, line_of (fault.Unread card) is)
-      by (unwritten is) = inl (line_of fault.Write is)
-      by (memory is) = absurd (omega (arith, is_status, ap status_of is, four))
-
-  pub run_memory : EndsRun text reader old new told Unprinted → status ≡ 5 → IsTold fault.Memory is_told before after
-  run_memory ends five = by (ends_tell text reader old new told Unprinted ends)
-    where
-      by : Tells told → IsTold fault.Memory is_told before after
-      by (refused three) = absurd (omega (arith, is_status, three, five))
-      by (unread card is) = absurd (omega (arith, is_status, ap status_of is, five))
-      by (unwritten is) = absurd (omega (arith, is_status, ap status_of is, five))
-      by (memory is) = line_of fault.Memory is
-
-  pub run_ends_status : EndsRun text reader old new told Unprinted → 3 ≤ status × status ≤ 5
-  run_ends_status ends = by (ends_tell text reader old new told Unprinted ends)
-    where
-      by : Tells told → 3 ≤ status × status ≤ 5
-      by (refused three) = (omega (arith, is_status, three), omega (arith, is_status, three))
-      by (unread card is) = (omega (arith, is_status, ap status_of is), omega (arith, is_status, ap status_of is))
-      by (unwritten is) = (omega (arith, is_status, ap status_of is), omega (arith, is_status, ap status_of is))
-      by (memory is) = (omega (arith, is_status, ap status_of is), omega (arith, is_status, ap status_of is))
-
   abbrev Device : Command → Type 0
   Device known = (Unprinted × (known ≡ command.Replay) × HasWiring text × IsTold unreadable is_told before after)
       ⊎ IsTold fault.Write is_told before after
@@ -206,8 +138,8 @@ module _ (text : List ℕ) (reader old new : Option (List ℕ)) (told unreadable
   -- of a replay its deck too, where the wiring chart reads
   replay_device : status ≡ 4 → Stops told unreadable Unprinted → (told ≡ unreadable → HasWiring text) → Device command.Replay
   replay_device four (texts_refused three unprinted) reads = absurd (omega (arith, is_status, three, four))
-  replay_device four (deck_unread is unprinted) reads = inl (unprinted, refl, reads is, line_of unreadable is)
-  replay_device four (output_unwritten is) reads = inr (inl (line_of fault.Write is))
+  replay_device four (deck_unread is unprinted) reads = inl (unprinted, refl, reads is, line_of text reader old new told Unprinted status is_told before after is_status line unreadable is)
+  replay_device four (output_unwritten is) reads = inr (inl (line_of text reader old new told Unprinted status is_told before after is_status line fault.Write is))
   replay_device four (memory_wanting is) reads = absurd (omega (arith, is_status, ap status_of is, four))
 
   of_run_device : IsTold fault.Write is_told before after ⊎ ((card : ℕ) × IsTold (fault.Unread card) is_told before after)
@@ -216,7 +148,7 @@ module _ (text : List ℕ) (reader old new : Option (List ℕ)) (told unreadable
   of_run_device (inr unread_card) = inr (inr (refl, unread_card))
 
   pub told_of_device_by : (known : Command) → HasFailed known text reader old new told unreadable Unprinted → status ≡ 4 → Device known
-  told_of_device_by command.Run has four = of_run_device (run_device has four)
+  told_of_device_by command.Run has four = of_run_device (run_device text reader old new told Unprinted status is_told before after is_status line has four)
   told_of_device_by command.Check has four = output_device command.Check four has
   told_of_device_by command.Wire has four = output_device command.Wire four has
   told_of_device_by command.Replay has four = replay_device four has.0 has.1
@@ -224,7 +156,7 @@ module _ (text : List ℕ) (reader old new : Option (List ℕ)) (told unreadable
 
   pub told_of_memory_by : (known : Command) → HasFailed known text reader old new told unreadable Unprinted → status ≡ 5
       → IsTold fault.Memory is_told before after
-  told_of_memory_by command.Run has five = run_memory has five
+  told_of_memory_by command.Run has five = run_memory text reader old new told Unprinted status is_told before after is_status line has five
   told_of_memory_by command.Check has five =
       told_of_memory told fault.Write Unprinted status is_told before after has is_status line refl five
   told_of_memory_by command.Wire has five =
@@ -235,7 +167,7 @@ module _ (text : List ℕ) (reader old new : Option (List ℕ)) (told unreadable
       told_of_memory told fault.Write Unprinted status is_told before after has is_status line refl five
 
   pub told_status_by : (known : Command) → HasFailed known text reader old new told unreadable Unprinted → 3 ≤ status × status ≤ 5
-  told_status_by command.Run has = run_ends_status has
+  told_status_by command.Run has = run_ends_status text reader old new told Unprinted status is_told before after is_status line has
   told_status_by command.Check has = stopped_status told fault.Write Unprinted status is_told before after has is_status line refl
   told_status_by command.Wire has = stopped_status told fault.Write Unprinted status is_told before after has is_status line refl
   told_status_by command.Replay has = stopped_status told unreadable Unprinted status is_told before after has.0 is_status line path

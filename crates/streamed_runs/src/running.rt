@@ -18,29 +18,6 @@ use page_writer::PageWriter;
 use setups::Setup;
 use std::alloc::Global;
 
-// Runs the deck to its end, but for what ends the last page, and tells how many cards there were.
-fn run_cards<S: Source + Drop, W: Sink + Drop>(
-    alloc: Global,
-    chart: &Chart,
-    setup: &Setup,
-    cards: &mut CardLines<S>,
-    pages: &mut PageWriter<W>,
-) -> Result<u32, StreamCause>
-    requires serves { Serves chart.now setup.now }
-    requires unbegun { IsUnbegun setup.now cards.old pages.old }
-    ensures run { MatchResult result
-        (λ count. Ends S.left W.held W.has_failed chart.now (start_of S.left W.held setup.now cards.old pages.old) cards.new count pages.new)
-        (λ stopped. Stops W.held W.has_failed chart.now (start_of S.left W.held setup.now cards.old pages.old) stopped
-        (S.left cards.new.source) pages.new) }
-    ensures failed { IfErr result (λ fault. (line : ℕ) → fault ≡ cause.Card (read.Read line) → S.has_failed cards.new.source ≡ true) }
-    ensures source { S.borrow cards.new.source ≡ S.borrow cards.old.source }
-    ensures sink { W.borrow pages.new.out.sink ≡ W.borrow pages.old.out.sink }
-{
-    let mut run = begin(alloc, chart, setup)?;
-    while step(chart, cards, &mut run, pages)? {}
-    Ok(run.count)
-}
-
 // Stops a run for a cause. What waits is written first; where the sink fails at that, or has failed before, it is told in place of the cause.
 fn stop<W: Sink + Drop>(pages: &mut PageWriter<W>, stopped: StreamCause) -> StreamFault
     ensures bytes { PutsOut W.held W.has_failed stopped result pages.old.out pages.new.out }
@@ -76,13 +53,19 @@ fn run_pages<S: Source + Drop, W: Sink + Drop>(
     ensures source { S.borrow cards.new.source ≡ S.borrow cards.old.source }
     ensures sink { W.borrow pages.new.out.sink ≡ W.borrow pages.old.out.sink }
 {
-    match run_cards(alloc, chart, setup, cards, pages) {
-        Ok(count) => {
-            pages.end()?;
-            Ok(u64::from(count))
+    let mut run = match begin(alloc, chart, setup) {
+        Ok(run) => run,
+        Err(stopped) => return Err(stop(pages, stopped)),
+    };
+    loop {
+        match step(chart, cards, &mut run, pages) {
+            Ok(true) => {}
+            Ok(false) => break,
+            Err(stopped) => return Err(stop(pages, stopped)),
         }
-        Err(stopped) => Err(stop(pages, stopped)),
     }
+    pages.end()?;
+    Ok(u64::from(run.count))
 }
 
 /// What is left of a streamed run.

@@ -8,7 +8,7 @@ use Rattle.faults.specs.Lines.{IsTold}
 use Rattle.faults.specs.Status.{status_of}
 use Rattle.faults.specs.declared.fault.Fault.{Fault}
 use Rattle.faults.specs.declared.fault.Fault.TheVariants as fault
-use Rattle.whole_runs.proofs.Ends.{run_ends_status, run_memory}
+use Rattle.commands.proofs.RunEnds.{run_ends_status, run_memory}
 use Rattle.whole_runs.specs.Pages.{chosen_pages}
 use Rattle.whole_runs.specs.Whole.{HasPrintedChosen, StopsWhole, run_stopped as held_back, unwritten}
 use Rattle.whole_runs.specs.declared.pages.PageRange.{PageRange}

@@ -1,6 +1,6 @@
-use Rattle.std.proofs.Common.{◌∙◌, inr, refl, sym}
-use Rattle.commands.proofs.Streaming.{refused_run, run_device, run_ends_status, run_memory}
-use Rattle.faults.specs.declared.fault.Fault.TheVariants as fault
+use Rattle.std.proofs.Common.{◌∙◌, inr, sym}
+use Rattle.commands.proofs.RunEnds.{run_device, run_ends_status, run_memory}
+use Rattle.commands.proofs.Streaming.{refused_run}
 use Rattle.commands.proofs.running.run_to_end.Goals as goal
 
 pub returns-in-Err-clause-refused : goal.returns-in-Err-clause-refused
@@ -12,18 +12,18 @@ returns-in-Err-clause-refused g c = λ three. (
 
 pub returns-in-Err-clause-device : goal.returns-in-Err-clause-device
 returns-in-Err-clause-device g c =
-    run_device c.args.chart.now (g.R.Read.remaining c.args.deck) _ _ c.in-Err.fault fault.Write _ c.tell.result.status
+    run_device c.args.chart.now (g.R.Read.remaining c.args.deck) _ _ c.in-Err.fault _ c.tell.result.status
     c.tell.result.is_told (g.V.Write.contents c.args.faults.now) (g.V.Write.contents c.tell.new.faults)
-    c.tell.ensures.status c.tell.ensures.line refl c.in-Err.ensures.ends
+    c.tell.ensures.status c.tell.ensures.line c.in-Err.ensures.ends
 
 pub returns-in-Err-clause-memory : goal.returns-in-Err-clause-memory
 returns-in-Err-clause-memory g c =
-    run_memory c.args.chart.now (g.R.Read.remaining c.args.deck) _ _ c.in-Err.fault fault.Write _ c.tell.result.status
+    run_memory c.args.chart.now (g.R.Read.remaining c.args.deck) _ _ c.in-Err.fault _ c.tell.result.status
     c.tell.result.is_told (g.V.Write.contents c.args.faults.now) (g.V.Write.contents c.tell.new.faults)
-    c.tell.ensures.status c.tell.ensures.line refl c.in-Err.ensures.ends
+    c.tell.ensures.status c.tell.ensures.line c.in-Err.ensures.ends
 
 pub returns-in-Err-clause-statuses : goal.returns-in-Err-clause-statuses
 returns-in-Err-clause-statuses g c =
-    inr (run_ends_status c.args.chart.now (g.R.Read.remaining c.args.deck) _ _ c.in-Err.fault fault.Write _ c.tell.result.status
+    inr (run_ends_status c.args.chart.now (g.R.Read.remaining c.args.deck) _ _ c.in-Err.fault _ c.tell.result.status
     c.tell.result.is_told (g.V.Write.contents c.args.faults.now) (g.V.Write.contents c.tell.new.faults)
-    c.tell.ensures.status c.tell.ensures.line refl c.in-Err.ensures.ends)
+    c.tell.ensures.status c.tell.ensures.line c.in-Err.ensures.ends)

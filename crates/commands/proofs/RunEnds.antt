@@ -55,8 +55,19 @@ ends_tell text reader old new told Unprinted (run_stopped stops) = cause_tells s
 -- which line is told by the status of what stopped a run
 module _ (text : List ℕ) (reader old new : Option (List ℕ)) (told : Fault) (Unprinted : Type 0) (status : ℕ) (is_told : Bool)
     (before after : Option (List ℕ)) (is_status : status ≡ status_of told) (line : IsTold told is_told before after) where
-  line_of : (met : Fault) → told ≡ met → IsTold met is_told before after
+  pub line_of : (met : Fault) → told ≡ met → IsTold met is_told before after
   line_of met is = subst (λ (of : Fault). IsTold of is_told before after) is line
+
+  -- a run: a card that was not read, or the output
+  pub run_device : EndsRun text reader old new told Unprinted → status ≡ 4
+      → IsTold fault.Write is_told before after ⊎ ((card : ℕ) × IsTold (fault.Unread card) is_told before after)
+  run_device ends four = by (ends_tell text reader old new told Unprinted ends)
+    where
+      by : Tells told → IsTold fault.Write is_told before after ⊎ ((card : ℕ) × IsTold (fault.Unread card) is_told before after)
+      by (refused three) = absurd (omega (arith, is_status, three, four))
+      by (unread card is) = inr (card, line_of (fault.Unread card) is)
+      by (unwritten is) = inl (line_of fault.Write is)
+      by (memory is) = absurd (omega (arith, is_status, ap status_of is, four))
 
   pub run_memory : EndsRun text reader old new told Unprinted → status ≡ 5 → IsTold fault.Memory is_told before after
   run_memory ends five = by (ends_tell text reader old new told Unprinted ends)
