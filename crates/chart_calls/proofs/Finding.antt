@@ -1,6 +1,6 @@
 -- What is found of a wiring chart, by what is found of its panel.
 use Rattle.std.proofs.Common.{◌≡◌, ℕ, List, Option, Some, None, subst}
-use Rattle.chart_calls.specs.Helper.{TellsCounts}
+use Rattle.chart_calls.specs.Counted.{TellsCounts}
 use Rattle.chart_calls.specs.ReadBack.{IsBeside, IsChartOf}
 use Rattle.compile407.specs.Compilation.{Compilation, IsCompiled}
 use Rattle.compile407.specs.Headline.{WiredSetupsBeginReports, WiredSetupsPrintReports}

@@ -1,2 +1,2 @@
-pub mod Helper
+pub mod Counted
 pub mod ReadBack

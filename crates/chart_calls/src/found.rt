@@ -7,7 +7,7 @@ ghost use Rattle.match_calls.specs.MatchTexts.Counts.{CountsDifferences};
 ghost use Rattle.panel_charts.specs.PanelChart.{IsReadBack};
 ghost use Rattle.program_io.specs.Refusals.{RefusesWiring};
 ghost use Rattle.wire_chart.specs.Below.wiring_text.WiringText.{ReadsAs};
-ghost use Rattle.chart_calls.specs.Helper.{TellsCounts};
+ghost use Rattle.chart_calls.specs.Counted.{TellsCounts};
 
 use compile407::{wired_setups_begin_reports, wired_setups_print_reports};
 use faults::Fault;

@@ -25,6 +25,11 @@ pub record IsReadBack (setup : Wiring) (text : List ℕ) (compiled : Compilation
   pub chart : IsChart text compiled
   pub beside : IsFound setup compiled matching
 
+-- the text reads as the chart of this compilation, and the panel is wired for that chart by the plan
+pub record IsWiredChart (setup : Wiring) (text : List ℕ) (compiled : Compilation) (plan : Lists) : Type 0 where
+  pub chart : IsChart text compiled
+  pub wired : IsWiredBy compiled.chart.lines setup plan
+
 -- the fault is that of some text
 abbrev pub IsSomeFault : ChartFault → Type 0
 IsSomeFault fault = (text : List ℕ) × HasChartFault text fault

@@ -7,6 +7,7 @@ ghost use Rattle.panel_charts.specs.PanelChart.{IsFound, IsReadBack, IsSomeFault
 use crate::lawful::{chart_text_of, whole_text};
 use compile407::{ChartFault, Compiled};
 use matching::{Matching, match_setup};
+use plans::Plan;
 use setups::Setup;
 use std::alloc::{AllocError, Global};
 
@@ -32,7 +33,27 @@ impl Drop for PanelChart {
 }
 
 impl PanelChart {
-    ghost use Rattle.std.specs.Prelude.{◌≡◌};
+    ghost use Rattle.std.specs.Prelude.{◌≡◌, true};
+    ghost use Rattle.matching.specs.Answers.{IsMatched, plan_told};
+
+    /// Whether the panel is wired for the chart.
+    pub(crate) fn is_wired(&self) -> bool
+        ensures { result ≡ true → IsMatched self.now.matching }
+    {
+        match &self.matching {
+            Matching::Matched { .. } => true,
+            Matching::Differs { .. } => false,
+        }
+    }
+
+    /// The plan of the chart that is told.
+    pub fn plan(&self) -> &Plan
+        ensures { result.now ≡ plan_told self.now.matching }
+    {
+        match &self.matching {
+            Matching::Matched { plan } | Matching::Differs { plan, .. } => plan,
+        }
+    }
 
     /// Its text alone.
     pub fn into_text(self) -> String

@@ -50,7 +50,7 @@ texts_refused text deck place met told refuses same not_memory =
 -- what is explained on a panel, or lacks there, is of the texts that give it
 module _ {X : Type 0} (result : Result X Unexplained) (text deck : List ℕ) (place : Place) (wiring : Wiring)
     (slice cards : List (List ℕ)) (same : slice ≡ cards) (run : IsRunOf text deck cards wiring) where
-  pub explained_of_texts : (asked : List (String Global × Wiring)) → AreAsked text asked → (items : X → List ℕ)
+  pub explained_of_texts : (asked : List (String Global × Wiring)) → AreAsked text wiring asked → (items : X → List ℕ)
       → IfOk result (λ answer. ExplainsPlace wiring asked slice place (items answer))
       → IfOk result (λ answer. IsExplained text deck place (items answer))
   explained_of_texts asked are items = by result

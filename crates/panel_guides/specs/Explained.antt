@@ -8,19 +8,31 @@ use Rattle.explanation_text.specs.Told.{Explains}
 use Rattle.explanations.specs.PlacedInRun.{PrintsNoneAt}
 use Rattle.faults.specs.declared.fault.Fault.{Fault}
 use Rattle.legend.specs.LineSetups.{AreLineSetups}
+use Rattle.panel_charts.specs.PanelChart.{IsWiredChart}
+use Rattle.plans.specs.Plans.{Lists}
 use Rattle.setups.specs.Wiring.{Wiring}
 use Rattle.panel_guides.specs.Panels.{IsRunOf, is_wiring_text}
 use Rattle.panel_guides.specs.declared.place.Place.{Place}
 use Rattle.panel_guides.specs.declared.unexplained.Unexplained.{Unexplained}
 use Rattle.panel_guides.specs.declared.unexplained.Unexplained.TheVariants as why
 
--- Who asks for the wires of a text's panel: each line of a planning chart, by the plan that the chart compiles to. Of a wiring chart nobody
--- is known.
-pub data AreAsked (text : List ℕ) : List (String Global × Wiring) → Type 0 where
-  nobody : is_wiring_text text ≡ true → AreAsked text []
+-- Who asks for the wires of a panel that is wired by hand: each line of a chart, as the chart's text has it, by a plan by which the panel is
+-- wired for this chart. Nobody is known if no such chart is read off the panel.
+pub data AreAskedOn (wiring : Wiring) : List (String Global × Wiring) → Type 0 where
+  nobody : AreAskedOn wiring []
+  of_chart :
+      (chart : List ℕ) (compiled : Compilation) (plan : Lists) → IsWiredChart wiring chart compiled plan
+      → (asked : List (String Global × Wiring))
+      → AreLineSetups compiled.chart.lines plan chart (length compiled.chart.lines) asked → AreAskedOn wiring asked
+
+-- Who asks for the wires of a text's panel: each line of a planning chart, by the plan that the chart compiles to; of a wiring chart each
+-- line of the chart that is read off its panel.
+pub data AreAsked (text : List ℕ) (wiring : Wiring) : List (String Global × Wiring) → Type 0 where
+  by_hand :
+      is_wiring_text text ≡ true → (asked : List (String Global × Wiring)) → AreAskedOn wiring asked → AreAsked text wiring asked
   lines :
       is_wiring_text text ≡ false → (compiled : Compilation) → CompilesAs text compiled → (asked : List (String Global × Wiring))
-      → AreLineSetups compiled.chart.lines compiled.plan text (length compiled.chart.lines) asked → AreAsked text asked
+      → AreLineSetups compiled.chart.lines compiled.plan text (length compiled.chart.lines) asked → AreAsked text wiring asked
 
 -- on a panel, over cards: the text explains the wheel of the line that the machine prints at this place
 abbrev pub ExplainsPlace : Wiring → List (String Global × Wiring) → List (List ℕ) → Place → List ℕ → Type 0
@@ -32,7 +44,7 @@ pub record IsExplained (text deck : List ℕ) (place : Place) (answer : List ℕ
   pub cards : List (List ℕ)
   pub run : IsRunOf text deck cards wiring
   pub asked : List (String Global × Wiring)
-  pub are_asked : AreAsked text asked
+  pub are_asked : AreAsked text wiring asked
   pub explains : ExplainsPlace wiring asked cards place answer
 
 -- there is no such wheel

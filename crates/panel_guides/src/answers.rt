@@ -4,25 +4,23 @@ ghost use Rattle.std.specs.Prelude.{◌≡◌, ◌≢◌, ◌≤◌, false, leng
 ghost use Rattle.std.specs.String.{string_bytes};
 ghost use Rattle.card_code.specs.MostCards.{most_cards};
 ghost use Rattle.faults.specs.declared.fault.Fault.TheVariants.{Memory};
-ghost use Rattle.legend.specs.LineSetups.{AreLineSetups};
 ghost use Rattle.panel_guides.specs.Explained.{ExplainsPlace, IsExplained, IsUnexplained, LacksPlace};
 ghost use Rattle.panel_guides.specs.Panels.{is_wiring_text};
 ghost use Rattle.panel_guides.specs.declared.unexplained.Unexplained.TheVariants.{Failed};
 
+use crate::asking::{asked_by_lines, asked_on_panel};
 use crate::panels::{is_wiring_text, planned_run, wired_run};
 use crate::place::Place;
 use crate::unexplained::Unexplained;
 use card_code::Card;
-use compile407::Compiled;
 use explanation_text::explain_text;
 use explanations::Refusal;
 use faults::Fault;
-use legend::line_setups;
 use setups::Setup;
 use std::alloc::Global;
 
-// What is told of a wheel that isn't explained.
-fn told_of<'a>(refusal: Refusal, place: Place) -> Unexplained<'a>
+/// Why the wheel of a place isn't explained, by what refused it: there is no such wheel, no such line, or memory ran out.
+pub fn unexplained_at<'a>(refusal: Refusal, place: Place) -> Unexplained<'a>
     ensures wheel { refusal ≡ Refusal.NoSuchWheel → result ≡ Unexplained.NoSuchWheel place.wheel }
     ensures line { refusal ≡ Refusal.NoSuchLine → result ≡ Unexplained.NoSuchLine place.page place.line }
     ensures memory { refusal ≡ Refusal.Memory → result ≡ Failed Memory }
@@ -37,20 +35,6 @@ fn told_of<'a>(refusal: Refusal, place: Place) -> Unexplained<'a>
             fault: Fault::Memory,
         },
     }
-}
-
-// Words for each line of a compiled chart, whose text this is, and what the line asks for.
-fn asked_by_lines<'a>(
-    alloc: Global,
-    compiled: &Compiled,
-    source: &[u8],
-) -> Result<Vec<(String, Setup)>, Fault<'a>>
-    ensures lines { IfOk result (λ all. AreLineSetups compiled.now.chart.lines compiled.now.plan source.now (length compiled.now.chart.lines) all.items) }
-    ensures memory { IfErr result (λ told. told ≡ Memory) }
-{
-    let chart = compiled.chart();
-    let plan = compiled.plan();
-    Ok(line_setups(alloc, chart, plan, source)?)
 }
 
 // The explanation of a wheel of a line that a panel prints of cards, with those who ask for wires.
@@ -70,7 +54,7 @@ fn explained_on<'a>(
     };
     match explain_text(alloc, setup, asked, cards, place.page, place.line, wheel) {
         Ok(text) => Ok(text),
-        Err(refusal) => Err(told_of(refusal, place)),
+        Err(refusal) => Err(unexplained_at(refusal, place)),
     }
 }
 
@@ -86,7 +70,8 @@ fn explained_by_wiring<'a>(
     ensures refused { IfErr result (λ told. told ≢ Failed Memory → IsUnexplained wiring.now deck.now place told) }
 {
     let wired = wired_run(alloc, wiring, deck)?;
-    explained_on(alloc, &wired.setup, &[], wired.cards.as_slice(), place)
+    let asked = asked_on_panel(alloc, &wired.setup)?;
+    explained_on(alloc, &wired.setup, &asked, wired.cards.as_slice(), place)
 }
 
 // The explanation of a wheel of a line of a chart's report.
@@ -112,8 +97,8 @@ fn explained_by_chart<'a>(
 }
 
 /// Why a wheel of a line printed its character: of a line of a planning chart's report, or of one that is printed of a deck on a panel
-/// wired by a wiring chart, as [`is_wiring_text`] tells them apart. For a planning chart each way names the chart's lines that ask for its
-/// wires.
+/// wired by a wiring chart, as [`is_wiring_text`] tells them apart. Each way names the lines that ask for its wires: those of the planning
+/// chart, or of the chart that is read off the panel, if it is wired for that one.
 ///
 /// # Errors
 ///

@@ -8,6 +8,7 @@
 #![tactic(auto)]
 
 mod answers;
+mod asking;
 mod entries;
 mod laws;
 mod legends;
@@ -16,7 +17,7 @@ mod place;
 mod serving;
 mod unexplained;
 
-pub use answers::explained;
+pub use answers::{explained, unexplained_at};
 pub use entries::unexplained_wheels_have_entries;
 pub use laws::explained_lines_are_on_pages;
 pub use legends::{legend_of, legend_to_end, print_legend};

@@ -1,2 +1,7 @@
+mod ChainsGained
+mod ItemsGained
+mod ItemsRead
 mod Kept
+mod LinksCovered
 mod Lowest
+mod RunsOutside

@@ -1,9 +1,14 @@
 //! What stands on the line of a card: amounts in their zones, and texts on all other wheels.
 
+ghost use Rattle.std.specs.Prelude.{IfOk, IfSome, OnOk};
+ghost use Rattle.panel_reader.specs.Items.{Gains, IsCardAmount};
+ghost use Rattle.panel_reader.specs.Zones.{CoverLinks, IsInZone, IsRunOutside, IsTextOutside};
+ghost use Rattle.setups.specs.Wiring.{Wiring};
+
 use crate::chains::{Sign, amount_field, sign_by};
 use crate::draft::{Draft, DraftField, Item, PrintedLine, Said};
 use crate::hub_rows::{HubRow, lowest_exit};
-use crate::zones::Zone;
+use crate::zones::{Zone, is_in_zone};
 use charts::{BodyLine, ControlLevel, FieldKind};
 use hubs::Hub;
 use setups::Setup;
@@ -48,7 +53,9 @@ fn marked_sign(setup: &Setup, zone: Zone) -> Option<Sign> {
 }
 
 // Puts the amount of a zone on the line of a card, if one stands there.
-fn put_amount(setup: &Setup, draft: &mut Draft, zone: Zone) -> Result<(), AllocError> {
+fn put_amount(setup: &Setup, draft: &mut Draft, zone: Zone) -> Result<(), AllocError>
+    ensures { OnOk result (Gains IsCardAmount draft.old draft.new) }
+{
     let Some(last) = digit_column(setup, zone.units) else {
         return Ok(());
     };
@@ -75,7 +82,9 @@ pub(crate) fn put_amounts(
     setup: &Setup,
     zones: &[Zone],
     draft: &mut Draft,
-) -> Result<(), AllocError> {
+) -> Result<(), AllocError>
+    ensures { OnOk result (Gains IsCardAmount draft.old draft.new) }
+{
     for zone in zones {
         put_amount(setup, draft, *zone)?;
     }
@@ -132,8 +141,13 @@ struct Run {
 }
 
 impl Run {
+    ghost use Rattle.std.specs.Prelude.{◌≡◌, ◌+◌, true};
+
     // The run of one wheel.
-    fn of_one(wheel: u8, cell: Cell) -> Run {
+    fn of_one(wheel: u8, cell: Cell) -> Run
+        ensures first { result.wheel ≡ wheel }
+        ensures last { result.last_wheel ≡ wheel }
+    {
         Run {
             wheel,
             first: cell.column,
@@ -144,7 +158,9 @@ impl Run {
     }
 
     // Whether a wheel goes on with it: it stands on the next wheel and shows the next column, at the same level.
-    fn goes_on(self, wheel: u8, cell: Cell) -> bool {
+    fn goes_on(self, wheel: u8, cell: Cell) -> bool
+        ensures { result ≡ true → wheel ≡ self.last_wheel + 1 }
+    {
         wheel.checked_sub(1) == Some(self.last_wheel)
             && cell.column.checked_sub(1) == Some(self.last)
             && cell.level == self.level
@@ -152,7 +168,9 @@ impl Run {
 }
 
 // Puts the text of a run on the line of a card.
-fn put_run(draft: &mut Draft, run: Run) -> Result<(), AllocError> {
+fn put_run(draft: &mut Draft, run: Run) -> Result<(), AllocError>
+    ensures { (setup : Wiring) → IsRunOutside setup run → OnOk result (Gains (IsTextOutside setup) draft.old draft.new) }
+{
     let field = draft.card_field(DraftField {
         first: run.first,
         last: run.last,
@@ -176,7 +194,11 @@ fn run_with(
     run: Option<Run>,
     wheel: u8,
     cell: Cell,
-) -> Result<Option<Run>, AllocError> {
+) -> Result<Option<Run>, AllocError>
+    ensures run { (setup : Wiring) → IfSome run (IsRunOutside setup) → ¬ IsInZone setup wheel
+        → IfOk result (λ next. IfSome next (IsRunOutside setup)) }
+    ensures gained { (setup : Wiring) → IfSome run (IsRunOutside setup) → OnOk result (Gains (IsTextOutside setup) draft.old draft.new) }
+{
     match run {
         Some(before) if before.goes_on(wheel, cell) => Ok(Some(Run {
             last_wheel: wheel,
@@ -191,19 +213,45 @@ fn run_with(
     }
 }
 
-/// Puts the texts of all wheels that are in no zone on the line of a card.
-pub(crate) fn put_texts(
+// What the wires of a wheel that is in no zone show of a text.
+fn text_on(setup: &Setup, zones: &[Zone], wheel: u8) -> Option<Cell>
+    requires { CoverLinks setup.now zones.now }
+    ensures { IfSome result (λ cell. ¬ IsInZone setup.now wheel) }
+{
+    if is_in_zone(zones, wheel) {
+        None
+    } else {
+        cell_on(setup, wheel)
+    }
+}
+
+// The run behind a wheel, by a run behind the one before.
+fn run_behind(
     setup: &Setup,
     zones: &[Zone],
     draft: &mut Draft,
-) -> Result<(), AllocError> {
+    run: Option<Run>,
+    wheel: u8,
+) -> Result<Option<Run>, AllocError>
+    requires zones { CoverLinks setup.now zones.now }
+    requires run { IfSome run (IsRunOutside setup.now) }
+    ensures run { IfOk result (λ next. IfSome next (IsRunOutside setup.now)) }
+    ensures gained { OnOk result (Gains (IsTextOutside setup.now) draft.old draft.new) }
+{
+    match text_on(setup, zones, wheel) {
+        Some(cell) => run_with(draft, run, wheel, cell),
+        None => Ok(run),
+    }
+}
+
+/// Puts the texts of all wheels that are in no zone on the line of a card.
+pub(crate) fn put_texts(setup: &Setup, zones: &[Zone], draft: &mut Draft) -> Result<(), AllocError>
+    requires { CoverLinks setup.now zones.now }
+    ensures { OnOk result (Gains (IsTextOutside setup.now) draft.old draft.new) }
+{
     let mut run = None;
     for wheel in 1..121 {
-        if !zones.iter().any(|zone| zone.has(wheel)) {
-            if let Some(cell) = cell_on(setup, wheel) {
-                run = run_with(draft, run, wheel, cell)?;
-            }
-        }
+        run = run_behind(setup, zones, draft, run, wheel)?;
     }
     match run {
         Some(last) => put_run(draft, last),

@@ -1,6 +1,10 @@
 //! The totals of an amount, from the lowest on: the cards enter the first, and each goes up into the next.
 
-use crate::counters::Total;
+ghost use Rattle.std.specs.Prelude.{All, IfSome, OnOk};
+ghost use Rattle.panel_reader.specs.Chains.{GainsChain, GainsChains, GainsTotal, GoesUp, IsReadOut};
+ghost use Rattle.panel_reader.specs.declared.counters.Total.{Total};
+
+use crate::counters::{LEVELS, Total};
 use crate::draft::{Draft, DraftField, Item, PrintedLine, Said};
 use crate::hub_rows::{HubRow, lowest_exit};
 use crate::zones::Zone;
@@ -79,9 +83,15 @@ fn entered_field(setup: &Setup, total: Total) -> Option<DraftField> {
 }
 
 // The total of a higher level into which a total goes.
-fn next_total(setup: &Setup, totals: &[Total], from: Total) -> Option<Total> {
+fn next_total(setup: &Setup, totals: &[Total], from: Total) -> Option<Total>
+    requires { All (IsReadOut setup.now) totals.now }
+    ensures up { IfSome result (GoesUp setup.now from) }
+    ensures out { IfSome result (IsReadOut setup.now) }
+{
     for total in totals {
-        if total.level > from.level && setup.has(from.counter.exit(1), total.counter.entry(1)) {
+        if total.level.number() > from.level.number()
+            && setup.has(from.counter.exit(1), total.counter.entry(1))
+        {
             return Some(*total);
         }
     }
@@ -89,12 +99,11 @@ fn next_total(setup: &Setup, totals: &[Total], from: Total) -> Option<Total> {
 }
 
 // Puts a total of a field on the line of its level.
-fn put_total(draft: &mut Draft, field: usize, total: Total) -> Result<(), AllocError> {
-    let Some(level) = Level::with_number(u16::from(total.level)) else {
-        return Ok(());
-    };
+fn put_total(draft: &mut Draft, field: usize, total: Total) -> Result<(), AllocError>
+    ensures { OnOk result (GainsTotal field total draft.old draft.new) }
+{
     draft.put(Item {
-        line: PrintedLine::Body(BodyLine::Total(level)),
+        line: PrintedLine::Body(BodyLine::Total(total.level)),
         first: total.zone.first_wheel(total.digits),
         last: total.zone.last,
         said: Said::Amount {
@@ -112,16 +121,51 @@ fn put_chain(
     draft: &mut Draft,
     field: usize,
     lowest: Total,
-) -> Result<(), AllocError> {
-    let mut total = lowest;
-    for _ in 1..5 {
-        put_total(draft, field, total)?;
-        match next_total(setup, totals, total) {
-            Some(next) => total = next,
-            None => return Ok(()),
-        }
+) -> Result<(), AllocError>
+    requires totals { All (IsReadOut setup.now) totals.now }
+    requires lowest { IsReadOut setup.now lowest }
+    ensures { OnOk result ((last : Total) × GainsChain setup.now field lowest last draft.old draft.new) }
+{
+    put_total(draft, field, lowest)?;
+    let mut last = lowest;
+    for _ in 1..4 {
+        let Some(next) = next_total(setup, totals, last) else {
+            return Ok(());
+        };
+        put_total(draft, field, next)?;
+        last = next;
     }
     Ok(())
+}
+
+// The field whose columns enter the counter of a total of a level in a zone with this first wheel, if it is such a total and some do.
+fn entered_at(setup: &Setup, total: Total, level: Level, wheel: u8) -> Option<DraftField> {
+    if total.level == level && total.zone.first == wheel {
+        entered_field(setup, total)
+    } else {
+        None
+    }
+}
+
+// Puts the totals of the amount whose lowest total this is on their lines, if it is of a level and begins in a zone with this first wheel. The
+// amount is a field of its own.
+fn put_amount(
+    setup: &Setup,
+    totals: &[Total],
+    draft: &mut Draft,
+    lowest: Total,
+    level: Level,
+    wheel: u8,
+) -> Result<(), AllocError>
+    requires totals { All (IsReadOut setup.now) totals.now }
+    requires lowest { IsReadOut setup.now lowest }
+    ensures { OnOk result (GainsChains setup.now draft.old draft.new) }
+{
+    let Some(field) = entered_at(setup, lowest, level, wheel) else {
+        return Ok(());
+    };
+    let place = draft.add_field(field)?;
+    put_chain(setup, totals, draft, place, lowest)
 }
 
 // Puts the totals of the amounts whose lowest total is of a level and begins in a zone with this first wheel.
@@ -129,16 +173,14 @@ fn put_chains_at(
     setup: &Setup,
     totals: &[Total],
     draft: &mut Draft,
-    level: u8,
+    level: Level,
     wheel: u8,
-) -> Result<(), AllocError> {
+) -> Result<(), AllocError>
+    requires { All (IsReadOut setup.now) totals.now }
+    ensures { OnOk result (GainsChains setup.now draft.old draft.new) }
+{
     for total in totals {
-        if total.level == level && total.zone.first == wheel {
-            if let Some(field) = entered_field(setup, *total) {
-                let place = draft.add_field(field)?;
-                put_chain(setup, totals, draft, place, *total)?;
-            }
-        }
+        put_amount(setup, totals, draft, *total, level, wheel)?;
     }
     Ok(())
 }
@@ -148,8 +190,11 @@ pub(crate) fn put_chains(
     setup: &Setup,
     totals: &[Total],
     draft: &mut Draft,
-) -> Result<(), AllocError> {
-    for level in 1..5 {
+) -> Result<(), AllocError>
+    requires { All (IsReadOut setup.now) totals.now }
+    ensures { OnOk result (GainsChains setup.now draft.old draft.new) }
+{
+    for level in LEVELS {
         for wheel in 1..121 {
             put_chains_at(setup, totals, draft, level, wheel)?;
         }

@@ -1,5 +1,11 @@
 //! Control fields, and the texts on total lines that show them.
 
+ghost use Rattle.std.specs.Prelude.{◌≡◌, OnOk};
+ghost use Rattle.charts.specs.declared.level.Level.{Level};
+ghost use Rattle.charts.specs.declared.statement.BodyLine.TheVariants.{Total};
+ghost use Rattle.panel_reader.specs.Items.{Gains, IsTotalText};
+ghost use Rattle.panel_reader.specs.declared.draft.PrintedLine.TheVariants.{Body};
+
 use crate::compared::{Division, Interval, compared_of, divided};
 use crate::draft::{Control, Draft, DraftField, Item, PrintedLine, Said};
 use crate::total_texts::{TotalText, total_texts};
@@ -8,7 +14,9 @@ use setups::Setup;
 use std::alloc::{AllocError, Global};
 
 // The total line of a level.
-fn total_line(level: ControlLevel) -> PrintedLine {
+fn total_line(level: ControlLevel) -> PrintedLine
+    ensures { (of : Level) × (result ≡ Body (Total of)) }
+{
     PrintedLine::Body(BodyLine::Total(match level {
         ControlLevel::Minor => Level::Minor,
         ControlLevel::Intermediate => Level::Intermediate,
@@ -53,7 +61,9 @@ fn control_field(
     texts: &[TotalText],
     interval: usize,
     its: Interval,
-) -> Result<usize, AllocError> {
+) -> Result<usize, AllocError>
+    ensures { draft.new.items ≡ draft.old.items }
+{
     let wanted = text_field(its.first, its.last);
     for place in 0..draft.fields.len() {
         if draft.fields[place] == wanted
@@ -66,7 +76,9 @@ fn control_field(
 }
 
 // Puts a text on its total line.
-fn put_text(draft: &mut Draft, field: usize, text: TotalText) -> Result<(), AllocError> {
+fn put_text(draft: &mut Draft, field: usize, text: TotalText) -> Result<(), AllocError>
+    ensures { OnOk result (Gains IsTotalText draft.old draft.new) }
+{
     draft.put(Item {
         line: total_line(text.level),
         first: text.wheel,
@@ -85,7 +97,9 @@ fn add_control(
     texts: &[TotalText],
     interval: usize,
     its: Interval,
-) -> Result<(), AllocError> {
+) -> Result<(), AllocError>
+    ensures { OnOk result (Gains IsTotalText draft.old draft.new) }
+{
     let field = control_field(draft, division, texts, interval, its)?;
     let level = its.level;
     draft.controls.push(Control { level, field })?;
@@ -104,7 +118,9 @@ fn add_controls_at(
     texts: &[TotalText],
     level: ControlLevel,
     column: u8,
-) -> Result<(), AllocError> {
+) -> Result<(), AllocError>
+    ensures { OnOk result (Gains IsTotalText draft.old draft.new) }
+{
     for (place, interval) in division.intervals.iter().enumerate() {
         if interval.level == level && interval.first == column {
             add_control(draft, division, texts, place, *interval)?;
@@ -118,7 +134,9 @@ fn put_unserved(
     draft: &mut Draft,
     division: &Division,
     texts: &[TotalText],
-) -> Result<(), AllocError> {
+) -> Result<(), AllocError>
+    ensures { OnOk result (Gains IsTotalText draft.old draft.new) }
+{
     if division.serving.is_empty() {
         for text in texts {
             let field = draft.add_field(text_field(text.first, text.last))?;
@@ -133,7 +151,9 @@ pub(crate) fn put_controls(
     alloc: Global,
     setup: &Setup,
     draft: &mut Draft,
-) -> Result<(), AllocError> {
+) -> Result<(), AllocError>
+    ensures { OnOk result (Gains IsTotalText draft.old draft.new) }
+{
     let texts = total_texts(alloc, setup)?;
     let compared = compared_of(alloc, setup)?;
     let division = divided(alloc, compared.as_slice(), texts.as_slice())?;

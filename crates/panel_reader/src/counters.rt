@@ -1,7 +1,14 @@
 //! The counters that a setup reads out.
 
+ghost use Rattle.std.specs.Prelude.{All, IfOk, IfSome};
+ghost use Rattle.charts.specs.Levels.{level_number};
+ghost use Rattle.hubs.specs.declared.hub.Hub.TheVariants as hub;
+ghost use Rattle.panel_reader.specs.Chains.{IsReadOut};
+ghost use Rattle.setups.specs.Wiring.{HasWire};
+
 use crate::hub_rows::{HubRow, lowest_entry};
 use crate::zones::{Zone, zone_with_units};
+use charts::Level;
 use hubs::{Group, Hub, is_one_group};
 use setups::Setup;
 use std::alloc::{AllocError, Global};
@@ -16,8 +23,13 @@ pub(crate) struct Counter {
 }
 
 impl Counter {
+    ghost use Rattle.std.specs.Prelude.{◌≡◌};
+    ghost use Rattle.panel_reader.specs.Chains.{entry_of, exit_of, place_in};
+
     // The group in which a position is, and its number there.
-    fn at(self, position: u8) -> (Group, u8) {
+    fn at(self, position: u8) -> (Group, u8)
+        ensures { result ≡ place_in self.lower self.upper position }
+    {
         match self.upper {
             Some(upper) if position > 8 => (upper, position - 8),
             _ => (self.lower, position),
@@ -25,13 +37,17 @@ impl Counter {
     }
 
     /// The exit of a position.
-    pub(crate) fn exit(self, position: u8) -> Hub {
+    pub(crate) fn exit(self, position: u8) -> Hub
+        ensures { result ≡ exit_of self position }
+    {
         let (group, place) = self.at(position);
         Hub::GX(group, place)
     }
 
     /// The entry of a position.
-    pub(crate) fn entry(self, position: u8) -> Hub {
+    pub(crate) fn entry(self, position: u8) -> Hub
+        ensures { result ≡ entry_of self position }
+    {
         let (group, place) = self.at(position);
         Hub::GE(group, place)
     }
@@ -49,8 +65,8 @@ impl Counter {
 /// A counter that is read out on a total line.
 #[derive(Clone, Copy)]
 pub(crate) struct Total {
-    /// The number of the level, 1 to 4.
-    pub(crate) level: u8,
+    /// Its level.
+    pub(crate) level: Level,
     /// The counter.
     pub(crate) counter: Counter,
     /// The zone in which the total stands.
@@ -58,6 +74,14 @@ pub(crate) struct Total {
     /// How many digits it has.
     pub(crate) digits: u8,
 }
+
+/// The levels of totals, the lowest first.
+pub(crate) const LEVELS: [Level; 4] = [
+    Level::Minor,
+    Level::Intermediate,
+    Level::Major,
+    Level::Final,
+];
 
 // The counter group at a place, 0 to 31: those of 3 positions first, then those of 4, 6 and 8, each by number.
 fn group_at(place: u8) -> Group {
@@ -115,10 +139,12 @@ fn is_upper(setup: &Setup, group: Group) -> bool {
 }
 
 // The lowest level whose third program cycle reads a group out.
-fn level_of(setup: &Setup, group: Group) -> Option<u8> {
-    for place in 0..4 {
-        if setup.has(Hub::PX(place + 1, 3), Hub::RO(group)) {
-            return Some(place + 1);
+fn level_of(setup: &Setup, group: Group) -> Option<Level>
+    ensures { IfSome result (λ level. HasWire setup.now (hub.PX (level_number level) 3) (hub.RO group)) }
+{
+    for level in LEVELS {
+        if setup.has(Hub::PX(level.number(), 3), Hub::RO(group)) {
+            return Some(level);
         }
     }
     None
@@ -136,7 +162,9 @@ fn digits_on(setup: &Setup, counter: Counter, zone: Zone) -> u8 {
 }
 
 // The total of a group that is read out on a total line, if it is one and not the upper one of two.
-fn total_of(setup: &Setup, zones: &[Zone], lower: Group) -> Option<Total> {
+fn total_of(setup: &Setup, zones: &[Zone], lower: Group) -> Option<Total>
+    ensures { IfSome result (IsReadOut setup.now) }
+{
     let level = level_of(setup, lower)?;
     if is_upper(setup, lower) {
         return None;
@@ -155,12 +183,14 @@ fn total_of(setup: &Setup, zones: &[Zone], lower: Group) -> Option<Total> {
     })
 }
 
-/// The totals that a setup prints, by the zones that its jacks show.
+/// The totals that a setup prints, by the zones that its jacks show: the third program cycle of its level reads each out.
 pub(crate) fn totals_of(
     alloc: Global,
     setup: &Setup,
     zones: &[Zone],
-) -> Result<Vec<Total>, AllocError> {
+) -> Result<Vec<Total>, AllocError>
+    ensures { IfOk result (λ totals. All (IsReadOut setup.now) totals.items) }
+{
     let mut totals = Vec::new(alloc);
     for place in 0..32 {
         if let Some(total) = total_of(setup, zones, group_at(place)) {

@@ -145,8 +145,13 @@ impl Drop for Draft {
 }
 
 impl Draft {
+    ghost use Rattle.std.specs.Prelude.{◌≡◌, ◌++◌, ◌∷◌, [], length, IfOk, OnOk};
+    ghost use Rattle.panel_reader.specs.Chains.{GainsField};
+
     /// A draft in which nothing stands.
-    pub(crate) fn new(alloc: Global) -> Draft {
+    pub(crate) fn new(alloc: Global) -> Draft
+        ensures { result.items.items ≡ [] }
+    {
         Draft {
             fields: Vec::new(alloc),
             controls: Vec::new(alloc),
@@ -155,7 +160,11 @@ impl Draft {
     }
 
     /// Adds a field, and answers its place.
-    pub(crate) fn add_field(&mut self, field: DraftField) -> Result<usize, AllocError> {
+    pub(crate) fn add_field(&mut self, field: DraftField) -> Result<usize, AllocError>
+        ensures gained { OnOk result (GainsField field self.old self.new) }
+        ensures place { IfOk result (λ place. place ≡ length self.old.fields.items) }
+        ensures items { self.new.items ≡ self.old.items }
+    {
         let place = self.fields.len();
         self.fields.push(field)?;
         Ok(place)
@@ -193,7 +202,9 @@ impl Draft {
     }
 
     /// The place of a field like this one that stands not yet on the line of a card, if there is one, else of a new one.
-    pub(crate) fn card_field(&mut self, field: DraftField) -> Result<usize, AllocError> {
+    pub(crate) fn card_field(&mut self, field: DraftField) -> Result<usize, AllocError>
+        ensures items { self.new.items ≡ self.old.items }
+    {
         let card = PrintedLine::Body(BodyLine::Detail);
         for place in 0..self.fields.len() {
             if self.fields[place] == field && !self.is_on(card, place) {
@@ -204,7 +215,10 @@ impl Draft {
     }
 
     /// Adds an item to a line.
-    pub(crate) fn put(&mut self, item: Item) -> Result<(), AllocError> {
+    pub(crate) fn put(&mut self, item: Item) -> Result<(), AllocError>
+        ensures gained { OnOk result (self.new.items.items ≡ self.old.items.items ++ item ∷ []) }
+        ensures fields { self.new.fields ≡ self.old.fields }
+    {
         self.items.push(item)?;
         Ok(())
     }

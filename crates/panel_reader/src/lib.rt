@@ -20,6 +20,7 @@ mod dropping;
 mod hub_rows;
 mod lines;
 mod literals;
+mod names;
 mod reading;
 mod total_texts;
 mod writing;

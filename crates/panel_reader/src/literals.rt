@@ -1,5 +1,8 @@
 //! Literals: the characters that emitters send to wheels.
 
+ghost use Rattle.std.specs.Prelude.{OnOk};
+ghost use Rattle.panel_reader.specs.Items.{Gains, IsLiteral};
+
 use crate::draft::{Draft, Item, PRINTED_LINES, PrintedLine, Said};
 use card_code::{Column, ROWS};
 use hubs::{Hub, Jack};
@@ -61,7 +64,9 @@ impl Run {
 }
 
 // Puts the literal of a run on its line.
-fn put_run(draft: &mut Draft, line: PrintedLine, run: Option<Run>) -> Result<(), AllocError> {
+fn put_run(draft: &mut Draft, line: PrintedLine, run: Option<Run>) -> Result<(), AllocError>
+    ensures { OnOk result (Gains IsLiteral draft.old draft.new) }
+{
     let Some(run) = run else {
         return Ok(());
     };
@@ -84,7 +89,9 @@ fn run_with(
     most_blanks: u8,
     wheel: u8,
     character: u8,
-) -> Result<Option<Run>, AllocError> {
+) -> Result<Option<Run>, AllocError>
+    ensures { OnOk result (Gains IsLiteral draft.old draft.new) }
+{
     match run {
         Some(mut before) if before.blanks <= most_blanks => {
             before.add(wheel, character)?;
@@ -104,6 +111,28 @@ fn run_with_blank(run: Option<Run>) -> Option<Run> {
     Some(before)
 }
 
+// The run behind a wheel: a wheel on which no literal may stand ends it, and it is put on its line.
+fn run_behind(
+    alloc: Global,
+    setup: &Setup,
+    draft: &mut Draft,
+    line: PrintedLine,
+    run: Option<Run>,
+    most_blanks: u8,
+    wheel: u8,
+) -> Result<Option<Run>, AllocError>
+    ensures { OnOk result (Gains IsLiteral draft.old draft.new) }
+{
+    if !is_free(draft, line, wheel) {
+        put_run(draft, line, run)?;
+        return Ok(None);
+    }
+    match character_on(setup, line.emitter(), wheel) {
+        b' ' => Ok(run_with_blank(run)),
+        character => run_with(alloc, draft, line, run, most_blanks, wheel, character),
+    }
+}
+
 // Puts the literals of a line.
 fn put_literals_on(
     alloc: Global,
@@ -111,18 +140,12 @@ fn put_literals_on(
     draft: &mut Draft,
     line: PrintedLine,
     most_blanks: u8,
-) -> Result<(), AllocError> {
+) -> Result<(), AllocError>
+    ensures { OnOk result (Gains IsLiteral draft.old draft.new) }
+{
     let mut run = None;
     for wheel in 1..121 {
-        let character = character_on(setup, line.emitter(), wheel);
-        run = if !is_free(draft, line, wheel) {
-            put_run(draft, line, run)?;
-            None
-        } else if character == b' ' {
-            run_with_blank(run)
-        } else {
-            run_with(alloc, draft, line, run, most_blanks, wheel, character)?
-        };
+        run = run_behind(alloc, setup, draft, line, run, most_blanks, wheel)?;
     }
     put_run(draft, line, run)
 }
@@ -133,7 +156,9 @@ pub(crate) fn put_literals(
     setup: &Setup,
     draft: &mut Draft,
     most_blanks: u8,
-) -> Result<(), AllocError> {
+) -> Result<(), AllocError>
+    ensures { OnOk result (Gains IsLiteral draft.old draft.new) }
+{
     for line in PRINTED_LINES {
         if line.emitter() != 4 || setup.has_jack(Jack::List) {
             put_literals_on(alloc, setup, draft, line, most_blanks)?;

@@ -1,7 +1,10 @@
 //! Reading a panel.
 
-ghost use Rattle.std.specs.Prelude.{IfOk};
+ghost use Rattle.std.specs.Prelude.{◌≡◌, ◌++◌, List, IfOk, OnOk};
 ghost use Rattle.panel_reader.specs.Lines.{AreOf, EndsWithForm};
+ghost use Rattle.panel_reader.specs.Reads.{AreRead};
+ghost use Rattle.panel_reader.specs.Zones.{CoverLinks};
+ghost use Rattle.panel_reader.specs.declared.zones.Zone.{Zone};
 
 use crate::card_line::{put_amounts, put_texts};
 use crate::chains::put_chains;
@@ -19,7 +22,9 @@ use std::alloc::{AllocError, Global};
 const MOST_LINES: usize = 498;
 
 // Adds the zone of a total whose units stand on a wheel, where it isn't there.
-fn add_zone_at(zones: &mut Vec<Zone>, totals: &[Total], wheel: u8) -> Result<(), AllocError> {
+fn add_zone_at(zones: &mut Vec<Zone>, totals: &[Total], wheel: u8) -> Result<(), AllocError>
+    ensures { OnOk result ((more : List Zone) × (zones.new.items ≡ zones.old.items ++ more)) }
+{
     for total in totals {
         if total.zone.units == wheel && !zones.contains(&total.zone) {
             zones.push(total.zone)?;
@@ -29,24 +34,38 @@ fn add_zone_at(zones: &mut Vec<Zone>, totals: &[Total], wheel: u8) -> Result<(),
 }
 
 // Adds a zone of one wheel for each total that stands on a wheel alone, from the left.
-fn add_small_zones(zones: &mut Vec<Zone>, totals: &[Total]) -> Result<(), AllocError> {
+fn add_small_zones(zones: &mut Vec<Zone>, totals: &[Total]) -> Result<(), AllocError>
+    ensures { OnOk result ((more : List Zone) × (zones.new.items ≡ zones.old.items ++ more)) }
+{
     for wheel in 1..121 {
         add_zone_at(zones, totals, wheel)?;
     }
     Ok(())
 }
 
+// Puts what stands on the line of a card there, if it is printed.
+fn put_card_line(setup: &Setup, zones: &[Zone], draft: &mut Draft) -> Result<(), AllocError>
+    requires zones { CoverLinks setup.now zones.now }
+    requires read { AreRead setup.now draft.old }
+    ensures { OnOk result (AreRead setup.now draft.new) }
+{
+    if !setup.has_jack(Jack::List) {
+        return Ok(());
+    }
+    put_amounts(setup, zones, draft)?;
+    put_texts(setup, zones, draft)
+}
+
 // The draft of the chart of a setup; in its literals at most so many blanks stand side by side.
-fn drafted(alloc: Global, setup: &Setup, most_blanks: u8) -> Result<Draft, AllocError> {
+fn drafted(alloc: Global, setup: &Setup, most_blanks: u8) -> Result<Draft, AllocError>
+    ensures { IfOk result (AreRead setup.now) }
+{
     let mut draft = Draft::new(alloc);
     let mut zones = zones_of(alloc, setup)?;
     let totals = totals_of(alloc, setup, zones.as_slice())?;
     add_small_zones(&mut zones, totals.as_slice())?;
     put_chains(setup, totals.as_slice(), &mut draft)?;
-    if setup.has_jack(Jack::List) {
-        put_amounts(setup, zones.as_slice(), &mut draft)?;
-        put_texts(setup, zones.as_slice(), &mut draft)?;
-    }
+    put_card_line(setup, zones.as_slice(), &mut draft)?;
     put_controls(alloc, setup, &mut draft)?;
     put_literals(alloc, setup, &mut draft, most_blanks)?;
     Ok(draft)
@@ -63,6 +82,7 @@ pub struct Reading {
 
 // Reads a panel, with literals of at most so many blanks side by side.
 fn read_with(alloc: Global, setup: &Setup, most_blanks: u8) -> Result<Reading, AllocError>
+    ensures read { IfOk result (λ reading. AreRead setup.now reading.draft) }
     ensures of { IfOk result (λ reading. AreOf reading.draft reading.lines.items) }
     ensures form { IfOk result (λ reading. EndsWithForm setup.now.tape reading.lines.items) }
 {
@@ -74,9 +94,12 @@ fn read_with(alloc: Global, setup: &Setup, most_blanks: u8) -> Result<Reading, A
 /// Reads a panel: the draft of the chart whose wiring it is, if it is one of a chart. Literals side by side with one blank between are one;
 /// where the chart would have more lines than a chart can have, those with more blanks are too. Its only refusal is memory.
 ///
-/// Each line speaks of a field, a control field or an item of the draft, if of any, and the last one is the panel's form. That it is the
+/// Each item of the draft is a total that the third program cycle of its line's level reads out, an amount on the line of a card, a text on
+/// that line where the jacks show no amount, a text on a total line, or a literal. Each line speaks of a field, a control field or an item
+/// of the draft, if of any, and the last one is the panel's form. That it is the
 /// chart whose wiring the panel is isn't said: whoever wants to know matches the two.
 pub fn read_panel(alloc: Global, setup: &Setup) -> Result<Reading, AllocError>
+    ensures read { IfOk result (λ reading. AreRead setup.now reading.draft) }
     ensures of { IfOk result (λ reading. AreOf reading.draft reading.lines.items) }
     ensures form { IfOk result (λ reading. EndsWithForm setup.now.tape reading.lines.items) }
 {

@@ -5,6 +5,7 @@ ghost use Rattle.panel_reader.specs.Lines.{IsFramed};
 
 use crate::draft::{Draft, DraftField, Item, PrintedLine, Said};
 use crate::lines::DraftLine;
+use crate::names::names_of;
 use charts::{
     After, BodyLine, ControlLevel, FieldKind, MAX_STOPS, Mark, Printing, SignRule, Spacing,
 };
@@ -12,61 +13,12 @@ use numerals::{push_number, push_numbered};
 use setups::Tape;
 use std::alloc::{AllocError, Global};
 
-// Whether two fields have the same columns and hold the same, texts or amounts.
-fn are_twins(one: DraftField, other: DraftField) -> bool {
-    one.first == other.first
-        && one.last == other.last
-        && one.kind.is_amount() == other.kind.is_amount()
-}
-
-// Whether a field stands before another in the order of a chart: by columns, texts before amounts.
-fn is_before(one: DraftField, other: DraftField) -> bool {
-    one.first < other.first
-        || (one.first == other.first && one.last < other.last)
-        || (one.first == other.first
-            && one.last == other.last
-            && !one.kind.is_amount()
-            && other.kind.is_amount())
-}
-
-// Whether a field has a twin before it in a list.
-fn is_second(fields: &[DraftField], place: usize, field: DraftField) -> bool {
-    for (at, other) in fields.iter().enumerate() {
-        if at < place && are_twins(*other, field) {
-            return true;
-        }
+// Writes the name of the field at a place.
+fn write_name(text: &mut String, names: &[String], place: usize) -> Result<(), AllocError> {
+    match names.get(place) {
+        Some(name) => text.push_str(name.as_str()),
+        None => Ok(()),
     }
-    false
-}
-
-// The number of a field among those that have a twin before them, in the order of a chart.
-fn second_number(fields: &[DraftField], place: usize, field: DraftField) -> u16 {
-    let mut number: u16 = 1;
-    for (at, other) in fields.iter().enumerate() {
-        let is_earlier = is_before(*other, field) || (at < place && are_twins(*other, field));
-        if is_earlier && is_second(fields, at, *other) {
-            number = number.saturating_add(1);
-        }
-    }
-    number
-}
-
-// Writes the name of a field: by its columns, `C3`, `C3TO7` for a text, `A12TO17` for an amount; `F1`, `F2` and so on where a twin has
-// that name.
-fn write_name(text: &mut String, draft: &Draft, place: usize) -> Result<(), AllocError> {
-    let Some(field) = draft.fields.get(place) else {
-        return Ok(());
-    };
-    let fields = draft.fields.as_slice();
-    if is_second(fields, place, *field) {
-        return push_numbered(text, "F", second_number(fields, place, *field));
-    }
-    let letter = if field.kind.is_amount() { "A" } else { "C" };
-    push_numbered(text, letter, field.first)?;
-    if field.first < field.last {
-        push_numbered(text, "TO", field.last)?;
-    }
-    Ok(())
 }
 
 // Writes what the columns of a field hold.
@@ -89,23 +41,33 @@ fn write_kind(text: &mut String, field: DraftField) -> Result<(), AllocError> {
 }
 
 // Writes a field.
-fn write_field(text: &mut String, draft: &Draft, place: usize) -> Result<(), AllocError> {
+fn write_field(
+    text: &mut String,
+    draft: &Draft,
+    names: &[String],
+    place: usize,
+) -> Result<(), AllocError> {
     let Some(field) = draft.fields.get(place) else {
         return Ok(());
     };
     text.push_str("FIELD ")?;
-    write_name(text, draft, place)?;
+    write_name(text, names, place)?;
     write_kind(text, *field)
 }
 
 // Writes a control field.
-fn write_control(text: &mut String, draft: &Draft, place: usize) -> Result<(), AllocError> {
+fn write_control(
+    text: &mut String,
+    draft: &Draft,
+    names: &[String],
+    place: usize,
+) -> Result<(), AllocError> {
     let Some(control) = draft.controls.get(place) else {
         return Ok(());
     };
     push_numbered(text, "CONTROL ", control.level.number())?;
     text.push_str(" ")?;
-    write_name(text, draft, control.field)
+    write_name(text, names, control.field)
 }
 
 // Writes the word of a printed line, and its number.
@@ -160,7 +122,12 @@ fn write_indicated(text: &mut String, level: Option<ControlLevel>) -> Result<(),
 }
 
 // Writes an item.
-fn write_item(text: &mut String, draft: &Draft, place: usize) -> Result<(), AllocError> {
+fn write_item(
+    text: &mut String,
+    draft: &Draft,
+    names: &[String],
+    place: usize,
+) -> Result<(), AllocError> {
     let Some(item) = draft.items.get(place) else {
         return Ok(());
     };
@@ -169,7 +136,7 @@ fn write_item(text: &mut String, draft: &Draft, place: usize) -> Result<(), Allo
     text.push_str(" ")?;
     match &item.said {
         Said::Text { field, indicated } => {
-            write_name(text, draft, *field)?;
+            write_name(text, names, *field)?;
             write_indicated(text, *indicated)
         }
         Said::Amount {
@@ -177,7 +144,7 @@ fn write_item(text: &mut String, draft: &Draft, place: usize) -> Result<(), Allo
             digits,
             mark,
         } => {
-            write_name(text, draft, *field)?;
+            write_name(text, names, *field)?;
             if item.line.emitter() > 4 {
                 write_digits(text, *digits, *mark)?;
             }
@@ -243,14 +210,15 @@ fn write_form(text: &mut String, lines: u8, first: u8, overflow: u8) -> Result<(
 fn write_line(
     text: &mut String,
     draft: &Draft,
+    names: &[String],
     tape: &Tape,
     line: DraftLine,
 ) -> Result<(), AllocError> {
     match line {
-        DraftLine::Field { field } => write_field(text, draft, field),
-        DraftLine::Control { control } => write_control(text, draft, control),
+        DraftLine::Field { field } => write_field(text, draft, names, field),
+        DraftLine::Control { control } => write_control(text, draft, names, control),
         DraftLine::Print { printing } => write_printing(text, printing),
-        DraftLine::Item { item } => write_item(text, draft, item),
+        DraftLine::Item { item } => write_item(text, draft, names, item),
         DraftLine::Blank { line, wheel } => write_blank(text, line, wheel),
         DraftLine::Space { line, spacing } => write_space(text, line, spacing),
         DraftLine::After { line, action } => write_after(text, line, action),
@@ -270,9 +238,10 @@ fn written_lines(
     tape: &Tape,
     lines: &[DraftLine],
 ) -> Result<String, AllocError> {
+    let names = names_of(alloc, draft)?;
     let mut text = String::new(alloc);
     for line in lines {
-        write_line(&mut text, draft, tape, *line)?;
+        write_line(&mut text, draft, names.as_slice(), tape, *line)?;
         text.push_str("\n")?;
     }
     Ok(text)

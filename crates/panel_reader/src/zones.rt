@@ -4,6 +4,10 @@
 //! So the wheels of amounts fall into zones, each with at most one amount a line, and the jacks show them: LINK is plugged on each wheel of
 //! a zone but the first, SYMBOL on those of the mark, SUPPRESS on the digits left of the point, or of the units.
 
+ghost use Rattle.std.specs.Prelude.{◌≡◌, ◌+◌, ◌-◌, ◌≤◌, IfOk, OnOk};
+ghost use Rattle.std.specs.List.{list_any};
+ghost use Rattle.panel_reader.specs.Zones.{CoverBelow, CoverLinks, has_wheel};
+
 use charts::Mark;
 use hubs::Jack;
 use setups::Setup;
@@ -25,6 +29,9 @@ pub(crate) struct Zone {
 }
 
 impl Zone {
+    ghost use Rattle.std.specs.Prelude.{◌≡◌};
+    ghost use Rattle.panel_reader.specs.Zones.{has_wheel};
+
     /// A zone of one wheel: a digit without decimals and without a mark.
     pub(crate) fn of_one(wheel: u8) -> Zone {
         Zone {
@@ -65,18 +72,17 @@ impl Zone {
     }
 
     /// Whether a wheel is one of the zone.
-    pub(crate) fn has(self, wheel: u8) -> bool {
+    pub(crate) fn has(self, wheel: u8) -> bool
+        ensures { result ≡ has_wheel wheel self }
+    {
         self.first <= wheel && wheel <= self.last
     }
 }
 
-// Whether a run of wheels with LINK begins at a wheel.
-fn begins_run(setup: &Setup, wheel: u8) -> bool {
-    setup.has_jack(Jack::Link(wheel)) && !setup.has_jack(Jack::Link(wheel.saturating_sub(1)))
-}
-
 // The last wheel of the run of wheels with LINK that begins at a wheel.
-fn run_end(setup: &Setup, wheel: u8) -> u8 {
+fn run_end(setup: &Setup, wheel: u8) -> u8
+    ensures { wheel ≤ result }
+{
     let mut last = wheel;
     for next in wheel..121 {
         if !setup.has_jack(Jack::Link(next)) {
@@ -119,7 +125,10 @@ fn decimals_at(setup: &Setup, first: u8, units: u8) -> u8 {
 }
 
 // The zone whose second wheel this is.
-fn zone_from(setup: &Setup, second: u8) -> Zone {
+fn zone_from(setup: &Setup, second: u8) -> Zone
+    ensures first { result.first ≡ second - 1 }
+    ensures last { second ≤ result.last }
+{
     let first = second.saturating_sub(1);
     let last = run_end(setup, second);
     let mark = mark_at(setup, last);
@@ -134,15 +143,40 @@ fn zone_from(setup: &Setup, second: u8) -> Zone {
     }
 }
 
-/// The zones that the jacks of a setup show, from the left.
-pub(crate) fn zones_of(alloc: Global, setup: &Setup) -> Result<Vec<Zone>, AllocError> {
+// Adds the zone whose second wheel this is, if LINK is plugged there and the wheel is behind the last zone, and answers the last wheel of the
+// last zone.
+fn add_zone(setup: &Setup, zones: &mut Vec<Zone>, last: u8, wheel: u8) -> Result<u8, AllocError>
+    requires second { 2 ≤ wheel }
+    requires last { CoverBelow setup.now zones.old.items (last + 1) }
+    requires before { CoverBelow setup.now zones.old.items wheel }
+    ensures last { IfOk result (λ end. CoverBelow setup.now zones.new.items (end + 1)) }
+    ensures before { OnOk result (CoverBelow setup.now zones.new.items (wheel + 1)) }
+{
+    if wheel <= last || !setup.has_jack(Jack::Link(wheel)) {
+        return Ok(last);
+    }
+    let zone = zone_from(setup, wheel);
+    zones.push(zone)?;
+    Ok(zone.last)
+}
+
+/// The zones that the jacks of a setup show, from the left: LINK is plugged on the wheels of no other.
+pub(crate) fn zones_of(alloc: Global, setup: &Setup) -> Result<Vec<Zone>, AllocError>
+    ensures { IfOk result (λ zones. CoverLinks setup.now zones.items) }
+{
     let mut zones = Vec::new(alloc);
+    let mut last = 1;
     for wheel in 2..121 {
-        if begins_run(setup, wheel) {
-            zones.push(zone_from(setup, wheel))?;
-        }
+        last = add_zone(setup, &mut zones, last, wheel)?;
     }
     Ok(zones)
+}
+
+/// Whether a wheel is one of a zone of a list.
+pub(crate) fn is_in_zone(zones: &[Zone], wheel: u8) -> bool
+    ensures { result ≡ list_any (has_wheel wheel) zones.now }
+{
+    zones.iter().any(|zone| zone.has(wheel))
 }
 
 /// The zone of a list whose units stand on a wheel; else a zone of this wheel alone.

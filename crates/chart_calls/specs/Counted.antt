@@ -1,4 +1,4 @@
--- A helper of the code: the counts of what was found, none where the panel is wired for the chart, and only there.
+-- How much is missing and too much, as it is told of what was found: nothing if the panel is wired for the chart, and only then.
 use Rattle.std.specs.Prelude.{Option, Some, None}
 use Rattle.match_calls.specs.MatchTexts.Counts.{CountsDifferences}
 use Rattle.match_calls.specs.declared.match_texts.counts.Counts.{Counts}

@@ -1,0 +1,10 @@
+use Rattle.std.specs.Prelude.{IfSome}
+use Rattle.panel_reader.specs.Items.{Gains}
+use Rattle.panel_reader.specs.Zones.{IsRunOutside, IsTextOutside}
+use Rattle.panel_reader.proofs.card_line.put_texts.Given as goal
+
+abbrev pub invariant-loop-wheel : goal.invariant-loop-wheel
+invariant-loop-wheel l = record {
+  run : IfSome l.run (IsRunOutside l.setup);
+  gained : Gains (IsTextOutside l.setup) l.fn.draft l.draft;
+}

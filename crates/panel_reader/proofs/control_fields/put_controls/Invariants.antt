@@ -1,0 +1,8 @@
+use Rattle.panel_reader.specs.Items.{Gains, IsTotalText}
+use Rattle.panel_reader.proofs.control_fields.put_controls.Given as goal
+
+abbrev pub invariant-loop-level : goal.invariant-loop-level
+invariant-loop-level l = Gains IsTotalText l.fn.draft l.draft
+
+abbrev pub invariant-loop-column : goal.invariant-loop-column
+invariant-loop-column l = Gains IsTotalText l.fn.draft l.draft

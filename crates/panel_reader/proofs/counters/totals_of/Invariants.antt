@@ -1,0 +1,6 @@
+use Rattle.std.specs.Prelude.{All}
+use Rattle.panel_reader.specs.Chains.{IsReadOut}
+use Rattle.panel_reader.proofs.counters.totals_of.Given as goal
+
+abbrev pub invariant-loop-place : goal.invariant-loop-place
+invariant-loop-place l = All (IsReadOut l.setup) l.totals.items

@@ -1,0 +1,5 @@
+use Rattle.panel_reader.specs.Items.{Gains, IsLiteral}
+use Rattle.panel_reader.proofs.literals.put_literals.Given as goal
+
+abbrev pub invariant-loop-line : goal.invariant-loop-line
+invariant-loop-line l = Gains IsLiteral l.fn.draft l.draft

@@ -1,0 +1,9 @@
+use Rattle.std.specs.Prelude.{◌+◌}
+use Rattle.panel_reader.specs.Zones.{CoverBelow}
+use Rattle.panel_reader.proofs.zones.zones_of.Given as goal
+
+abbrev pub invariant-loop-wheel : goal.invariant-loop-wheel
+invariant-loop-wheel l = record {
+  last : CoverBelow l.setup l.zones.items (l.last + 1);
+  before : CoverBelow l.setup l.zones.items l.wheel;
+}
