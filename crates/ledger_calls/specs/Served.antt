@@ -2,13 +2,14 @@
 use Rattle.std.specs.Prelude.{◌≡◌, ℕ, List, Option, IfSome}
 use Rattle.std.specs.Io.KnownBytes.{Appends}
 use Rattle.panel_guides.specs.declared.place.Place.{Place}
-use Rattle.wheel_ledgers.specs.declared.scope.Scope.TheVariants.{Figure}
-use Rattle.ledger_calls.specs.Ledgers.{IsLedgerText}
+use Rattle.ledger_calls.specs.Tellings.{TellsWheel}
+use Rattle.ledger_calls.specs.declared.telling.Question.{Question}
 
--- the ledger of the run over the deck that was read was written after what was there
-pub record PrintsLedger (text : List ℕ) (deck : Option (List ℕ)) (ends : ℕ) (place : Place) (old new : Option (List ℕ)) : Type 0 where
+-- what is asked for of a wheel of the run over the deck that was read was written after what was there
+pub record PrintsTelling (text : List ℕ) (deck : Option (List ℕ)) (question : Question) (place : Place) (old new : Option (List ℕ)) :
+    Type 0 where
   pub read : List ℕ
   pub is_deck : IfSome deck (λ known. read ≡ known)
   pub answer : List ℕ
-  pub told : IsLedgerText text read Figure ends place answer
+  pub told : TellsWheel question text read place answer
   pub written : Appends old new answer

@@ -3,7 +3,7 @@
 ghost use Rattle.std.specs.Prelude.{◌≡◌, ◌≢◌, ◌≤◌, false, length, true, IfErr, IfOk};
 ghost use Rattle.card_code.specs.MostCards.{most_cards};
 ghost use Rattle.faults.specs.declared.fault.Fault.TheVariants.{Memory};
-ghost use Rattle.ledger_calls.specs.Ledgers.{IsLedgerText, TellsPlace, ends_told};
+ghost use Rattle.ledger_calls.specs.Ledgers.{AreTotalsOn, IsLedgerText, TellsPlace, ends_told};
 ghost use Rattle.panel_guides.specs.Explained.{IsUnexplained, LacksPlace};
 ghost use Rattle.panel_guides.specs.Panels.{is_wiring_text};
 ghost use Rattle.panel_guides.specs.declared.unexplained.Unexplained.TheVariants.{Failed};
@@ -12,33 +12,15 @@ ghost use Rattle.wheel_ledgers.specs.declared.scope.Scope.TheVariants.{Figure};
 
 use card_code::Card;
 use compile407::Compiled;
-use explanations::Refusal;
 use faults::Fault;
-use panel_guides::{Place, Unexplained, is_wiring_text, planned_run, wired_run};
+use panel_charts::wired_chart;
+use panel_guides::{Place, Unexplained, is_wiring_text, planned_run, unexplained_at, wired_run};
 use setups::Setup;
 use std::alloc::Global;
 use wheel_ledgers::{Scope, TitledAccount, tell_scope, totals_of};
 
 // How many entries at each end of a long ledger are told.
-const ENDS: usize = 20;
-
-// What is told of a wheel that has no ledger.
-fn told_of<'a>(refusal: Refusal, place: Place) -> Unexplained<'a>
-    ensures wheel { refusal ≡ Refusal.NoSuchWheel → result ≡ Unexplained.NoSuchWheel place.wheel }
-    ensures line { refusal ≡ Refusal.NoSuchLine → result ≡ Unexplained.NoSuchLine place.page place.line }
-    ensures memory { refusal ≡ Refusal.Memory → result ≡ Failed Memory }
-{
-    match refusal {
-        Refusal::NoSuchLine => Unexplained::NoSuchLine {
-            page: place.page,
-            line: place.line,
-        },
-        Refusal::NoSuchWheel => Unexplained::NoSuchWheel { wheel: place.wheel },
-        Refusal::Memory => Unexplained::Failed {
-            fault: Fault::Memory,
-        },
-    }
-}
+pub(crate) const ENDS: usize = 20;
 
 // The ledgers for a wheel of a line that a panel prints of cards, by the totals that are known.
 fn told_on<'a>(
@@ -62,8 +44,20 @@ fn told_on<'a>(
         alloc, setup, totals, cards, place.page, place.line, wheel, scope, ends,
     ) {
         Ok(text) => Ok(text),
-        Err(refusal) => Err(told_of(refusal, place)),
+        Err(refusal) => Err(unexplained_at(refusal, place)),
     }
+}
+
+// The totals of the chart that is read off a panel; none if the panel isn't wired for what is read.
+fn totals_on_panel<'a>(alloc: Global, setup: &Setup) -> Result<Vec<TitledAccount>, Fault<'a>>
+    ensures totals { IfOk result (λ totals. AreTotalsOn setup.now totals.items) }
+    ensures accounts { IfOk result (λ totals. AreAccounts totals.items) }
+    ensures memory { IfErr result (λ told. told ≡ Memory) }
+{
+    let Some(read) = wired_chart(alloc, setup)? else {
+        return Ok(Vec::new(alloc));
+    };
+    Ok(totals_of(alloc, read.compiled.chart(), read.plan())?)
 }
 
 // The ledgers for a wheel of a line that is printed of a deck on a panel wired by a wiring chart.
@@ -80,10 +74,11 @@ fn told_by_wiring<'a>(
     ensures refused { IfErr result (λ told. told ≢ Failed Memory → IsUnexplained wiring.now deck.now place told) }
 {
     let wired = wired_run(alloc, wiring, deck)?;
+    let totals = totals_on_panel(alloc, &wired.setup)?;
     told_on(
         alloc,
         &wired.setup,
-        &[],
+        &totals,
         wired.cards.as_slice(),
         place,
         scope,
@@ -127,7 +122,7 @@ fn told_by_chart<'a>(
 }
 
 // The ledgers for a wheel of a line, by the bytes of a text and a deck.
-fn told_in<'a>(
+pub(crate) fn told_in<'a>(
     alloc: Global,
     text: &[u8],
     deck: &[u8],
@@ -146,7 +141,8 @@ fn told_in<'a>(
 }
 
 /// The ledger of the figure on a wheel of a line: of a line of a planning chart's report, or of one that is printed of a deck on a panel
-/// wired by a wiring chart, as [`is_wiring_text`] tells them apart. For a planning chart each entry tells the chart's words. Of a ledger
+/// wired by a wiring chart, as [`is_wiring_text`] tells them apart. Each entry tells the words of the planning chart, or of the chart that is
+/// read off the panel, if it is wired for that one. Of a ledger
 /// with more than 40 entries the first 20 and the last 20 are told, and in one line what those between come to; all of them are told if
 /// `all` is asked for.
 ///

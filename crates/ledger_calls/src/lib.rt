@@ -1,12 +1,17 @@
-//! The ledger of a printed figure, as a command: the cycles that made the number which a counter group is printed of on a wheel, of the run
-//! that a planning chart, or a wiring chart, gives of a deck.
+//! What is told of a wheel of a printed line, as commands: the ledger of its figure, which is the cycles that made the number that a counter
+//! group is printed of on it, or its explanation with the ledgers on which it rests; of the run that a planning chart, or a wiring chart,
+//! gives of a deck.
 //!
-//! [`told_ledger`] answers the text, and [`ledger_to_end`] does the whole command: the text is printed, or why there is none is told on
-//! one line.
+//! [`told_ledger`] and [`explained_whole`] answer the texts, and [`tell_to_end`] does the whole command: what a [`Question`] asks for is
+//! printed, or why it isn't is told on one line.
 #![tactic(auto)]
 
 mod answers;
+mod explaining;
 mod serving;
+mod telling;
 
 pub use answers::told_ledger;
-pub use serving::{ledger_to_end, print_ledger};
+pub use explaining::explained_whole;
+pub use serving::{print_telling, tell_to_end};
+pub use telling::{Question, told_wheel};

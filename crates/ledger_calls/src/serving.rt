@@ -1,60 +1,59 @@
-//! The command that tells a ledger, over any reader and writers.
+//! The command that tells of a wheel, over any reader and writers.
 
 ghost use Rattle.std.specs.Prelude.{◌≡◌, ◌≢◌, ◌≤◌, ◌⊎◌, IfErr, OnOk, Some};
 ghost use Rattle.faults.specs.Lines.{IsTold};
-ghost use Rattle.ledger_calls.specs.Ledgers.{ends_told};
-ghost use Rattle.ledger_calls.specs.Served.{PrintsLedger};
+ghost use Rattle.ledger_calls.specs.Served.{PrintsTelling};
 ghost use Rattle.panel_guides.specs.Panels.{HasPanel};
 ghost use Rattle.panel_guides.specs.Served.{LeavesUnexplained, StopsExplanation};
 ghost use Rattle.panel_guides.specs.Unexplained.{IsToldUnexplained};
 
-use crate::answers::told_ledger;
+use crate::telling::{Question, told_wheel};
 use faults::{Ending, Fault};
 use panel_guides::{Place, Unexplained, check_panel, tell_unexplained};
 use program_io::{put, read_whole};
 use std::alloc::Global;
 use std::io::{Read, Write};
 
-// Prints the ledger for a wheel of a line that is printed of a deck in memory.
+// Prints what is asked for of a wheel of a line that is printed of a deck in memory.
 fn print_told<'a, W: Write>(
     alloc: Global,
     text: &[u8],
     deck: &[u8],
     place: Place,
-    all: bool,
+    question: Question,
     out: &mut W,
 ) -> Result<(), Unexplained<'a>>
-    ensures printed { OnOk result (PrintsLedger text.now (Some deck.now) (ends_told all) place (W.contents out.old) (W.contents out.new)) }
+    ensures printed { OnOk result (PrintsTelling text.now (Some deck.now) question place (W.contents out.old) (W.contents out.new)) }
     ensures stopped { IfErr result (λ told. (unreadable : Fault)
         → StopsExplanation text.now (Some deck.now) place told unreadable (out.new ≡ out.old)) }
 {
-    let answer = told_ledger(alloc, text, deck, place, all)?;
+    let answer = told_wheel(alloc, text, deck, place, question)?;
     put(out, answer.as_slice())?;
     Ok(())
 }
 
-/// Prints the ledger of the figure on a wheel of a line. `path` names the deck in what is told of one that can't be read.
+/// Prints what is asked for of a wheel of a line. `path` names the deck in what is told of one that can't be read.
 ///
 /// # Errors
 ///
-/// As [`told_ledger`] tells, and nothing is printed; of a deck that can't be read a fault of the text comes before. `Memory` if a growth
-/// was refused and `Write` if the output can't be written, and then a part of the ledger may have been printed.
-pub fn print_ledger<'a, R: Read + Drop, W: Write>(
+/// As [`told_wheel`] tells, and nothing is printed; of a deck that can't be read a fault of the text comes before. `Memory` if a growth
+/// was refused and `Write` if the output can't be written, and then a part of the text may have been printed.
+pub fn print_telling<'a, R: Read + Drop, W: Write>(
     alloc: Global,
     text: &[u8],
     path: &'a str,
     deck: R,
     place: Place,
-    all: bool,
+    question: Question,
     out: &mut W,
 ) -> Result<(), Unexplained<'a>>
     ensures printed { OnOk result
-        (PrintsLedger text.now (R.remaining deck) (ends_told all) place (W.contents out.old) (W.contents out.new)) }
+        (PrintsTelling text.now (R.remaining deck) question place (W.contents out.old) (W.contents out.new)) }
     ensures stopped { IfErr result (λ told.
         StopsExplanation text.now (R.remaining deck) place told (Fault.File path.entry) (out.new ≡ out.old)) }
 {
     match read_whole(alloc, deck, path) {
-        Ok(bytes) => print_told(alloc, text, bytes.as_slice(), place, all, out),
+        Ok(bytes) => print_told(alloc, text, bytes.as_slice(), place, question, out),
         Err(unread) => {
             check_panel(alloc, text)?;
             Err(Unexplained::Failed { fault: unread })
@@ -62,24 +61,24 @@ pub fn print_ledger<'a, R: Read + Drop, W: Write>(
     }
 }
 
-/// Prints the ledger of the figure on a wheel of a line, and tells on one line of `faults` why there is none.
+/// Prints what is asked for of a wheel of a line, and tells on one line of `faults` why there is nothing to tell.
 ///
 /// The text is a planning chart, of whose report of the deck the line is one, or a wiring chart, of whose pages of the deck it is one.
 /// `path` names the deck in what is told of one that can't be read, after a fault of the text. The statuses are 0 done, and then nothing
 /// is told, 3 refused input, a line or a wheel that there isn't among it, 4 file fault, 5 memory. Nothing is printed by status 3, nor
-/// if the deck can't be read. If the output can't be written or memory runs out, a part of the ledger may have been.
-pub fn ledger_to_end<R: Read + Drop, W: Write, V: Write>(
+/// if the deck can't be read. If the output can't be written or memory runs out, a part of the text may have been.
+pub fn tell_to_end<R: Read + Drop, W: Write, V: Write>(
     alloc: Global,
     text: &[u8],
     path: &str,
     deck: R,
     place: Place,
-    all: bool,
+    question: Question,
     out: &mut W,
     faults: &mut V,
 ) -> Ending
     ensures done { result.status ≡ 0
-        → PrintsLedger text.now (R.remaining deck) (ends_told all) place (W.contents out.old) (W.contents out.new)
+        → PrintsTelling text.now (R.remaining deck) question place (W.contents out.old) (W.contents out.new)
         × (faults.new ≡ faults.old) }
     ensures refused { result.status ≡ 3 → (told : Unexplained) × LeavesUnexplained text.now (R.remaining deck) place told
         × (out.new ≡ out.old) × IsToldUnexplained told result.is_told (V.contents faults.old) (V.contents faults.new) }
@@ -89,7 +88,7 @@ pub fn ledger_to_end<R: Read + Drop, W: Write, V: Write>(
     ensures memory { result.status ≡ 5 → IsTold Fault.Memory result.is_told (V.contents faults.old) (V.contents faults.new) }
     ensures statuses { (result.status ≡ 0) ⊎ (3 ≤ result.status × result.status ≤ 5) }
 {
-    match print_ledger(alloc, text, path, deck, place, all, out) {
+    match print_telling(alloc, text, path, deck, place, question, out) {
         Ok(()) => Ending {
             status: 0,
             is_told: true,

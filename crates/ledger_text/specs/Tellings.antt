@@ -4,7 +4,6 @@ use Rattle.net.specs.declared.cycle.Cycle.{Cycle}
 use Rattle.ledgers.specs.Summaries.{Summary}
 use Rattle.ledgers.specs.declared.account.Account.{Account}
 use Rattle.ledger_text.specs.Entries.{Words, entry_lines, gap_lines}
-use Rattle.ledger_text.specs.Figures.{printed_text}
 use Rattle.ledger_text.specs.Names.{account_text, cycle_text}
 
 -- whose ledger it is, and before which cycle
@@ -16,11 +15,9 @@ abbrev pub summary_lines : Option Words → Summary → List ℕ
 summary_lines words told =
     entry_lines words told.account told.first ++ gap_lines words told.left_out ++ entry_lines words told.account told.last
 
--- A ledger before a cycle, by the number of the card that was read last, the words that a chart has for it, and the line with the wheel
--- that prints of its number.
-abbrev pub ledger_text : Summary → Cycle → ℕ → Option Words → (line : List ℕ) → (wheel : ℕ) → List ℕ
-ledger_text told cycle card words line wheel =
-    heading_line told.account cycle card ++ summary_lines words told ++ printed_text line wheel
+-- A ledger before a cycle, by the number of the card that was read last and the words that a chart has for it.
+abbrev pub ledger_text : Summary → Cycle → ℕ → Option Words → List ℕ
+ledger_text told cycle card words = heading_line told.account cycle card ++ summary_lines words told
 
 -- that there is no ledger to tell
 abbrev pub no_ledger_text : List ℕ

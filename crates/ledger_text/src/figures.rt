@@ -37,8 +37,9 @@ fn figure_at(text: &[u8], wheel: usize) -> &[u8]
     &figure[..figure_length(figure)]
 }
 
-// What was printed on a wheel, and beside it.
-pub(crate) fn write_printed(text: &mut Vec<u8>, line: &[u8], wheel: usize) -> io::Result<()>
+/// Puts behind a text what was printed on a wheel, from 1, of a line and beside it: the line that closes the ledger of a figure. Fails only
+/// if no memory is left.
+pub fn write_printed(text: &mut Vec<u8>, line: &[u8], wheel: usize) -> io::Result<()>
     requires from { 1 ≤ wheel }
     requires to { wheel ≤ length line.now }
     ensures { OnOk result (text.new.items ≡ text.old.items ++ printed_text line.now wheel) }

@@ -1,7 +1,7 @@
 //! The text of a ledger, as a bookkeeper would tell it: each line and each word is a function of the ledger.
 //!
-//! [`write_ledger`] writes a ledger: the cycle that it is told before, its entries with the words that a chart has for them, as a
-//! [`Title`] tells it, and the figure that was printed.
+//! [`write_ledger`] writes a ledger: the cycle that it is told before, and its entries with the words that a chart has for them, as a
+//! [`Title`] tells it. [`write_printed`] writes the figure that was printed, and [`write_cycle`] the name of a cycle.
 #![tactic(auto)]
 
 mod amounts;
@@ -11,5 +11,7 @@ mod names;
 mod telling;
 mod title;
 
+pub use figures::write_printed;
+pub use names::write_cycle;
 pub use telling::{write_ledger, write_no_ledger};
 pub use title::Title;

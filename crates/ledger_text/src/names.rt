@@ -39,8 +39,9 @@ fn write_after(text: &mut Vec<u8>, cycle: Cycle, card: u32) -> io::Result<()>
     }
 }
 
-// Which cycle, and the card.
-pub(crate) fn write_cycle(text: &mut Vec<u8>, cycle: Cycle, card: u32) -> io::Result<()>
+/// Puts behind a text which cycle it is: of a card cycle the number of its card, of any other that of the card that was read last. Fails
+/// only if no memory is left.
+pub fn write_cycle(text: &mut Vec<u8>, cycle: Cycle, card: u32) -> io::Result<()>
     ensures { OnOk result (text.new.items ≡ text.old.items ++ cycle_text cycle card) }
 {
     write_name(text, cycle, card)?;

@@ -1,12 +1,11 @@
 //! The text of a ledger.
 
-ghost use Rattle.std.specs.Prelude.{◌≡◌, ◌≤◌, ◌++◌, OnOk, length, option_map};
+ghost use Rattle.std.specs.Prelude.{◌≡◌, ◌++◌, OnOk, option_map};
 ghost use Rattle.ledgers.specs.Accounts.{IsAccount};
 ghost use Rattle.ledger_text.specs.Tellings.{heading_line, ledger_text, no_ledger_text, summary_lines};
 ghost use Rattle.ledger_text.specs.Titles.{words_of};
 
 use crate::entries::{write_entries, write_gaps};
-use crate::figures::write_printed;
 use crate::names::{write_account, write_cycle};
 use crate::title::Title;
 use ledgers::{Account, Ledger};
@@ -38,26 +37,19 @@ fn write_summary(text: &mut Vec<u8>, title: &Option<Title>, ledger: &Ledger) -> 
 }
 
 /// Puts the text of a ledger behind a text. The ledger is told before a cycle, by the number of the card that was read last in it; a title is
-/// what a chart knows of it; the line is the one that the cycle placed, and the wheel, from 1, one on which the number was printed.
-/// Fails only if no memory is left.
+/// what a chart knows of it. Fails only if no memory is left.
 pub fn write_ledger(
     text: &mut Vec<u8>,
     ledger: &Ledger,
     cycle: Cycle,
     card: u32,
     title: &Option<Title>,
-    line: &[u8],
-    wheel: usize,
 ) -> io::Result<()>
-    requires account { IsAccount ledger.now.account }
-    requires from { 1 ≤ wheel }
-    requires to { wheel ≤ length line.now }
-    ensures { OnOk result (text.new.items ≡ text.old.items
-        ++ ledger_text ledger.now cycle card (option_map words_of title.now) line.now wheel) }
+    requires { IsAccount ledger.now.account }
+    ensures { OnOk result (text.new.items ≡ text.old.items ++ ledger_text ledger.now cycle card (option_map words_of title.now)) }
 {
     write_heading(text, ledger.account(), cycle, card)?;
-    write_summary(text, title, ledger)?;
-    write_printed(text, line, wheel)
+    write_summary(text, title, ledger)
 }
 
 /// Puts behind a text that there is no ledger to tell. Fails only if no memory is left.

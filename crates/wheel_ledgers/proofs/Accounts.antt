@@ -10,9 +10,10 @@ use Rattle.ledgers.specs.Summaries.{Summary}
 use Rattle.ledgers.specs.declared.account.Account.{Account}
 use Rattle.ledgers.specs.declared.found.FoundCycle.{FoundCycle}
 use Rattle.ledger_text.specs.Entries.{Words}
+use Rattle.ledger_text.specs.Figures.{printed_text}
 use Rattle.ledger_text.specs.Tellings.{ledger_text}
 use Rattle.wheel_ledgers.specs.Printed.{place_printed}
-use Rattle.wheel_ledgers.specs.Told.{IsPlaceText, IsTextFor, TellsLedger, account_told, words_told}
+use Rattle.wheel_ledgers.specs.Told.{IsFigureText, IsPlaceText, IsTextFor, TellsLedger, account_told, words_told}
 use Rattle.wheel_ledgers.specs.declared.chart_totals.TitledAccount.{TitledAccount}
 
 -- the account that is told for a place is on the panel
@@ -27,21 +28,30 @@ pub is_account_kept : (wiring : Wiring) (deck : List (List ℕ)) (passed ends : 
 is_account_kept wiring deck passed ends account told kept is = subst (λ (any : Summary). IsAccount any.account) (sym kept.told_is) is
 
 -- the text of what is kept of a ledger
-pub is_place_text : (wiring : Wiring) (cards : List (List ℕ)) (ends : ℕ) (found : FoundCycle) (wheel : ℕ)
-    (total known : Option TitledAccount) (place : ℕ) (account : Account) (words : Option Words) (summary : Summary) (old new : List ℕ)
-    → known ≡ total → account ≡ account_told known place → words ≡ words_told known
-    → IsKeptLedger wiring cards found.passed ends account summary → old ≡ []
-    → new ≡ old ++ ledger_text summary found.cycle found.card words found.line.text wheel
-    → IsPlaceText wiring cards ends found wheel total place new
-is_place_text wiring cards ends found wheel total known place account words summary old new same told titled kept none written = record {
+pub is_place_text : (wiring : Wiring) (cards : List (List ℕ)) (ends : ℕ) (found : FoundCycle) (total known : Option TitledAccount)
+    (place : ℕ) (account : Account) (words : Option Words) (summary : Summary) (old new : List ℕ) → known ≡ total
+    → account ≡ account_told known place → words ≡ words_told known → IsKeptLedger wiring cards found.passed ends account summary
+    → old ≡ [] → new ≡ old ++ ledger_text summary found.cycle found.card words → IsPlaceText wiring cards ends found total place new
+is_place_text wiring cards ends found total known place account words summary old new same told titled kept none written = record {
   summary = summary;
   is =
       subst (λ (any : Account). IsKeptLedger wiring cards found.passed ends any summary)
       (told ∙ ap (λ (one : Option TitledAccount). account_told one place) same) kept;
   text =
       written
-      ∙ ap (λ (front : List ℕ). front ++ ledger_text summary found.cycle found.card words found.line.text wheel) none
-      ∙ ap (λ (any : Option Words). ledger_text summary found.cycle found.card any found.line.text wheel) (titled ∙ ap words_told same);
+      ∙ ap (λ (front : List ℕ). front ++ ledger_text summary found.cycle found.card words) none
+      ∙ ap (λ (any : Option Words). ledger_text summary found.cycle found.card any) (titled ∙ ap words_told same);
+}
+
+-- with the figure that was printed
+pub is_figure_text : (wiring : Wiring) (cards : List (List ℕ)) (ends : ℕ) (found : FoundCycle) (wheel : ℕ)
+    (total : Option TitledAccount) (place : ℕ) (line ledger new : List ℕ) → line ≡ found.line.text
+    → IsPlaceText wiring cards ends found total place ledger → new ≡ ledger ++ printed_text line wheel
+    → IsFigureText wiring cards ends found wheel total place new
+is_figure_text wiring cards ends found wheel total place line ledger new same is written = record {
+  ledger = ledger;
+  is = is;
+  text = written ∙ ap (λ (any : List ℕ). ledger ++ printed_text any wheel) same;
 }
 
 -- the text for a wheel that is explained, of the line that was found

@@ -14,19 +14,19 @@ use Rattle.wheel_ledgers.specs.Totals.{find_total}
 use Rattle.wheel_ledgers.specs.declared.chart_totals.TitledAccount.{TitledAccount}
 
 -- one ledger more
-pub one_more : (wiring : Wiring) (cards : List (List ℕ)) (totals : List TitledAccount) (ends : ℕ) (found : FoundCycle) (wheel : ℕ)
+pub one_more : (wiring : Wiring) (cards : List (List ℕ)) (totals : List TitledAccount) (ends : ℕ) (found : FoundCycle)
     (ways : List (Option (Vec Hub Global))) (place : ℕ) (old text new : List ℕ)
-    → AreTexts wiring cards totals ends found wheel ways place old → is_printed_of ways place ≡ true
-    → IsPlaceText wiring cards ends found wheel (find_total totals place) place text → new ≡ old ++ text
-    → AreTexts wiring cards totals ends found wheel ways (place + 1) new
-one_more wiring cards totals ends found wheel ways place old text new are printed is put =
-    subst (λ (all : List ℕ). AreTexts wiring cards totals ends found wheel ways (place + 1) all) (sym put) (more place old text are printed is)
+    → AreTexts wiring cards totals ends found ways place old → is_printed_of ways place ≡ true
+    → IsPlaceText wiring cards ends found (find_total totals place) place text → new ≡ old ++ text
+    → AreTexts wiring cards totals ends found ways (place + 1) new
+one_more wiring cards totals ends found ways place old text new are printed is put =
+    subst (λ (all : List ℕ). AreTexts wiring cards totals ends found ways (place + 1) all) (sym put) (more place old text are printed is)
 
 -- all of them, for a wheel that is explained, of the line that was found
 pub tells_ledgers : (wiring : Wiring) (cards : List (List ℕ)) (totals : List TitledAccount) (ends page line wheel : ℕ) (told : Explanation)
     (found : FoundCycle) (ways : List (Option (Vec Hub Global))) (answer : List ℕ) → IsExplanation wiring cards page line wheel told
     → PlacesLine wiring cards found → found.line.page ≡ page → found.line.line ≡ line → ways ≡ told.rows.items
-    → AreTexts wiring cards totals ends found wheel ways 32 answer → TellsLedgers wiring cards totals ends page line wheel answer
+    → AreTexts wiring cards totals ends found ways 32 answer → TellsLedgers wiring cards totals ends page line wheel answer
 tells_ledgers wiring cards totals ends page line wheel told found ways answer explains places at_page at_line are texts = record {
   explanation = told;
   explains = explains;
@@ -34,5 +34,5 @@ tells_ledgers wiring cards totals ends page line wheel told found ways answer ex
   places = places;
   at_page = at_page;
   at_line = at_line;
-  texts = subst (λ (any : List (Option (Vec Hub Global))). AreTexts wiring cards totals ends found wheel any 32 answer) are texts;
+  texts = subst (λ (any : List (Option (Vec Hub Global))). AreTexts wiring cards totals ends found any 32 answer) are texts;
 }

@@ -28,16 +28,16 @@ is_printed_of [] place = false
 is_printed_of (way ∷ ways) place = begins_at way place || is_printed_of ways place
 
 -- The texts of the ledgers, one behind the other, of those of the first places at whose groups one of some ways begins.
-pub data AreTexts (wiring : Wiring) (cards : List (List ℕ)) (totals : List TitledAccount) (ends : ℕ) (found : FoundCycle) (wheel : ℕ)
+pub data AreTexts (wiring : Wiring) (cards : List (List ℕ)) (totals : List TitledAccount) (ends : ℕ) (found : FoundCycle)
     (ways : List (Option (Vec Hub Global))) : ℕ → List ℕ → Type 0 where
-  none : AreTexts wiring cards totals ends found wheel ways 0 []
+  none : AreTexts wiring cards totals ends found ways 0 []
   more :
-      (place : ℕ) (texts text : List ℕ) → AreTexts wiring cards totals ends found wheel ways place texts
-      → is_printed_of ways place ≡ true → IsPlaceText wiring cards ends found wheel (find_total totals place) place text
-      → AreTexts wiring cards totals ends found wheel ways (place + 1) (texts ++ text)
+      (place : ℕ) (texts text : List ℕ) → AreTexts wiring cards totals ends found ways place texts
+      → is_printed_of ways place ≡ true → IsPlaceText wiring cards ends found (find_total totals place) place text
+      → AreTexts wiring cards totals ends found ways (place + 1) (texts ++ text)
   other :
-      (place : ℕ) (texts : List ℕ) → AreTexts wiring cards totals ends found wheel ways place texts → is_printed_of ways place ≡ false
-      → AreTexts wiring cards totals ends found wheel ways (place + 1) texts
+      (place : ℕ) (texts : List ℕ) → AreTexts wiring cards totals ends found ways place texts → is_printed_of ways place ≡ false
+      → AreTexts wiring cards totals ends found ways (place + 1) texts
 
 -- On a panel, over cards, by the totals of a chart: the text tells the ledgers of all counter groups that are printed on the wheel of the
 -- line at this page and line of it, as the explanation of the wheel has it, before a cycle that placed the line there.
@@ -49,4 +49,4 @@ pub record TellsLedgers (wiring : Wiring) (cards : List (List ℕ)) (totals : Li
   pub places : PlacesLine wiring cards found
   pub at_page : found.line.page ≡ page
   pub at_line : found.line.line ≡ line
-  pub texts : AreTexts wiring cards totals ends found wheel explanation.rows.items 32 answer
+  pub texts : AreTexts wiring cards totals ends found explanation.rows.items 32 answer

@@ -1,8 +1,9 @@
 -- The ledger of the figure on a wheel of a printed line.
-use Rattle.std.specs.Prelude.{◌≡◌, ℕ, List, Option, Some, None}
+use Rattle.std.specs.Prelude.{◌≡◌, ℕ, List, ◌++◌, Option, Some, None}
 use Rattle.explanations.specs.Explanations.{IsExplanation}
 use Rattle.explanations.specs.declared.explanation.Explanation.{Explanation}
 use Rattle.ledger_text.specs.Entries.{Words}
+use Rattle.ledger_text.specs.Figures.{printed_text}
 use Rattle.ledger_text.specs.Tellings.{ledger_text, no_ledger_text}
 use Rattle.ledger_text.specs.Titles.{words_of}
 use Rattle.ledgers.specs.Running.{IsKeptLedger, PlacesLine}
@@ -26,17 +27,24 @@ words_told (Some total) = Some (words_of total.title)
 words_told None = None
 
 -- The text of the ledger of a place, before a cycle that placed a line: its entries are those of the account that is told for the place.
-pub record IsPlaceText (wiring : Wiring) (cards : List (List ℕ)) (ends : ℕ) (found : FoundCycle) (wheel : ℕ)
-    (total : Option TitledAccount) (place : ℕ) (answer : List ℕ) : Type 0 where
+pub record IsPlaceText (wiring : Wiring) (cards : List (List ℕ)) (ends : ℕ) (found : FoundCycle) (total : Option TitledAccount)
+    (place : ℕ) (answer : List ℕ) : Type 0 where
   pub summary : Summary
   pub is : IsKeptLedger wiring cards found.passed ends (account_told total place) summary
-  pub text : answer ≡ ledger_text summary found.cycle found.card (words_told total) found.line.text wheel
+  pub text : answer ≡ ledger_text summary found.cycle found.card (words_told total)
+
+-- The text for a figure: the ledger of a place, and the figure that stands on the wheel.
+pub record IsFigureText (wiring : Wiring) (cards : List (List ℕ)) (ends : ℕ) (found : FoundCycle) (wheel : ℕ)
+    (total : Option TitledAccount) (place : ℕ) (answer : List ℕ) : Type 0 where
+  pub ledger : List ℕ
+  pub is : IsPlaceText wiring cards ends found total place ledger
+  pub text : answer ≡ ledger ++ printed_text found.line.text wheel
 
 -- The text for what is printed on a wheel: the ledger of the place of a counter group, or that there is none.
 abbrev pub IsTextFor : Wiring → List (List ℕ) → (ends : ℕ) → FoundCycle → ℕ → List TitledAccount → Option ℕ → List ℕ → Type 0
 IsTextFor wiring cards ends found wheel totals None answer = answer ≡ no_ledger_text
 IsTextFor wiring cards ends found wheel totals (Some place) answer =
-    IsPlaceText wiring cards ends found wheel (find_total totals place) place answer
+    IsFigureText wiring cards ends found wheel (find_total totals place) place answer
 
 -- On a panel, over cards, by the totals of a chart: the text tells the ledger of the counter group that is printed on the wheel of the line
 -- at this page and line of it, as the explanation of the wheel has it, before a cycle that placed the line there.

@@ -55,21 +55,19 @@ fn add_ledger(
     found: FoundCycle,
     ways: &[Option<Vec<Hub>>],
     place: usize,
-    wheel: u8,
     ends: usize,
 ) -> Result<(), AllocError>
     requires few { length cards.now ≤ most_cards }
     requires accounts { AreAccounts totals.now }
     requires places { PlacesLine setup.now cards.now found }
     requires place { place < 32 }
-    requires wheel { (1 ≤ wheel) × (wheel ≤ 120) }
-    requires texts { AreTexts setup.now cards.now totals.now ends found wheel ways.now place text.old.items }
-    ensures { OnOk result (AreTexts setup.now cards.now totals.now ends found wheel ways.now (place + 1) text.new.items) }
+    requires texts { AreTexts setup.now cards.now totals.now ends found ways.now place text.old.items }
+    ensures { OnOk result (AreTexts setup.now cards.now totals.now ends found ways.now (place + 1) text.new.items) }
 {
     if !is_printed_of(ways, place) {
         return Ok(());
     }
-    let ledger = place_text(alloc, setup, totals, cards, found, place, wheel, ends)?;
+    let ledger = place_text(alloc, setup, totals, cards, found, place, ends)?;
     Ok(text.extend_from_slice(ledger.as_slice())?)
 }
 
@@ -81,19 +79,17 @@ fn texts_of(
     cards: &[Card],
     found: FoundCycle,
     ways: &[Option<Vec<Hub>>],
-    wheel: u8,
     ends: usize,
 ) -> Result<Vec<u8>, AllocError>
     requires few { length cards.now ≤ most_cards }
     requires accounts { AreAccounts totals.now }
     requires places { PlacesLine setup.now cards.now found }
-    requires wheel { (1 ≤ wheel) × (wheel ≤ 120) }
-    ensures { IfOk result (λ text. AreTexts setup.now cards.now totals.now ends found wheel ways.now 32 text.items) }
+    ensures { IfOk result (λ text. AreTexts setup.now cards.now totals.now ends found ways.now 32 text.items) }
 {
     let mut text = Vec::new(alloc);
     for place in 0..GROUPS {
         add_ledger(
-            alloc, &mut text, setup, totals, cards, found, ways, place, wheel, ends,
+            alloc, &mut text, setup, totals, cards, found, ways, place, ends,
         )?;
     }
     Ok(text)
@@ -121,14 +117,15 @@ fn ledgers_of(
 {
     let found = cycle_of(alloc, setup, cards, page, line)?;
     let ways = told.rows.as_slice();
-    match texts_of(alloc, setup, totals, cards, found, ways, wheel, ends) {
+    match texts_of(alloc, setup, totals, cards, found, ways, ends) {
         Ok(text) => Ok(text),
         Err(_) => Err(Refusal::Memory),
     }
 }
 
 /// The texts of the ledgers of all counter groups that a wheel of a line is printed of, one behind the other: of each group at one of whose
-/// exits a way to the wheel begins, in the order of the groups on the panel. None of them if no way does. Otherwise as [`tell_ledger`].
+/// exits a way to the wheel begins, in the order of the groups on the panel. None of them if no way does. The figure that was printed isn't
+/// told. Otherwise as [`tell_ledger`].
 ///
 /// Refused with `NoSuchWheel` if the wheel isn't one of 1 to 120, else with `NoSuchLine` if no line stands there, and with `Memory` if
 /// no memory is left.

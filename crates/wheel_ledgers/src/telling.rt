@@ -8,14 +8,14 @@ ghost use Rattle.explanations.specs.declared.refusal.Refusal.TheVariants.{NoSuch
 ghost use Rattle.ledgers.specs.Running.{PlacesLine};
 ghost use Rattle.ledger_text.specs.Titles.{words_of};
 ghost use Rattle.ledger_text.specs.Tellings.{no_ledger_text};
-ghost use Rattle.wheel_ledgers.specs.Told.{IsPlaceText, IsTextFor, TellsLedger, account_told, words_told};
+ghost use Rattle.wheel_ledgers.specs.Told.{IsFigureText, IsPlaceText, IsTextFor, TellsLedger, account_told, words_told};
 ghost use Rattle.wheel_ledgers.specs.Totals.{AreAccounts, find_total};
 
 use crate::chart_totals::{TitledAccount, find_total};
 use crate::printed::place_printed;
 use card_code::Card;
 use explanations::{Explanation, Refusal, explain};
-use ledger_text::{Title, write_ledger, write_no_ledger};
+use ledger_text::{Title, write_ledger, write_no_ledger, write_printed};
 use ledgers::{Account, FoundCycle, find_cycle, ledger_before};
 use setups::Setup;
 use std::alloc::{AllocError, Global};
@@ -48,6 +48,33 @@ pub(crate) fn place_text(
     cards: &[Card],
     found: FoundCycle,
     place: usize,
+    ends: usize,
+) -> Result<Vec<u8>, AllocError>
+    requires few { length cards.now ≤ most_cards }
+    requires accounts { AreAccounts totals.now }
+    requires places { PlacesLine setup.now cards.now found }
+    requires place { place < 32 }
+    ensures { IfOk result (λ text. IsPlaceText setup.now cards.now ends found (find_total totals.now place) place text.items) }
+{
+    let total = find_total(totals, place);
+    let account = account_told(&total, place);
+    let ledger = ledger_before(alloc, setup, cards, found.passed, account, ends)?;
+    let mut text = Vec::new(alloc);
+    let title = title_told(&total);
+    match write_ledger(&mut text, &ledger, found.cycle, found.card, &title) {
+        Ok(()) => Ok(text),
+        Err(_) => Err(AllocError),
+    }
+}
+
+// The text for a figure on a wheel of the line that a cycle placed: the ledger of the account for a place, and the figure.
+fn figure_text(
+    alloc: Global,
+    setup: &Setup,
+    totals: &[TitledAccount],
+    cards: &[Card],
+    found: FoundCycle,
+    place: usize,
     wheel: u8,
     ends: usize,
 ) -> Result<Vec<u8>, AllocError>
@@ -57,22 +84,10 @@ pub(crate) fn place_text(
     requires place { place < 32 }
     requires wheel { (1 ≤ wheel) × (wheel ≤ 120) }
     ensures { IfOk result (λ text.
-        IsPlaceText setup.now cards.now ends found wheel (find_total totals.now place) place text.items) }
+        IsFigureText setup.now cards.now ends found wheel (find_total totals.now place) place text.items) }
 {
-    let total = find_total(totals, place);
-    let account = account_told(&total, place);
-    let ledger = ledger_before(alloc, setup, cards, found.passed, account, ends)?;
-    let mut text = Vec::new(alloc);
-    let title = title_told(&total);
-    match write_ledger(
-        &mut text,
-        &ledger,
-        found.cycle,
-        found.card,
-        &title,
-        &found.line.text,
-        wheel as usize,
-    ) {
+    let mut text = place_text(alloc, setup, totals, cards, found, place, ends)?;
+    match write_printed(&mut text, &found.line.text, wheel as usize) {
         Ok(()) => Ok(text),
         Err(_) => Err(AllocError),
     }
@@ -108,7 +123,7 @@ fn text_for(
     ensures { IfOk result (λ text. IsTextFor setup.now cards.now ends found wheel totals.now place text.items) }
 {
     match place {
-        Some(place) => place_text(alloc, setup, totals, cards, found, place, wheel, ends),
+        Some(place) => figure_text(alloc, setup, totals, cards, found, place, wheel, ends),
         None => no_ledger_text(alloc),
     }
 }

@@ -4,7 +4,7 @@ use Rattle.panel_guides.proofs.Explaining.{lacking_of_texts, texts_refused}
 use Rattle.panel_guides.specs.Panels.{reported}
 use Rattle.ledger_calls.specs.Ledgers.{of_chart}
 use Rattle.wheel_ledgers.specs.Totals.{totals_in}
-use Rattle.ledger_calls.proofs.Telling.{told_of_texts}
+use Rattle.ledger_calls.proofs.Texts.{told_of_texts}
 use Rattle.ledger_calls.proofs.answers.told_by_chart.Goals as goal
 
 pub returns-in_err-planned-clause-refused : goal.returns-in_err-planned-clause-refused

@@ -9,7 +9,7 @@ returns-then-not-is_printed_of c =
 
 pub returns : goal.returns
 returns c =
-    one_more c.args.setup.now c.args.cards.now c.args.totals.now c.args.ends c.args.found c.args.wheel c.args.ways.now c.args.place
+    one_more c.args.setup.now c.args.cards.now c.args.totals.now c.args.ends c.args.found c.args.ways.now c.args.place
     c.args.text.now.items c.in_ok-ledger.ledger.items c.extend_from_slice.new.self.items c.requires.texts
     (sym c.is_printed_of.ensures ∙ c.if-not-is_printed_of.false) c.in_ok-ledger.ensures
     (c.in_ok-extend_from_slice.ensures.items ∙ ap (λ (l : List ℕ). c.args.text.now.items ++ l) c.as_slice.ensures.value)

@@ -4,4 +4,4 @@ use Rattle.wheel_ledgers.proofs.resting.texts_of.Given as goal
 -- the ledgers of the places so far are there
 abbrev pub invariant-loop-place : goal.invariant-loop-place
 invariant-loop-place l =
-    AreTexts l.setup l.cards l.totals l.fn.ends l.fn.found l.fn.wheel l.ways l.place l.text.items
+    AreTexts l.setup l.cards l.totals l.fn.ends l.fn.found l.ways l.place l.text.items

@@ -2,14 +2,13 @@ use Rattle.std.proofs.Common.{refl}
 use Rattle.std.proofs.lemmas.Result.{err_from_is_err_and}
 use Rattle.panel_guides.proofs.Stopping.{refused_unread, stops_for}
 use Rattle.program_io.proofs.StoppingWith.{deck_stops_with}
-use Rattle.ledger_calls.proofs.Telling.{prints_for}
-use Rattle.ledger_calls.specs.Ledgers.{ends_told}
-use Rattle.ledger_calls.proofs.serving.print_ledger.Goals as goal
+use Rattle.ledger_calls.proofs.Texts.{prints_for}
+use Rattle.ledger_calls.proofs.serving.print_telling.Goals as goal
 
 pub returns-in-Ok-clause-printed : goal.returns-in-Ok-clause-printed
 returns-in-Ok-clause-printed g c =
     prints_for c.print_told.result c.args.text.now c.as_slice.result.now c.in-Ok.bytes.items (g.R.Read.remaining c.args.deck) _ _
-    (ends_told c.args.all) c.args.place c.as_slice.ensures.value c.in-Ok.ensures.whole c.print_told.ensures.printed
+    c.args.question c.args.place c.as_slice.ensures.value c.in-Ok.ensures.whole c.print_told.ensures.printed
 
 pub returns-in-Ok-clause-stopped : goal.returns-in-Ok-clause-stopped
 returns-in-Ok-clause-stopped g c =

@@ -6,13 +6,14 @@ use Rattle.panel_guides.specs.Panels.{IsRunOf}
 use Rattle.panel_guides.specs.declared.place.Place.{Place}
 use Rattle.wheel_ledgers.specs.declared.scope.Scope.{Scope}
 use Rattle.ledger_calls.specs.Ledgers.{AreTotals, IsLedgerText, TellsPlace}
-use Rattle.ledger_calls.specs.Served.{PrintsLedger}
+use Rattle.ledger_calls.specs.Served.{PrintsTelling}
+use Rattle.ledger_calls.specs.declared.telling.Question.{Question}
 use Rattle.wheel_ledgers.specs.declared.chart_totals.TitledAccount.{TitledAccount}
 
 -- what is told on a panel is of the texts that give it
 pub told_of_texts : {X E : Type 0} (result : Result X E) (items : X → List ℕ) (text deck : List ℕ) (scope : Scope) (ends : ℕ) (place : Place) (wiring : Wiring)
     (slice cards : List (List ℕ)) (totals known : List TitledAccount) → slice ≡ cards → totals ≡ known → IsRunOf text deck cards wiring
-    → AreTotals text known → IfOk result (λ answer. TellsPlace wiring slice totals scope ends place (items answer))
+    → AreTotals text wiring known → IfOk result (λ answer. TellsPlace wiring slice totals scope ends place (items answer))
     → IfOk result (λ answer. IsLedgerText text deck scope ends place (items answer))
 told_of_texts (Ok answer) items text deck scope ends place wiring slice cards totals known same same_totals run are tells = record {
   wiring = wiring;
@@ -27,14 +28,14 @@ told_of_texts (Ok answer) items text deck scope ends place wiring slice cards to
 told_of_texts (Err _) items text deck scope ends place wiring slice cards totals known same same_totals run are tells = tt
 
 -- a deck that is known is the one in memory
-pub prints_for : {X E : Type 0} (result : Result X E) (text read items : List ℕ) (deck old new : Option (List ℕ)) (ends : ℕ) (place : Place)
-    → read ≡ items → IfSome deck (λ known. items ≡ known) → OnOk result (PrintsLedger text (Some read) ends place old new)
-    → OnOk result (PrintsLedger text deck ends place old new)
-prints_for (Ok _) text read items deck old new ends place same is_deck is = record {
+pub prints_for : {X E : Type 0} (result : Result X E) (text read items : List ℕ) (deck old new : Option (List ℕ)) (question : Question)
+    (place : Place) → read ≡ items → IfSome deck (λ known. items ≡ known) → OnOk result (PrintsTelling text (Some read) question place old new)
+    → OnOk result (PrintsTelling text deck question place old new)
+prints_for (Ok _) text read items deck old new question place same is_deck is = record {
   read = is.read;
   is_deck = subst (λ (bytes : List ℕ). IfSome deck (λ known. bytes ≡ known)) (sym (is.is_deck ∙ same)) is_deck;
   answer = is.answer;
   told = is.told;
   written = is.written;
 }
-prints_for (Err _) text read items deck old new ends place same is_deck is = tt
+prints_for (Err _) text read items deck old new question place same is_deck is = tt

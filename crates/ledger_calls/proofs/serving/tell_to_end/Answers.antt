@@ -1,7 +1,7 @@
 use Rattle.std.proofs.Common.{refl}
 use Rattle.panel_guides.specs.Unexplained.{IsToldUnexplained}
 use Rattle.program_io.proofs.StoppingWith.{device_with, memory_with, refused_with, status_with}
-use Rattle.ledger_calls.proofs.serving.ledger_to_end.Goals as goal
+use Rattle.ledger_calls.proofs.serving.tell_to_end.Goals as goal
 
 pub returns-in-Err-clause-refused : goal.returns-in-Err-clause-refused
 returns-in-Err-clause-refused g c = λ three.

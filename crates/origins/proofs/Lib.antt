@@ -1,0 +1,5 @@
+pub mod Keeping
+pub mod Storing
+pub mod Texts
+mod Leaving
+mod Standing

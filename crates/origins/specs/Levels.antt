@@ -1,0 +1,96 @@
+-- Why the program cycles of a level run: the card was the last one, or it and the next one differ in columns that are compared.
+use Rattle.std.specs.Prelude.{ℕ, zero, suc, ◌==◌, ◌&&◌, nat_le, Bool, List, [], ◌++◌, Option, Some, None, codes, decimal, length, if◌then◌else◌}
+use Rattle.std.specs.List.{flat_map}
+use Rattle.card_code.specs.Rows.{rows}
+use Rattle.card_code.specs.declared.row.Row.{Row}
+use Rattle.hubs.specs.declared.hub.Hub.TheVariants.{CA, CB, CX, ST}
+use Rattle.net.specs.Cycles.{level_number}
+use Rattle.net.specs.declared.cycle.Cycle.{Cycle}
+use Rattle.net.specs.declared.cycle.Cycle.TheVariants.{RunIn, Card, Prog, Head}
+use Rattle.setups.specs.Wiring.{Wiring, is_wired}
+use Rattle.origins.specs.Holes.{brush_text, column_text, first_of, hole_to}
+use Rattle.origins.specs.Storage.{row_text}
+use Rattle.origins.specs.declared.holes.Hole.{Hole}
+
+-- a wire from a comparing position calls a level, this one or a higher one
+abbrev pub calls : Wiring → (position from level : ℕ) → Bool
+calls wiring position from level = nat_le from level && is_wired wiring (CX position) (ST level)
+
+-- the lowest of so many levels that it calls
+abbrev pub called_to : Wiring → (position from : ℕ) → ℕ → Option ℕ
+called_to wiring position from zero = None
+called_to wiring position from (suc level) =
+    first_of (called_to wiring position from level) (if calls wiring position from (suc level) then Some (suc level) else None)
+
+-- a hole of which a wire leads to one entry of a comparing position, while no wire leads to the other entry from a column with that row
+abbrev pub unlike_text : Hole → (card position : ℕ) → (entry other : List ℕ) → List ℕ
+unlike_text hole card position entry other =
+    brush_text hole ++ codes " -> " ++ entry ++ decimal position ++ column_text hole card ++ codes ", and no column to " ++ other
+    ++ decimal position ++ codes "\n"
+
+-- the line of a row at a comparing position, by the holes of which wires lead to its entries: none if both or neither is reached
+abbrev pub unlike_line : Option Hole → Option Hole → (card position : ℕ) → Row → List ℕ
+unlike_line None None card position row = []
+unlike_line (Some one) None card position row = row_text row ++ unlike_text one card position (codes "CA.") (codes "CB.")
+unlike_line None (Some other) card position row = row_text row ++ unlike_text other card position (codes "CB.") (codes "CA.")
+unlike_line (Some one) (Some other) card position row = []
+
+abbrev pub unlike_at : Wiring → List (List ℕ) → (card position : ℕ) → Row → List ℕ
+unlike_at wiring cards card position row =
+    unlike_line (hole_to wiring cards card row (CA position)) (hole_to wiring cards card row (CB position)) card position row
+
+-- the lines of some rows
+abbrev pub unlike_lines : Wiring → List (List ℕ) → (card position : ℕ) → List Row → List ℕ
+unlike_lines wiring cards card position of_rows = flat_map (unlike_at wiring cards card position) of_rows
+
+-- a card cycle
+abbrev pub card_text : ℕ → List ℕ
+card_text card = codes "Card " ++ decimal card
+
+-- which level runs by which card
+abbrev pub runs_text : (level card : ℕ) → List ℕ
+runs_text level card = codes "Prog " ++ decimal level ++ codes " runs by " ++ card_text card
+
+-- the wire of a comparing position that calls a level
+abbrev pub calling_text : (position called : ℕ) → List ℕ
+calling_text position called = codes ": CX." ++ decimal position ++ codes " -> ST." ++ decimal called ++ codes "\n"
+
+-- what is told of a position that calls a level, by its lines: nothing if there are none
+abbrev pub called_text : (level card position called : ℕ) → List ℕ → List ℕ
+called_text level card position called lines =
+    if length lines == 0 then [] else runs_text level card ++ calling_text position called ++ lines
+
+-- what is told of a position: nothing if it calls no level that is high enough
+abbrev pub position_text_by : (level card position : ℕ) → Option ℕ → List ℕ → List ℕ
+position_text_by level card position None lines = []
+position_text_by level card position (Some called) lines = called_text level card position called lines
+
+unfoldable pub position_text : Wiring → List (List ℕ) → (card level position : ℕ) → List ℕ
+position_text wiring cards card level position =
+    position_text_by level card position (called_to wiring position level 3) (unlike_lines wiring cards card position rows)
+
+-- the first text that isn't empty
+abbrev pub or_text : List ℕ → List ℕ → List ℕ
+or_text one other = if length one == 0 then other else one
+
+-- what is told of the lowest of so many positions of which something is
+unfoldable pub positions_text : Wiring → List (List ℕ) → (card level : ℕ) → ℕ → List ℕ
+positions_text wiring cards card level zero = []
+positions_text wiring cards card level (suc position) =
+    or_text (positions_text wiring cards card level position) (position_text wiring cards card level (suc position))
+
+-- the last card calls all levels
+abbrev pub last_text : (level card : ℕ) → List ℕ
+last_text level card = runs_text level card ++ codes ", the last one\n"
+
+-- why the program cycles of a level run behind a card; nothing if no wire from a hole tells
+abbrev pub level_text : Wiring → List (List ℕ) → (card level : ℕ) → List ℕ
+level_text wiring cards card level =
+    if card == length cards then last_text level card else positions_text wiring cards card level 30
+
+-- only program cycles are called
+abbrev pub called_by : Wiring → List (List ℕ) → (card : ℕ) → Cycle → List ℕ
+called_by wiring cards card RunIn = []
+called_by wiring cards card Card = []
+called_by wiring cards card (Prog level ordinal) = level_text wiring cards card (level_number level)
+called_by wiring cards card (Head heading) = []

@@ -1,0 +1,271 @@
+//! Why the program cycles of a level run.
+
+ghost use Rattle.std.specs.Prelude.{◌≡◌, ◌≤◌, ◌++◌, IfOk, OnOk, length};
+ghost use Rattle.card_code.specs.Rows.{rows};
+ghost use Rattle.origins.specs.Levels.{called_by, called_text, card_text, called_to, calling_text, calls, last_text, level_text, or_text, position_text, position_text_by, positions_text, runs_text, unlike_at, unlike_line, unlike_lines, unlike_text};
+ghost use Rattle.setups.specs.Wiring.{is_wired};
+
+use crate::holes::{Hole, hole_to, is_wired, write_brush, write_column};
+use crate::storage::write_row;
+use card_code::{Card, ROWS, Row};
+use hubs::Hub;
+use net::Cycle;
+use setups::Setup;
+use std::alloc::{AllocError, Global};
+use std::io;
+use std::io::Write;
+
+/// How many comparing positions there are.
+const POSITIONS: u8 = 30;
+
+/// How many levels can be called.
+const LEVELS: u8 = 3;
+
+// Whether a wire from a comparing position calls a level that is not below another.
+fn calls(setup: &Setup, position: u8, from: u8, level: u8) -> bool
+    ensures { result ≡ calls setup.now position from level }
+{
+    from <= level && is_wired(setup, Hub::CX(position), Hub::ST(level))
+}
+
+// The lowest of so many levels that it calls.
+fn called_to(setup: &Setup, position: u8, from: u8, levels: u8) -> Option<u8>
+    ensures { result ≡ called_to setup.now position from levels }
+{
+    if levels == 0 {
+        return None;
+    }
+    if let Some(level) = called_to(setup, position, from, levels - 1) {
+        return Some(level);
+    }
+    if calls(setup, position, from, levels) {
+        Some(levels)
+    } else {
+        None
+    }
+}
+
+// A hole of which a wire leads to one entry of a comparing position, while none leads to the other.
+fn write_unlike(
+    text: &mut Vec<u8>,
+    hole: Hole,
+    card: u32,
+    position: u8,
+    entry: &[u8],
+    other: &[u8],
+) -> io::Result<()>
+    ensures { OnOk result (text.new.items ≡ text.old.items ++ unlike_text hole card position entry.now other.now) }
+{
+    write_brush(text, hole)?;
+    text.write_all(b" -> ")?;
+    text.write_all(entry)?;
+    write!(text, "{position}")?;
+    write_column(text, hole, card)?;
+    text.write_all(b", and no column to ")?;
+    text.write_all(other)?;
+    write!(text, "{position}\n")
+}
+
+// The line of a row at a comparing position, by the holes of which wires lead to its entries.
+fn write_unlike_line(
+    text: &mut Vec<u8>,
+    one: Option<Hole>,
+    other: Option<Hole>,
+    card: u32,
+    position: u8,
+    row: Row,
+) -> io::Result<()>
+    ensures { OnOk result (text.new.items ≡ text.old.items ++ unlike_line one other card position row) }
+{
+    match (one, other) {
+        (Some(one), None) => {
+            write_row(text, row)?;
+            write_unlike(text, one, card, position, b"CA.", b"CB.")
+        }
+        (None, Some(other)) => {
+            write_row(text, row)?;
+            write_unlike(text, other, card, position, b"CB.", b"CA.")
+        }
+        (Some(_), Some(_)) | (None, None) => Ok(()),
+    }
+}
+
+// The line of a row at a comparing position.
+fn write_unlike_at(
+    text: &mut Vec<u8>,
+    setup: &Setup,
+    cards: &[Card],
+    card: u32,
+    position: u8,
+    row: Row,
+) -> io::Result<()>
+    ensures { OnOk result (text.new.items ≡ text.old.items ++ unlike_at setup.now cards.now card position row) }
+{
+    let one = hole_to(setup, cards, card, row, Hub::CA(position));
+    let other = hole_to(setup, cards, card, row, Hub::CB(position));
+    write_unlike_line(text, one, other, card, position, row)
+}
+
+// The lines of some rows.
+fn write_unlike_lines(
+    text: &mut Vec<u8>,
+    setup: &Setup,
+    cards: &[Card],
+    card: u32,
+    position: u8,
+    rows: &[Row],
+) -> io::Result<()>
+    ensures { OnOk result (text.new.items ≡ text.old.items ++ unlike_lines setup.now cards.now card position rows.now) }
+{
+    for row in rows {
+        write_unlike_at(text, setup, cards, card, position, *row)?;
+    }
+    Ok(())
+}
+
+// A card cycle.
+fn write_card(text: &mut Vec<u8>, card: u32) -> io::Result<()>
+    ensures { OnOk result (text.new.items ≡ text.old.items ++ card_text card) }
+{
+    write!(text, "Card {card}")
+}
+
+// Which level runs by which card.
+fn write_runs(text: &mut Vec<u8>, level: u8, card: u32) -> io::Result<()>
+    ensures { OnOk result (text.new.items ≡ text.old.items ++ runs_text level card) }
+{
+    write!(text, "Prog {level} runs by ")?;
+    write_card(text, card)?;
+    Ok(())
+}
+
+// The wire of a comparing position that calls a level.
+fn write_calling(text: &mut Vec<u8>, position: u8, called: u8) -> io::Result<()>
+    ensures { OnOk result (text.new.items ≡ text.old.items ++ calling_text position called) }
+{
+    write!(text, ": CX.{position} -> ST.{called}\n")
+}
+
+// What is told of a position that calls a level, by its lines: nothing if there are none.
+fn write_called(
+    text: &mut Vec<u8>,
+    level: u8,
+    card: u32,
+    position: u8,
+    called: u8,
+    lines: &[u8],
+) -> io::Result<()>
+    ensures { OnOk result (text.new.items ≡ text.old.items ++ called_text level card position called lines.now) }
+{
+    if lines.is_empty() {
+        return Ok(());
+    }
+    write_runs(text, level, card)?;
+    write_calling(text, position, called)?;
+    text.write_all(lines)
+}
+
+// What is told of a position.
+#[tactic(auto, unfolding(crate::specs::Levels::position_text))]
+fn position_text(
+    alloc: Global,
+    setup: &Setup,
+    cards: &[Card],
+    card: u32,
+    level: u8,
+    position: u8,
+) -> io::Result<Vec<u8>>
+    ensures { IfOk result (λ text. text.items ≡ position_text setup.now cards.now card level position) }
+{
+    let mut text = Vec::new(alloc);
+    let Some(called) = called_to(setup, position, level, LEVELS) else {
+        return Ok(text);
+    };
+    let mut lines = Vec::new(alloc);
+    write_unlike_lines(&mut lines, setup, cards, card, position, &ROWS)?;
+    write_called(&mut text, level, card, position, called, lines.as_slice())?;
+    Ok(text)
+}
+
+// What is told of the lowest of so many positions of which something is.
+#[tactic(auto, unfolding(crate::specs::Levels::positions_text))]
+fn positions_text(
+    alloc: Global,
+    setup: &Setup,
+    cards: &[Card],
+    card: u32,
+    level: u8,
+    positions: u8,
+) -> io::Result<Vec<u8>>
+    ensures { IfOk result (λ text. text.items ≡ positions_text setup.now cards.now card level positions) }
+{
+    if positions == 0 {
+        return Ok(Vec::new(alloc));
+    }
+    let lower = positions_text(alloc, setup, cards, card, level, positions - 1)?;
+    if !lower.as_slice().is_empty() {
+        return Ok(lower);
+    }
+    let here = position_text(alloc, setup, cards, card, level, positions)?;
+    Ok(here)
+}
+
+// That the last card calls all levels.
+fn last_text(alloc: Global, level: u8, card: u32) -> io::Result<Vec<u8>>
+    ensures { IfOk result (λ text. text.items ≡ last_text level card) }
+{
+    let mut text = Vec::new(alloc);
+    write_runs(&mut text, level, card)?;
+    text.write_all(b", the last one\n")?;
+    Ok(text)
+}
+
+// Why the program cycles of a level run behind a card.
+fn level_text(
+    alloc: Global,
+    setup: &Setup,
+    cards: &[Card],
+    card: u32,
+    level: u8,
+) -> io::Result<Vec<u8>>
+    ensures { IfOk result (λ text. text.items ≡ level_text setup.now cards.now card level) }
+{
+    if card as usize == cards.len() {
+        last_text(alloc, level, card)
+    } else {
+        positions_text(alloc, setup, cards, card, level, POSITIONS)
+    }
+}
+
+// Why a cycle runs, if it is a program cycle.
+fn called_by(
+    alloc: Global,
+    setup: &Setup,
+    cards: &[Card],
+    card: u32,
+    cycle: Cycle,
+) -> io::Result<Vec<u8>>
+    ensures { IfOk result (λ text. text.items ≡ called_by setup.now cards.now card cycle) }
+{
+    match cycle {
+        Cycle::Prog(level, _) => level_text(alloc, setup, cards, card, level.number()),
+        Cycle::RunIn | Cycle::Card | Cycle::Head(_) => Ok(Vec::new(alloc)),
+    }
+}
+
+// Puts behind a text why a cycle runs.
+pub(crate) fn add_called_by(
+    alloc: Global,
+    text: &mut Vec<u8>,
+    setup: &Setup,
+    cards: &[Card],
+    card: u32,
+    cycle: Cycle,
+) -> Result<(), AllocError>
+    ensures { OnOk result (text.new.items ≡ text.old.items ++ called_by setup.now cards.now card cycle) }
+{
+    match called_by(alloc, setup, cards, card, cycle) {
+        Ok(why) => Ok(text.extend_from_slice(why.as_slice())?),
+        Err(_) => Err(AllocError),
+    }
+}

@@ -1,0 +1,250 @@
+//! The origin of the text that a storage unit holds.
+
+ghost use Rattle.std.specs.Prelude.{◌≡◌, ◌≤◌, ◌<◌, ◌+◌, ◌++◌, IfOk, OnOk, length};
+ghost use Rattle.card_code.specs.MostCards.{most_cards};
+ghost use Rattle.ledgers.specs.Running.{HasCycle};
+ghost use Rattle.origins.specs.Storage.{AreStorageTexts, column_line, column_of_exit, column_of_way, entry_text, hole_in_cycle, is_read, led_text, line_at, lines_of, row_text, since_line, storage_line, storage_text};
+
+use crate::deed::{Deed, last_change};
+use crate::holes::{Hole, hole_to, write_brush, write_column};
+use card_code::{Card, ROWS, Row};
+use hubs::Hub;
+use ledger_text::write_cycle;
+use net::Cycle;
+use setups::Setup;
+use std::alloc::{AllocError, Global};
+use std::io;
+use std::io::Write;
+
+// The column of a storage unit whose exit a hub is.
+fn column_of_exit(unit: u8, hub: Hub) -> Option<u8>
+    ensures { result ≡ column_of_exit unit hub }
+{
+    match hub {
+        Hub::SX(own, column) if own == unit => Some(column),
+        _ => None,
+    }
+}
+
+// The column of a storage unit at whose exit a way begins, if there is one.
+fn column_of_way(unit: u8, way: &Option<Vec<Hub>>) -> Option<u8>
+    ensures { result ≡ column_of_way unit way.now }
+{
+    match way {
+        Some(way) => column_of_exit(unit, *way.first()?),
+        None => None,
+    }
+}
+
+// Whether one of some ways begins at an exit of a storage unit.
+fn is_read(unit: u8, ways: &[Option<Vec<Hub>>]) -> bool
+    ensures { result ≡ is_read unit ways.now }
+{
+    for way in ways {
+        if column_of_way(unit, way).is_some() {
+            return true;
+        }
+    }
+    false
+}
+
+// An entry of a storage unit.
+fn write_entry(text: &mut Vec<u8>, unit: u8, column: u8) -> io::Result<()>
+    ensures { OnOk result (text.new.items ≡ text.old.items ++ entry_text unit column) }
+{
+    write!(text, "SE.{unit}.{column}")
+}
+
+// A hole from which a wire leads to an entry in the cycle of a card.
+fn hole_in_cycle(
+    setup: &Setup,
+    cards: &[Card],
+    cycle: Cycle,
+    card: u32,
+    row: Row,
+    entry: Hub,
+) -> Option<Hole>
+    ensures { result ≡ hole_in_cycle setup.now cards.now cycle card row entry }
+{
+    match cycle {
+        Cycle::Card => hole_to(setup, cards, card, row, entry),
+        Cycle::RunIn | Cycle::Prog(_, _) | Cycle::Head(_) => None,
+    }
+}
+
+// What led to the entry of a column, and which hole that was.
+fn write_led(
+    text: &mut Vec<u8>,
+    hole: Option<Hole>,
+    card: u32,
+    unit: u8,
+    column: u8,
+) -> io::Result<()>
+    ensures { OnOk result (text.new.items ≡ text.old.items ++ led_text hole card (entry_text unit column)) }
+{
+    let Some(hole) = hole else {
+        write_entry(text, unit, column)?;
+        return text.write_all(b", by no wire from a card");
+    };
+    write_brush(text, hole)?;
+    text.write_all(b" -> ")?;
+    write_entry(text, unit, column)?;
+    write_column(text, hole, card)
+}
+
+// What a line of a row begins with.
+pub(crate) fn write_row(text: &mut Vec<u8>, row: Row) -> io::Result<()>
+    ensures { OnOk result (text.new.items ≡ text.old.items ++ row_text row) }
+{
+    let number = row.number();
+    write!(text, "  row {number}: ")
+}
+
+// The line of a row that a column of a unit took in.
+fn write_storage_line(
+    text: &mut Vec<u8>,
+    setup: &Setup,
+    cards: &[Card],
+    deed: Deed,
+    unit: u8,
+    row: Row,
+    column: u8,
+) -> io::Result<()>
+    ensures { OnOk result (text.new.items ≡ text.old.items ++ storage_line setup.now cards.now deed unit row column) }
+{
+    let entry = Hub::SE(unit, column);
+    let hole = hole_in_cycle(setup, cards, deed.cycle, deed.card, row, entry);
+    write_row(text, row)?;
+    write_led(text, hole, deed.card, unit, column)?;
+    text.write_all(b"\n")
+}
+
+// That line, if a way at the row begins at an exit of the unit.
+fn write_column_line(
+    text: &mut Vec<u8>,
+    setup: &Setup,
+    cards: &[Card],
+    deed: Deed,
+    unit: u8,
+    row: Row,
+    column: Option<u8>,
+) -> io::Result<()>
+    ensures { OnOk result (text.new.items ≡ text.old.items ++ column_line setup.now cards.now deed unit row column) }
+{
+    match column {
+        Some(column) => write_storage_line(text, setup, cards, deed, unit, row, column),
+        None => Ok(()),
+    }
+}
+
+// The line of the row of a place in the order of the points.
+fn write_line_at(
+    text: &mut Vec<u8>,
+    setup: &Setup,
+    cards: &[Card],
+    deed: Deed,
+    unit: u8,
+    ways: &[Option<Vec<Hub>>],
+    place: usize,
+) -> io::Result<()>
+    requires place { place < 12 }
+    requires ways { length ways.now ≡ 12 }
+    ensures { OnOk result (text.new.items ≡ text.old.items ++ line_at setup.now cards.now deed unit ways.now place) }
+{
+    let column = column_of_way(unit, &ways[place]);
+    write_column_line(text, setup, cards, deed, unit, ROWS[place], column)
+}
+
+// The lines of all rows.
+fn write_lines(
+    text: &mut Vec<u8>,
+    setup: &Setup,
+    cards: &[Card],
+    deed: Deed,
+    unit: u8,
+    ways: &[Option<Vec<Hub>>],
+) -> io::Result<()>
+    requires { length ways.now ≡ 12 }
+    ensures { OnOk result (text.new.items ≡ text.old.items ++ lines_of setup.now cards.now deed unit ways.now) }
+{
+    for place in 0..12 {
+        write_line_at(text, setup, cards, deed, unit, ways, place)?;
+    }
+    Ok(())
+}
+
+// Since which cycle a unit holds its text.
+fn write_since(text: &mut Vec<u8>, unit: u8, deed: Deed) -> io::Result<()>
+    ensures { OnOk result (text.new.items ≡ text.old.items ++ since_line unit deed) }
+{
+    write!(text, "storage {unit} since ")?;
+    write_cycle(text, deed.cycle, deed.card)?;
+    text.write_all(b"\n")
+}
+
+// What is told of a unit at whose exits ways begin, by the last cycle that changed its text.
+fn write_storage(
+    text: &mut Vec<u8>,
+    setup: &Setup,
+    cards: &[Card],
+    unit: u8,
+    ways: &[Option<Vec<Hub>>],
+    last: Option<Deed>,
+) -> io::Result<()>
+    requires { length ways.now ≡ 12 }
+    ensures { OnOk result (text.new.items ≡ text.old.items ++ storage_text setup.now cards.now unit ways.now last) }
+{
+    let Some(deed) = last else {
+        return Ok(());
+    };
+    write_since(text, unit, deed)?;
+    write_lines(text, setup, cards, deed, unit, ways)
+}
+
+// Puts behind the texts of the units before it that of a storage unit, 1 to 4, if one of the ways begins at its exits.
+fn add_storage(
+    alloc: Global,
+    text: &mut Vec<u8>,
+    setup: &Setup,
+    cards: &[Card],
+    passed: u64,
+    ways: &[Option<Vec<Hub>>],
+    place: usize,
+) -> Result<(), AllocError>
+    requires few { length cards.now ≤ most_cards }
+    requires has { HasCycle setup.now cards.now passed }
+    requires ways { length ways.now ≡ 12 }
+    requires place { place < 4 }
+    requires texts { AreStorageTexts setup.now cards.now passed ways.now place text.old.items }
+    ensures { OnOk result (AreStorageTexts setup.now cards.now passed ways.now (place + 1) text.new.items) }
+{
+    let unit = place as u8 + 1;
+    if !is_read(unit, ways) {
+        return Ok(());
+    }
+    let last = last_change(alloc, setup, cards, passed, place)?;
+    match write_storage(text, setup, cards, unit, ways, last) {
+        Ok(()) => Ok(()),
+        Err(_) => Err(AllocError),
+    }
+}
+
+// The texts of all storage units at whose exits one of the ways begins, before the cycle behind so many others.
+pub(crate) fn storage_texts(
+    alloc: Global,
+    setup: &Setup,
+    cards: &[Card],
+    passed: u64,
+    ways: &[Option<Vec<Hub>>],
+) -> Result<Vec<u8>, AllocError>
+    requires few { length cards.now ≤ most_cards }
+    requires has { HasCycle setup.now cards.now passed }
+    requires ways { length ways.now ≡ 12 }
+    ensures { IfOk result (λ text. AreStorageTexts setup.now cards.now passed ways.now 4 text.items) }
+{
+    let mut text = Vec::new(alloc);
+    for place in 0..4 {
+        add_storage(alloc, &mut text, setup, cards, passed, ways, place)?;
+    }
+    Ok(text)
+}
