@@ -8,7 +8,8 @@ use Rattle.chart_text.specs.declared.fault.TextFault.TheVariants as text
 use Rattle.faults.specs.Lines.{fault_line}
 use Rattle.faults.specs.Told.{capacity_told}
 use Rattle.line_marks.specs.Below.card_code.Deck.{line_at}
-use Rattle.line_slips.specs.LineEntries.{below, line_entry}
+use Rattle.line_marks.specs.Entries.{below}
+use Rattle.line_slips.specs.LineEntries.{line_entry}
 
 -- the entry of a line that no form derives, by its number
 unfoldable pub numbered_entry : List ℕ → ℕ → List ℕ

@@ -93,6 +93,8 @@ fn list_capacity<'a, W: Write>(alloc: Global, out: &mut W, chart: &Chart) -> Res
 {
     match allocate(alloc, chart, &Profile::standard()) {
         Ok(_plan) => put(out, b"ok\n"),
+        // Want of memory is no fault of the chart, so it isn't listed.
+        Err(CapacityFault::Memory) => Err(Fault::Memory),
         Err(fault) => Err(told_capacity(out, fault)),
     }
 }

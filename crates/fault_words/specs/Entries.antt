@@ -1,6 +1,6 @@
 -- The entry of a fault of a chart: a line with the number of the chart's line, the number of the fault and its name; the chart's line as
 -- it stands; a mark under a word of it; what is wrong; and what helps. All but the first line are indented.
-use Rattle.std.specs.Prelude.{ℕ, ◌==◌, List, [], ◌∷◌, ◌++◌, codes, decimal, if◌then◌else◌}
+use Rattle.std.specs.Prelude.{ℕ, ◌==◌, List, [], ◌∷◌, ◌++◌, codes, if◌then◌else◌}
 use Rattle.std.specs.List.{flat_map}
 use Rattle.line_marks.specs.Below.card_code.Deck.{line_at}
 use Rattle.charts.specs.Chart.{Chart}
@@ -11,7 +11,7 @@ use Rattle.chart_rules.specs.Rules.{rule_number}
 use Rattle.chart_rules.specs.declared.rule.Rule.{Rule}
 use Rattle.chart_rules.specs.declared.rule.Rule.TheVariants as rule
 use Rattle.chart_faults.specs.declared.listing.BrokenRule.{BrokenRule}
-use Rattle.line_marks.specs.Marks.{mark_text}
+use Rattle.line_marks.specs.Entries.{below, head_line, shown}
 use Rattle.line_marks.specs.Spans.{span_of}
 use Rattle.fault_words.specs.Parts.{marked_place}
 use Rattle.fault_words.specs.Words.{cure, end_words, words}
@@ -37,26 +37,14 @@ rule_name rule.Form = codes "Form"
 rule_name rule.Tape = codes "Tape"
 rule_name rule.CoupledMark = codes "CoupledMark"
 
--- the first line of an entry
-abbrev pub head_line : ℕ → ℕ → List ℕ → List ℕ
-head_line line number name = codes "line " ++ decimal line ++ codes " fault " ++ decimal number ++ codes " " ++ name ++ codes "\n"
-
--- a line below it
-abbrev pub below : List ℕ → List ℕ
-below text = codes "  " ++ text ++ codes "\n"
-
--- the line of the text, and a mark under the word that has so many others before it
-abbrev pub shown : List ℕ → ℕ → List ℕ
-shown line place = below line ++ below (mark_text line (span_of place line))
-
 -- what is told of a line that breaks a rule: its text with a mark, and what is wrong
 unfoldable pub line_told : Rule → List ℕ → List Field → List Line → List Line → Line → List ℕ
 line_told broken text fields chart earlier line =
-    shown text (marked_place broken line.statement) ++ below (words broken fields chart earlier line.statement)
+    shown text (span_of (marked_place broken line.statement) text) ++ below (words broken fields chart earlier line.statement)
 
 -- what is told of END, where a line is missing
 unfoldable pub end_told : Rule → List ℕ → List ℕ
-end_told broken text = shown text 0 ++ below (end_words broken)
+end_told broken text = shown text (span_of 0 text) ++ below (end_words broken)
 
 -- what is told of the line of a number, where the line of a number is among these or is END
 unfoldable pub told_among : Rule → Chart → List ℕ → ℕ → List Line → List Line → List ℕ

@@ -7,6 +7,7 @@ use Rattle.charts.specs.declared.statement.Statement.{Statement}
 use Rattle.charts.specs.declared.statement.Statement.TheVariants as says
 use Rattle.field_rules.specs.Repeats.{breaks_line_twice}
 use Rattle.field_rules.specs.Shrink.{breaks_digits_shrink}
+use Rattle.line_slips.specs.Near.{is_near}
 use Rattle.print_rules.specs.Items.{item_of}
 use Rattle.print_rules.specs.Wheels.{breaks_wheel_overlap, breaks_wheel_clash}
 use Rattle.print_rules.specs.declared.items.Item.{Item}
@@ -19,9 +20,16 @@ abbrev pub describes : Option (List ℕ) → Statement → Bool
 describes (Some name) (says.Field field) = is_same_name field.name name
 describes name other = false
 
--- whether another line is one that a line meets by a rule: with that line alone it would break the rule too
+-- whether a line describes a name that is a letter away from another
+abbrev pub describes_near : Option (List ℕ) → Statement → Bool
+describes_near (Some name) (says.Field field) = is_near (name_text name) (name_text field.name)
+describes_near name other = false
+
+-- whether another line is one that a line meets by a rule: with that line alone it would break the rule too; by an unknown name it meets the
+-- line of a name that may be meant
 abbrev pub meets : Rule → List Field → Statement → Line → Bool
 meets rule.NameTwice fields statement other = describes (name_on statement) other.statement
+meets rule.UnknownName fields statement other = describes_near (name_on statement) other.statement
 meets rule.LineTwice fields statement other = breaks_line_twice (other ∷ []) statement
 meets rule.DigitsShrink fields statement other = breaks_digits_shrink (other ∷ []) statement
 meets rule.WheelOverlap fields statement other = breaks_wheel_overlap fields (other ∷ []) statement

@@ -144,8 +144,20 @@ unfoldable pub described_words : Statement → Option Line → List ℕ
 described_words line other = subject line ++ codes " is described already, on " ++ number_words other
 
 -- a name that no line describes
-unfoldable pub unknown_words : Statement → List ℕ
-unknown_words line = codes "no FIELD line describes " ++ subject line
+unfoldable pub undescribed_words : Statement → List ℕ
+undescribed_words line = codes "no FIELD line describes " ++ subject line
+
+-- a question for a name that a line describes
+unfoldable pub asked_words : Statement → List ℕ
+asked_words line = codes "; did you mean " ++ subject line
+
+-- the name that a line describes, if it may be meant
+unfoldable pub meant_words : Option Line → List ℕ
+meant_words None = []
+meant_words (Some line) = asked_words line.statement ++ codes "?"
+
+unfoldable pub unknown_words : Statement → Option Line → List ℕ
+unknown_words line other = undescribed_words line ++ meant_words other
 
 -- a name of the wrong kind of field
 unfoldable pub wrong_kind_words : Statement → Bool → List ℕ
@@ -176,7 +188,7 @@ abbrev pub words : Rule → List Field → List Line → List Line → Statement
 words rule.NameTwice fields chart earlier line = described_words line (met rule.NameTwice fields earlier line)
 words rule.Columns fields chart earlier line = column_words line
 words rule.AmountSize fields chart earlier line = size_words line
-words rule.UnknownName fields chart earlier line = unknown_words line
+words rule.UnknownName fields chart earlier line = unknown_words line (met rule.UnknownName fields chart line)
 words rule.WrongKind fields chart earlier line = wrong_kind_words line (names_amount (field_on fields (name_on line)))
 words rule.LineTwice fields chart earlier line = said_words (met rule.LineTwice fields earlier line)
 words rule.NoControl fields chart earlier line = uncontrolled_words line (level_needed line)

@@ -11,8 +11,7 @@ use chart_faults::BrokenRule;
 use chart_rules::Rule;
 use charts::{Field, Line, RawChart};
 use field_rules::Fields;
-use line_marks::{line_numbered, token_span, write_mark};
-use numerals::write_numbered;
+use line_marks::{line_numbered, token_span, write_below, write_head, write_shown};
 use std::io;
 use std::io::Write;
 
@@ -42,36 +41,6 @@ fn rule_name(rule: Rule) -> &'static str
     }
 }
 
-/// Writes the first line of an entry.
-fn write_head<W: Write>(out: &mut W, line: u16, number: u8, name: &str) -> io::Result<()>
-    ensures { OnOk result (Appends (W.contents out.old) (W.contents out.new) (law.head_line line number name.now)) }
-{
-    write_numbered(out, "line ", line)?;
-    write_numbered(out, " fault ", number)?;
-    out.write_all(b" ")?;
-    out.write_all(name.as_bytes())?;
-    out.write_all(b"\n")
-}
-
-/// Writes a line below it.
-fn write_below<W: Write>(out: &mut W, text: &[u8]) -> io::Result<()>
-    ensures { OnOk result (Appends (W.contents out.old) (W.contents out.new) (law.below text.now)) }
-{
-    out.write_all(b"  ")?;
-    out.write_all(text)?;
-    out.write_all(b"\n")
-}
-
-/// Writes a line of the text, and a mark under the word that has `place` others before it.
-fn write_shown<W: Write>(out: &mut W, line: &[u8], place: usize) -> io::Result<()>
-    ensures { OnOk result (Appends (W.contents out.old) (W.contents out.new) (law.shown line.now place)) }
-{
-    write_below(out, line)?;
-    out.write_all(b"  ")?;
-    write_mark(out, line, token_span(line, place))?;
-    out.write_all(b"\n")
-}
-
 /// Writes what is told of a line that breaks a rule: its text with a mark, and what is wrong.
 #[tactic(auto, unfolding(crate::specs::Entries::line_told))]
 fn write_line<W: Write>(
@@ -85,7 +54,8 @@ fn write_line<W: Write>(
     ensures { OnOk result (Appends (W.contents out.old) (W.contents out.new)
         (law.line_told rule text.now around.now.fields.now around.now.lines.now around.now.earlier.now line.now)) }
 {
-    write_shown(out, text, marked_place(rule, &line.statement))?;
+    let span = token_span(text, marked_place(rule, &line.statement));
+    write_shown(out, text, span)?;
     out.write_all(b"  ")?;
     write_words(out, rule, around, &line.statement)?;
     out.write_all(b"\n")
@@ -96,7 +66,7 @@ fn write_line<W: Write>(
 fn write_end<W: Write>(out: &mut W, rule: Rule, text: &[u8]) -> io::Result<()>
     ensures { OnOk result (Appends (W.contents out.old) (W.contents out.new) (law.end_told rule text.now)) }
 {
-    write_shown(out, text, 0)?;
+    write_shown(out, text, token_span(text, 0))?;
     write_below(out, end_words(rule).as_bytes())
 }
 
@@ -143,8 +113,9 @@ fn write_entry<W: Write>(
     requires fields { fields.now ≡ fields_of raw.now.lines }
     ensures { OnOk result (Appends (W.contents out.old) (W.contents out.new) (law.entry_text source.now raw.now fault)) }
 {
-    let text = line_numbered(source, u32::from(fault.line));
-    write_head(out, fault.line, fault.rule.number(), rule_name(fault.rule))?;
+    let number = u32::from(fault.line);
+    let text = line_numbered(source, number);
+    write_head(out, number, fault.rule.number(), rule_name(fault.rule))?;
     write_told(out, text, raw, index, fields, fault)?;
     write_below(out, cure(fault.rule).as_bytes())
 }

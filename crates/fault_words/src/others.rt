@@ -8,6 +8,7 @@ use crate::parts::name_on;
 use chart_rules::Rule;
 use charts::{Field, Line, Name, Statement};
 use field_rules::{Fields, breaks_digits_shrink, breaks_line_twice};
+use line_slips::is_near;
 use numerals::write_numbered;
 use print_rules::{Item, breaks_wheel_clash, breaks_wheel_overlap};
 use std::io;
@@ -24,12 +25,23 @@ fn describes(name: Option<Name>, statement: &Statement) -> bool
     }
 }
 
+/// Whether a line describes a name that is a letter away from another.
+fn describes_near(name: Option<Name>, statement: &Statement) -> bool
+    ensures { result ≡ law.describes_near name statement.now }
+{
+    match (name, statement) {
+        (Some(name), Statement::Field(field)) => is_near(name.as_bytes(), field.name.as_bytes()),
+        _ => false,
+    }
+}
+
 /// Whether another line is one that a line meets by a rule.
 fn meets(rule: Rule, fields: &Fields, statement: &Statement, other: &Line) -> bool
     ensures { result ≡ law.meets rule fields.now statement.now other.now }
 {
     match rule {
         Rule::NameTwice => describes(name_on(statement), &other.statement),
+        Rule::UnknownName => describes_near(name_on(statement), &other.statement),
         Rule::LineTwice => breaks_line_twice(from_ref(other), statement),
         Rule::DigitsShrink => breaks_digits_shrink(from_ref(other), statement),
         Rule::WheelOverlap => breaks_wheel_overlap(fields, from_ref(other), statement),

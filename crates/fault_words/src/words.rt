@@ -390,12 +390,48 @@ fn write_described<W: Write>(
 }
 
 /// Writes a name that no line describes.
-#[tactic(auto, unfolding(crate::specs::Words::unknown_words))]
-fn write_unknown<W: Write>(out: &mut W, statement: &Statement) -> io::Result<()>
-    ensures { OnOk result (Appends (W.contents out.old) (W.contents out.new) (law.unknown_words statement.now)) }
+#[tactic(auto, unfolding(crate::specs::Words::undescribed_words))]
+fn write_undescribed<W: Write>(out: &mut W, statement: &Statement) -> io::Result<()>
+    ensures { OnOk result (Appends (W.contents out.old) (W.contents out.new) (law.undescribed_words statement.now)) }
 {
     out.write_all(b"no FIELD line describes ")?;
     write_subject(out, statement)
+}
+
+/// Asks for a name that a line describes.
+#[tactic(auto, unfolding(crate::specs::Words::asked_words))]
+fn write_asked<W: Write>(out: &mut W, statement: &Statement) -> io::Result<()>
+    ensures { OnOk result (Appends (W.contents out.old) (W.contents out.new) (law.asked_words statement.now)) }
+{
+    out.write_all(b"; did you mean ")?;
+    write_subject(out, statement)
+}
+
+/// Asks for the name that a line describes, if it may be meant.
+#[tactic(auto, unfolding(crate::specs::Words::meant_words))]
+fn write_meant<W: Write>(out: &mut W, other: Option<&Line>) -> io::Result<()>
+    ensures { OnOk result (Appends (W.contents out.old) (W.contents out.new) (law.meant_words (option_map (λ line. line.now) other.entry))) }
+{
+    match other {
+        Some(line) => {
+            write_asked(out, &line.statement)?;
+            out.write_all(b"?")
+        }
+        None => Ok(()),
+    }
+}
+
+/// Writes a name that no line describes, and the one that may be meant.
+#[tactic(auto, unfolding(crate::specs::Words::unknown_words))]
+fn write_unknown<W: Write>(
+    out: &mut W,
+    statement: &Statement,
+    other: Option<&Line>,
+) -> io::Result<()>
+    ensures { OnOk result (Appends (W.contents out.old) (W.contents out.new) (law.unknown_words statement.now (option_map (λ line. line.now) other.entry))) }
+{
+    write_undescribed(out, statement)?;
+    write_meant(out, other)
 }
 
 /// Writes a name of the wrong kind of field.
@@ -508,7 +544,10 @@ pub(crate) fn write_words<W: Write>(
         }
         Rule::Columns => write_columns(out, statement),
         Rule::AmountSize => write_size(out, statement),
-        Rule::UnknownName => write_unknown(out, statement),
+        Rule::UnknownName => {
+            let other = around.met_anywhere(Rule::UnknownName, statement);
+            write_unknown(out, statement, other)
+        }
         Rule::WrongKind => {
             write_wrong_kind(out, statement, names_amount(around.field_of(statement)))
         }

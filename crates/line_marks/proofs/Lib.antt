@@ -1,3 +1,4 @@
 pub mod Passing
 pub mod Spans
 pub mod Steps
+pub mod Copying

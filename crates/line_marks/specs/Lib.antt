@@ -1,3 +1,5 @@
 pub mod Below
 pub mod Spans
 pub mod Marks
+pub mod Emptied
+pub mod Entries

@@ -31,6 +31,10 @@ span_of index line = span_at line (if token_start index line == length line then
 abbrev pub spanned : List ℕ → Span → List ℕ
 spanned line span = slice_range line span.start span.end
 
+-- the token that has so many others before it, or an empty one, if the line has no such token
+abbrev pub word : ℕ → List ℕ → List ℕ
+word index line = spanned line (span_at line (token_start index line))
+
 -- a span is that of a token
 pub record IsTokenSpan (tokens : List (List ℕ)) (line : List ℕ) (span : Span) : Type 0 where
   pub place : ℕ

@@ -1,16 +1,23 @@
-//! The lines of a text by their numbers, where the tokens of a line stand, and a mark under one of them.
+//! The lines of a text by their numbers, where the tokens of a line stand, a mark under one of them, and what the entries of faults
+//! have in common.
 //!
-//! [`line_numbered`] answers a line of a text, [`token_span`] from which byte to which the token stands that has so many others before
-//! it, and [`write_mark`] writes the line of blanks and carets that stands below. Tokens are those of `tokens`; a line that isn't made of
-//! tokens is divided by the same signs, as far as that goes.
+//! [`line_numbered`] answers a line of a text, and [`emptied`] the text without what stands on it. [`word`] is the token of a line that has
+//! so many others before it, [`token_span`] tells from which byte to which it stands, and [`write_mark`] writes the line of blanks and carets
+//! that stands below. Tokens are those of `tokens`; a line that isn't made of tokens is divided by the same signs, as far as that goes.
+//! [`write_head`], [`write_shown`] and [`write_below`] write the lines of an entry.
 //!
-//! `specs/Spans.antt` says where a token stands and what a mark is.
+//! `specs/Spans.antt` says where a token stands, `Marks.antt` what a mark is, `Emptied.antt` what an emptied line leaves of a text and `Entries.antt` how the
+//! lines of an entry are written.
 #![tactic(auto)]
 
+mod emptying;
+mod entry;
 mod mark;
 mod numbered;
 mod span;
 
+pub use emptying::emptied;
+pub use entry::{write_below, write_head, write_shown};
 pub use mark::write_mark;
 pub use numbered::line_numbered;
-pub use span::{Span, token_span};
+pub use span::{Span, token_span, word};

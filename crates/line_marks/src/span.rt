@@ -112,3 +112,11 @@ pub fn token_span(line: &[u8], index: usize) -> Span
 {
     found_span(line, index)
 }
+
+/// The token of a line that has `index` others before it, as far as the line goes; an empty one, if the line has no such token.
+pub fn word(line: &[u8], index: usize) -> &[u8]
+    ensures { result.now ≡ law.word index line.now }
+{
+    let span = span_at(line, token_start(line, index));
+    &line[span.start..span.end]
+}

@@ -22,7 +22,7 @@ pub(crate) fn slip_words(slip: Slip) -> &'static str
 }
 
 /// Whether a word, in capital or small letters, is one in capital letters.
-fn is_word(word: &[u8], capitals: &[u8]) -> bool
+pub fn is_word(word: &[u8], capitals: &[u8]) -> bool
     ensures { result ≡ law.is_word word.now capitals.now }
 {
     word.eq_ignore_ascii_case(capitals)

@@ -2,14 +2,17 @@
 //!
 //! [`write_line_entry`] writes the entry of such a line. The slips that people make most are named: a tab, a comment, quotation marks, a
 //! small letter, an apostrophe that isn't closed. The nearest form is that of the line's first word, in capital or small letters. The crate stands on
-//! `line_marks`, and on no crate that reads charts.
+//! `line_marks`, and on no crate that reads charts. [`is_near`] tells whether two words are a letter away from one another.
 //!
-//! `specs/Slips.antt` says which slip a line has and where, and `Forms.antt` has the words.
+//! `specs/Slips.antt` says which slip a line has and where, `Forms.antt` has the words, and `Near.antt` says when words are near.
 #![tactic(auto)]
 
 mod entry;
 mod forms;
+mod near;
 mod slip;
 
 pub use entry::write_line_entry;
-pub use slip::{Slip, slip_of};
+pub use forms::is_word;
+pub use near::is_near;
+pub use slip::{Slip, slip_of, slip_span};

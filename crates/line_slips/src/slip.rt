@@ -128,7 +128,7 @@ fn sign_place(line: &[u8], slip: Slip) -> Option<usize>
 }
 
 /// What is marked: the first byte by which the slip is known, or else the first word.
-pub(crate) fn slip_span(line: &[u8]) -> Span
+pub fn slip_span(line: &[u8]) -> Span
     ensures value { result ≡ law.slip_span line.now }
     ensures ordered { result.start ≤ result.end }
     ensures within { result.end ≤ length line.now }

@@ -6,11 +6,8 @@ use Rattle.std.proofs.Math.ListN.{drop_of_length-le}
 use Rattle.chart_text.specs.TextFaults.{HasTextFault}
 use Rattle.chart_text.specs.declared.fault.TextFault.{TextFault}
 use Rattle.chart_text.specs.declared.fault.TextFault.TheVariants.{TooLarge, NoFirstLine, NotALine, NoEnd, Memory}
-use Rattle.misread_lines.specs.Misread.{AreMisread, enough, none, next, blanked, blank_byte, line_left, misread_line}
-
--- the copy so far and what is left of the text are the whole copy
-abbrev pub CopiedTo : ℕ → List ℕ → List ℕ → ℕ → ℕ → Type 0
-CopiedTo line text copy left count = copy ++ blanked left (drop count text) ≡ blanked line text
+use Rattle.line_marks.specs.Emptied.{emptied}
+use Rattle.misread_lines.specs.Misread.{AreMisread, enough, none, next, misread_line}
 
 -- the lines so far and those of what is left are those of the text
 abbrev pub ListsSoFar : List ℕ → List ℕ → List ℕ → ℕ → Type 0
@@ -18,7 +15,7 @@ ListsSoFar text rest lines count = (others : List ℕ) → AreMisread (500 - cou
 
 -- one line more
 pub ListsSoFar-more : (text rest lines : List ℕ) (count line : ℕ) → count < 500 → HasTextFault rest (NotALine line)
-    → ListsSoFar text rest lines count → ListsSoFar text (blanked line rest) (lines ++ line ∷ []) (count + 1)
+    → ListsSoFar text rest lines count → ListsSoFar text (emptied line rest) (lines ++ line ∷ []) (count + 1)
 ListsSoFar-more text rest lines count line more fault so_far others are =
     let one : suc (500 - (count + 1)) ≡ 500 - count = omega (arith, more) in
     subst (AreMisread 500 text) (sym (append_assoc lines (line ∷ []) others))
@@ -36,31 +33,6 @@ pub ListsSoFar-all : (text rest lines : List ℕ) (count : ℕ) → 500 ≤ coun
 ListsSoFar-all text rest lines count all so_far =
     let zero_left : 0 ≡ 500 - count = omega (arith, all) in
     subst (AreMisread 500 text) (append-nil lines) (so_far [] (subst (λ (n : ℕ). AreMisread n rest []) zero_left enough))
-
--- one byte more
-blanked-cons : (left byte : ℕ) (bytes : List ℕ) → blanked left (byte ∷ bytes) ≡ blank_byte left byte ∷ blanked (line_left left byte) bytes
-unfolding blanked
-blanked-cons left byte bytes = refl
-
-CopiedTo-suc : (line : ℕ) (text copy : List ℕ) (left count byte : ℕ) → count < length text → get_or text count 0 ≡ byte
-    → CopiedTo line text copy left count → CopiedTo line text (copy ++ blank_byte left byte ∷ []) (line_left left byte) (suc count)
-CopiedTo-suc line text copy left count byte within is copied =
-    let left_is : drop count text ≡ byte ∷ drop (suc count) text = drop-cons text count 0 within ∙ ap (λ b. b ∷ drop (suc count) text) is in
-    append_assoc copy (blank_byte left byte ∷ []) (blanked (line_left left byte) (drop (suc count) text))
-    ∙ ap (λ rest. copy ++ rest) (sym (ap (blanked left) left_is ∙ blanked-cons left byte (drop (suc count) text)))
-    ∙ copied
-
-pub CopiedTo-more : (line : ℕ) (text copy : List ℕ) (left count byte : ℕ) → count < length text → get_or text count 0 ≡ byte
-    → CopiedTo line text copy left count → CopiedTo line text (copy ++ blank_byte left byte ∷ []) (line_left left byte) (count + 1)
-CopiedTo-more line text copy left count byte within is copied =
-    subst (CopiedTo line text (copy ++ blank_byte left byte ∷ []) (line_left left byte)) (suc-eq-add-one count)
-    (CopiedTo-suc line text copy left count byte within is copied)
-
--- the whole text
-pub CopiedTo-all : (line : ℕ) (text copy : List ℕ) (left count : ℕ) → length text ≤ count → CopiedTo line text copy left count → copy ≡ blanked line text
-unfolding blanked
-CopiedTo-all line text copy left count all copied =
-    sym (append-nil copy) ∙ ap (λ rest. copy ++ blanked left rest) (sym (drop_of_length-le text all)) ∙ copied
 
 -- a line that is told is one that no form derives
 told_at : (text : List ℕ) (fault : TextFault) → HasTextFault text fault → IfSome (misread_line fault) (λ line. HasTextFault text (NotALine line))

@@ -1,5 +1,6 @@
--- The lines of a text that no form derives, each the lowest one once those before it are blank.
-use Rattle.std.specs.Prelude.{ℕ, ◌-◌, ◌==◌, List, [], ◌∷◌, Option, Some, None, suc, zero, if◌then◌else◌}
+-- The lines of a text that no form derives, each the lowest one once those before it are empty.
+use Rattle.std.specs.Prelude.{ℕ, List, [], ◌∷◌, Option, Some, None, suc, zero}
+use Rattle.line_marks.specs.Emptied.{emptied}
 use Rattle.chart_text.specs.TextFaults.{HasTextFault}
 use Rattle.chart_text.specs.declared.fault.TextFault.{TextFault}
 use Rattle.chart_text.specs.declared.fault.TextFault.TheVariants.{TooLarge, NoFirstLine, NotALine, NoEnd, Memory}
@@ -12,22 +13,9 @@ misread_line (NotALine line) = Some line
 misread_line NoEnd = None
 misread_line Memory = None
 
--- what stands in place of a byte where the line with a number, counted from that of the byte, is blanked
-abbrev pub blank_byte : ℕ → ℕ → ℕ
-blank_byte line byte = if byte == 10 then 10 else if line == 1 then 32 else byte
-
--- the number of that line, counted from that of the next byte
-abbrev pub line_left : ℕ → ℕ → ℕ
-line_left line byte = if byte == 10 then line - 1 else line
-
--- a text whose line of a number, counted from 1, has blanks in place of its bytes
-unfoldable pub blanked : ℕ → List ℕ → List ℕ
-blanked line [] = []
-blanked line (byte ∷ bytes) = blank_byte line byte ∷ blanked (line_left line byte) bytes
-
 -- the lines of a text that are listed, so many at most
 pub data AreMisread : ℕ → List ℕ → List ℕ → Type 0 where
   enough : {text : List ℕ} → AreMisread zero text []
   none : {count : ℕ} {text : List ℕ} → ((line : ℕ) → ¬ HasTextFault text (NotALine line)) → AreMisread (suc count) text []
-  next : {count line : ℕ} {text others : List ℕ} → HasTextFault text (NotALine line) → AreMisread count (blanked line text) others
+  next : {count line : ℕ} {text others : List ℕ} → HasTextFault text (NotALine line) → AreMisread count (emptied line text) others
       → AreMisread (suc count) text (line ∷ others)

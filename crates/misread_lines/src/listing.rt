@@ -5,8 +5,8 @@ ghost use Rattle.chart_text.specs.TextFaults.{HasTextFault};
 ghost use Rattle.misread_lines.specs.Misread as law;
 ghost use Rattle.misread_lines.specs.Misread.{AreMisread};
 
-use crate::blank::blanked;
 use chart_text::{TextFault, read_chart};
+use line_marks::emptied;
 use std::alloc::{AllocError, Global};
 
 /// How many lines are listed at most; a chart has no more.
@@ -51,7 +51,7 @@ pub fn misread_lines(alloc: Global, text: &[u8]) -> Result<Vec<u16>, AllocError>
             return Ok(lines);
         };
         lines.push(line)?;
-        rest = blanked(alloc, rest.as_slice(), line)?;
+        rest = emptied(alloc, rest.as_slice(), u32::from(line))?;
     }
     Ok(lines)
 }

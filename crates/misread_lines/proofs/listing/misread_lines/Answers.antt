@@ -12,7 +12,7 @@ returns-in_default c =
 
 pub loop-preserved : goal.loop-preserved
 loop-preserved c =
-    rw (c.in_ok-push.ensures.items, c.in_ok-rest-2.ensures, c.as_slice-in-loop.ensures.value)
+    rw (c.in_ok-push.ensures.items, c.in_ok-rest-2.ensures, c.as_slice-in-loop.ensures.value, c.from.ensures)
     (ListsSoFar-more c.args.text.now c.loop.rest.items c.loop.lines.items c.loop.counter c.in-Some.line c.loop-test.true
     (subst (λ (t : List ℕ). HasTextFault t (NotALine c.in-Some.line)) c.as_slice.ensures.value (rw c.in-Some.is at c.in_ok-line.ensures.some))
     c.loop.invariant)

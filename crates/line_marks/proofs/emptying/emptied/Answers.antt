@@ -1,10 +1,10 @@
 use Rattle.std.proofs.Common.{get_or, refl}
-use Rattle.misread_lines.proofs.Steps.{CopiedTo-all, CopiedTo-more}
-use Rattle.misread_lines.proofs.blank.blanked.Goals as goal
+use Rattle.line_marks.proofs.Copying.{CopiedTo-all, CopiedTo-more}
+use Rattle.line_marks.proofs.emptying.emptied.Goals as goal
 
 pub loop-byte-preserved : goal.loop-byte-preserved
 loop-byte-preserved c =
-    rw (c.in_ok-push.ensures.items, c.blank_byte.ensures, c.line_left-left.ensures)
+    rw (c.in_ok-extend_from_slice.ensures.items, c.kept.ensures, c.line_left-left.ensures)
     (CopiedTo-more c.args.line c.args.text.now c.loop-byte.copy.items c.loop-byte.left c.loop-byte.byte-index
     (get_or c.args.text.now c.loop-byte.byte-index 0) c.loop-byte-test.true refl c.loop-byte.invariant)
 

@@ -1,7 +1,7 @@
-use Rattle.fault_words.specs.Words.{unknown_words}
+use Rattle.fault_words.specs.Words.{undescribed_words}
 use Rattle.fault_words.proofs.Writing.{then_writes}
-use Rattle.fault_words.proofs.words.write_unknown.Goals as goal
+use Rattle.fault_words.proofs.words.write_undescribed.Goals as goal
 
 pub returns : goal.returns
-unfolding unknown_words
+unfolding undescribed_words
 returns g c = then_writes c.write_subject.result _ _ _ _ _ c.in_ok-write_all.ensures.bytes c.write_subject.ensures

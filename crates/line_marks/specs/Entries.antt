@@ -1,0 +1,17 @@
+-- What entries of faults have in common: a first line with the number of a line, the number of the fault and its name, and below it,
+-- indented, the line as it stands, a mark under a part of it, and words.
+use Rattle.std.specs.Prelude.{ℕ, List, ◌++◌, codes, decimal}
+use Rattle.line_marks.specs.Marks.{mark_text}
+use Rattle.line_marks.specs.declared.span.Span.{Span}
+
+-- the first line of an entry
+abbrev pub head_line : ℕ → ℕ → List ℕ → List ℕ
+head_line line number name = codes "line " ++ decimal line ++ codes " fault " ++ decimal number ++ codes " " ++ name ++ codes "\n"
+
+-- a line below it
+abbrev pub below : List ℕ → List ℕ
+below text = codes "  " ++ text ++ codes "\n"
+
+-- a line as it stands, and a mark under a part of it
+abbrev pub shown : List ℕ → Span → List ℕ
+shown line span = below line ++ below (mark_text line span)

@@ -1,0 +1,6 @@
+pub mod Below
+pub mod HubWords
+pub mod LineSlips
+pub mod Meetings
+pub mod CarrySlips
+pub mod Faulty
