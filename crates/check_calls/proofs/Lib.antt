@@ -4,4 +4,5 @@ mod EarlierGroups
 mod FirstFaults
 mod Fronts
 mod Pairings
+mod Shown
 pub mod DeckChecks

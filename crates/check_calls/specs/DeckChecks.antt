@@ -2,7 +2,9 @@ pub mod BadLines
 pub mod Endings
 pub mod Fine
 pub mod HelperLines
+pub mod HelperShown
 pub mod HelperStanding
 pub mod HelperTold
 pub mod Laws
 pub mod Listings
+pub mod Shown

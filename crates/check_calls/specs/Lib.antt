@@ -1,3 +1,4 @@
 pub mod Laws
 pub mod Served
+pub mod Showing
 pub mod DeckChecks

@@ -7,6 +7,8 @@
 //! check_cards(rt.alloc(), &chart, file, &mut rt.stdout())?;
 //! ```
 //!
+//! [`show_cards`] does so of a deck that is held whole, and shows each bad card as it stands, with a mark under the column at fault.
+//!
 //! The crate stands on `card_code`, which says what lines and cards are, on `chart_rules` for the cards that are valid, on `misfits` for
 //! the totals, and on `faults` for what is told.
 
@@ -16,7 +18,9 @@ mod fine;
 mod laws;
 mod line;
 mod listing;
+mod shown;
 mod standing;
 
 pub use checking::check_cards;
 pub use laws::decks_without_faults_fit;
+pub use shown::{Shown, show_cards};

@@ -4,6 +4,8 @@
 pub mod deck_checks;
 mod laws;
 mod serving;
+mod showing;
 
 pub use laws::checks_tell_first_what_stops_runs;
 pub use serving::{check_deck_to_end, print_check};
+pub use showing::{print_shown, show_deck_to_end};

@@ -16,13 +16,13 @@ use Rattle.program_io.specs.Refusals.{RefusesDeck}
 use Rattle.setups.specs.Wiring.{Wiring}
 use Rattle.wire_chart.specs.Below.wiring_text.declared.statement.Version.{Version}
 
-pub answered_over : {X : Type 0} (result : Result X Fault) (found : X → Outcome) (text : X → List ℕ) (deck : List ℕ)
+pub answered_over : {X : Type 0} (result : Result X Fault) (found : X → Outcome) (text : X → List ℕ) (wiring deck : List ℕ)
     (cards items : List (List ℕ)) (version : Version) (compiled : Compilation) (setup : Wiring) → cards ≡ items → Deck deck items
-    → IfOk result (λ answer. (any : List ℕ) → Deck any cards → IsDeckText any version compiled setup (found answer) (text answer))
-    → IfOk result (λ answer. IsDeckText deck version compiled setup (found answer) (text answer))
-answered_over (Ok answer) found text deck cards items version compiled setup same punched is =
+    → IfOk result (λ answer. (any : List ℕ) → Deck any cards → IsDeckText wiring any version compiled setup (found answer) (text answer))
+    → IfOk result (λ answer. IsDeckText wiring deck version compiled setup (found answer) (text answer))
+answered_over (Ok answer) found text wiring deck cards items version compiled setup same punched is =
     is deck (subst (Deck deck) (sym same) punched)
-answered_over (Err _) found text deck cards items version compiled setup same punched is = tt
+answered_over (Err _) found text wiring deck cards items version compiled setup same punched is = tt
 
 pub memory_refuses_deck : {X : Type 0} (result : Result X Fault) (deck : List ℕ) → IfErr result (λ told. told ≡ fault.Memory)
     → IfErr result (λ told. told ≢ fault.Memory → RefusesDeck deck told)
@@ -30,13 +30,13 @@ memory_refuses_deck (Ok _) deck memory = tt
 memory_refuses_deck (Err _) deck memory = λ other. absurd (other memory)
 
 -- which text it is, by the outcome
-module _ (deck : List ℕ) (version : Version) (compiled : Compilation) (setup : Wiring) (found : Outcome) (text : List ℕ)
-    (told : IsDeckText deck version compiled setup found text) where
+module _ (wiring deck : List ℕ) (version : Version) (compiled : Compilation) (setup : Wiring) (found : Outcome) (text : List ℕ)
+    (told : IsDeckText wiring deck version compiled setup found text) where
   pub wired_over : found ≡ outcome.Wired → IsWiredText compiled setup text
-  wired_over is = subst (λ (its : Outcome). IsDeckText deck version compiled setup its text) is told
+  wired_over is = subst (λ (its : Outcome). IsDeckText wiring deck version compiled setup its text) is told
 
-  pub unwired_over : (counts : Counts) → found ≡ outcome.Unwired counts → IsAlikeText deck counts version compiled setup text
-  unwired_over counts is = subst (λ (its : Outcome). IsDeckText deck version compiled setup its text) is told
+  pub unwired_over : (counts : Counts) → found ≡ outcome.Unwired counts → IsAlikeText wiring deck counts version compiled setup text
+  unwired_over counts is = subst (λ (its : Outcome). IsDeckText wiring deck version compiled setup its text) is told
 
-  pub otherwise_over : (place : Place) → found ≡ outcome.PrintsOtherwise place → IsOtherwiseText deck place version compiled setup text
-  otherwise_over place is = subst (λ (its : Outcome). IsDeckText deck version compiled setup its text) is told
+  pub otherwise_over : (place : Place) → found ≡ outcome.PrintsOtherwise place → IsOtherwiseText wiring deck place version compiled setup text
+  otherwise_over place is = subst (λ (its : Outcome). IsDeckText wiring deck version compiled setup its text) is told

@@ -10,6 +10,7 @@ use Rattle.match_calls.specs.MatchDecks.Wheels.{DifferOnDeck}
 use Rattle.match_calls.specs.declared.match_decks.lines.Place.{Place}
 use Rattle.match_calls.specs.declared.match_decks.wheels.Difference.{Difference}
 use Rattle.match_calls.specs.declared.match_texts.counts.Counts.{Counts}
+use Rattle.match_calls.specs.declared.match_texts.telling.Telling.TheVariants.{Wires}
 use Rattle.setups.specs.Wiring.{Wiring}
 use Rattle.wire_chart.specs.Below.wiring_text.declared.statement.Version.{Version}
 
@@ -44,18 +45,18 @@ pub apart_told : (own setup : Wiring) (cards : List (List ℕ)) (at : Difference
 apart_told own setup cards at place text differ pair its = record { at = at; its_place = its; differ = differ; pair = pair }
 
 -- of the whole deck
-pub alike_told : (deck : List ℕ) (counts : Counts) (version : Version) (compiled : Compilation) (setup : Wiring) (text : List ℕ)
+pub alike_told : (wiring deck : List ℕ) (counts : Counts) (version : Version) (compiled : Compilation) (setup : Wiring) (text : List ℕ)
     (cards : List (List ℕ))
-    → IsUnwiredText counts version compiled setup text → DifferOnDeck compiled.setup setup cards None → Deck deck cards
-    → IsAlikeText deck counts version compiled setup text
-alike_told deck counts version compiled setup text cards unwired alike punched =
+    → IsUnwiredText Wires wiring counts version compiled setup text → DifferOnDeck compiled.setup setup cards None → Deck deck cards
+    → IsAlikeText wiring deck counts version compiled setup text
+alike_told wiring deck counts version compiled setup text cards unwired alike punched =
     record { unwired = unwired; cards = cards; punched = punched; alike = alike }
 
-pub otherwise_told : (deck : List ℕ) (counts : Counts) (place : Place) (version : Version) (compiled : Compilation)
-    (setup : Wiring) (difference line text : List ℕ) (cards : List (List ℕ)) → IsUnwiredText counts version compiled setup difference
+pub otherwise_told : (wiring deck : List ℕ) (counts : Counts) (place : Place) (version : Version) (compiled : Compilation)
+    (setup : Wiring) (difference line text : List ℕ) (cards : List (List ℕ)) → IsUnwiredText Wires wiring counts version compiled setup difference
     → IsApartText compiled.setup setup cards place line → text ≡ difference ++ line → Deck deck cards
-    → IsOtherwiseText deck place version compiled setup text
-otherwise_told deck counts place version compiled setup difference line text cards unwired apart spelled punched = record {
+    → IsOtherwiseText wiring deck place version compiled setup text
+otherwise_told wiring deck counts place version compiled setup difference line text cards unwired apart spelled punched = record {
   counts = counts;
   difference = difference;
   unwired = unwired;

@@ -9,6 +9,7 @@ use Rattle.match_calls.specs.MatchDecks.Wheels.{DifferOnDeck}
 use Rattle.match_calls.specs.declared.match_decks.lines.Place.{Place}
 use Rattle.match_calls.specs.declared.match_decks.wheels.Difference.{Difference}
 use Rattle.match_calls.specs.declared.match_texts.counts.Counts.{Counts}
+use Rattle.match_calls.specs.declared.match_texts.telling.Telling.TheVariants.{Wires}
 use Rattle.setups.specs.Wiring.{Wiring}
 use Rattle.wire_chart.specs.Below.wiring_text.declared.statement.Version.{Version}
 
@@ -34,19 +35,19 @@ pub record IsApartText (own setup : Wiring) (cards : List (List ℕ)) (place : P
   pub pair : IsPairText own setup cards at text
 
 -- The panel is not wired for the chart, and yet prints the same lines of this deck as the chart's own.
-pub record IsAlikeText (deck : List ℕ) (counts : Counts) (version : Version) (compiled : Compilation) (setup : Wiring) (text : List ℕ)
+pub record IsAlikeText (wiring deck : List ℕ) (counts : Counts) (version : Version) (compiled : Compilation) (setup : Wiring) (text : List ℕ)
     : Type 0 where
-  pub unwired : IsUnwiredText counts version compiled setup text
+  pub unwired : IsUnwiredText Wires wiring counts version compiled setup text
   pub cards : List (List ℕ)
   pub punched : Deck deck cards
   pub alike : DifferOnDeck compiled.setup setup cards None
 
 -- The panel is not wired for the chart, and prints a line of this deck otherwise: behind what is missing and too much it is told how.
-pub record IsOtherwiseText (deck : List ℕ) (place : Place) (version : Version) (compiled : Compilation) (setup : Wiring) (text : List ℕ)
+pub record IsOtherwiseText (wiring deck : List ℕ) (place : Place) (version : Version) (compiled : Compilation) (setup : Wiring) (text : List ℕ)
     : Type 0 where
   pub counts : Counts
   pub difference : List ℕ
-  pub unwired : IsUnwiredText counts version compiled setup difference
+  pub unwired : IsUnwiredText Wires wiring counts version compiled setup difference
   pub cards : List (List ℕ)
   pub punched : Deck deck cards
   pub line : List ℕ

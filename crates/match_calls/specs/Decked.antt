@@ -15,9 +15,9 @@ use Rattle.match_calls.specs.declared.match_texts.counts.Counts.{Counts}
 -- What is told of texts that don't match: the panel is not wired for the chart, and what is missing and too much was printed, and how the
 -- first line of the deck that it prints otherwise differs, if one does; or a text is refused, and nothing was printed.
 pub data LeavesApart (chart wiring deck : List ℕ) (told : Unmatched) (old new : Option (List ℕ)) (Unprinted : Type 0) : Type 0 where
-  alike : (counts : Counts) → told ≡ why.Unwired counts → Prints chart wiring (IsAlikeText deck counts) old new
+  alike : (counts : Counts) → told ≡ why.Unwired counts → Prints chart wiring (IsAlikeText wiring deck counts) old new
       → LeavesApart chart wiring deck told old new Unprinted
-  otherwise : (place : Place) → told ≡ why.PrintsOtherwise place → Prints chart wiring (IsOtherwiseText deck place) old new
+  otherwise : (place : Place) → told ≡ why.PrintsOtherwise place → Prints chart wiring (IsOtherwiseText wiring deck place) old new
       → LeavesApart chart wiring deck told old new Unprinted
   refused : (fault : Fault) → told ≡ why.Failed fault → RefusesAll chart wiring deck fault → Unprinted
       → LeavesApart chart wiring deck told old new Unprinted

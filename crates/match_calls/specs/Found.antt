@@ -4,10 +4,12 @@ use Rattle.std.specs.Io.KnownBytes.{Appends}
 use Rattle.compile407.specs.Compilation.{Compilation}
 use Rattle.match_calls.specs.Panels.{ArePanels}
 use Rattle.match_calls.specs.MatchTexts.Counts.{CountsDifferences}
-use Rattle.match_calls.specs.MatchTexts.MatchText.{TellsDifference}
 use Rattle.match_calls.specs.MatchTexts.PlanText.{plan_text}
+use Rattle.match_calls.specs.MatchTexts.Progress.{IsToldText}
 use Rattle.match_calls.specs.declared.match_texts.counts.Counts.{Counts}
+use Rattle.match_calls.specs.declared.match_texts.telling.Telling.{Telling}
 use Rattle.matching.specs.Answers.{DiffersBy}
+use Rattle.matching.specs.declared.answer.Matching.TheVariants.{Differs}
 use Rattle.panel_plans.specs.Wired.{IsWiredBy}
 use Rattle.plans.specs.Plans.{Lists}
 use Rattle.streamed_runs.specs.PrintPromises.Promises.{BeginsReport, PrintsReport}
@@ -25,14 +27,16 @@ pub record IsWiredText (compiled : Compilation) (setup : Wiring) (text : List �
 
 -- The panel is wired for the chart by no plan. By the plan that is told these are what is missing and what is too much, and so much is
 -- counted of both. Both are spelled in the version of the wiring chart, so that their lines can be put into its text and taken out of it.
-pub record IsUnwiredText (counts : Counts) (version : Version) (compiled : Compilation) (setup : Wiring) (text : List ℕ) : Type 0 where
+-- Behind them it is told how far the panel is; or a hint is told in place of all.
+pub record IsUnwiredText (telling : Telling) (wiring : List ℕ) (counts : Counts) (version : Version) (compiled : Compilation) (setup : Wiring)
+    (text : List ℕ) : Type 0 where
   pub unwired : (plan : Lists) → ¬ IsWiredBy compiled.chart.lines setup plan
   pub plan : Lists
   pub missing : Wiring
   pub extra : Wiring
   pub differs : DiffersBy compiled.chart.lines setup plan missing extra
   pub counted : CountsDifferences missing extra counts
-  pub tells : TellsDifference version compiled.chart.lines setup plan missing extra text
+  pub tells : IsToldText telling wiring version compiled.chart.lines setup (Differs plan missing extra) text
 
 -- a text that is right of the panels of two texts was written after what was there
 pub record Prints (chart wiring : List ℕ) (IsRight : Version → Compilation → Wiring → List ℕ → Type 0) (old new : Option (List ℕ))

@@ -9,6 +9,7 @@ use Rattle.match_calls.specs.declared.outcome.Outcome.TheVariants as outcome
 use Rattle.match_calls.specs.MatchDecks.Wheels.{DifferOnDeck}
 use Rattle.match_calls.specs.MatchTexts.Counts.{CountsDifferences}
 use Rattle.match_calls.specs.declared.match_texts.counts.Counts.{Counts}
+use Rattle.match_calls.specs.declared.match_texts.telling.Telling.{Telling}
 use Rattle.matching.specs.declared.answer.Matching.{Matching}
 use Rattle.matching.specs.declared.answer.Matching.TheVariants.{Differs, Matched}
 use Rattle.setups.specs.Wiring.{Wiring}
@@ -22,9 +23,9 @@ TellsCounts (Differs plan missing extra) None = ⊥
 TellsCounts (Differs plan missing extra) (Some counts) = CountsDifferences missing extra counts
 
 -- the text of what was found, by the counts
-abbrev pub IsFoundText : Version → Compilation → Wiring → Option Counts → List ℕ → Type 0
-IsFoundText version compiled setup None text = IsWiredText compiled setup text
-IsFoundText version compiled setup (Some counts) text = IsUnwiredText counts version compiled setup text
+abbrev pub IsFoundText : Telling → (wiring : List ℕ) → Version → Compilation → Wiring → Option Counts → List ℕ → Type 0
+IsFoundText telling wiring version compiled setup None text = IsWiredText compiled setup text
+IsFoundText telling wiring version compiled setup (Some counts) text = IsUnwiredText telling wiring counts version compiled setup text
 
 -- the first line that two panels print differently, or none
 abbrev pub IsApart : (own setup : Wiring) (cards : List (List ℕ)) → Option Apart → Type 0
@@ -32,7 +33,8 @@ IsApart own setup cards None = DifferOnDeck own setup cards None
 IsApart own setup cards (Some apart) = IsApartText own setup cards apart.place (string_bytes apart.text)
 
 -- the text of what was found over a deck, by the outcome
-abbrev pub IsDeckText : (deck : List ℕ) → Version → Compilation → Wiring → Outcome → List ℕ → Type 0
-IsDeckText deck version compiled setup outcome.Wired text = IsWiredText compiled setup text
-IsDeckText deck version compiled setup (outcome.Unwired counts) text = IsAlikeText deck counts version compiled setup text
-IsDeckText deck version compiled setup (outcome.PrintsOtherwise place) text = IsOtherwiseText deck place version compiled setup text
+abbrev pub IsDeckText : (wiring deck : List ℕ) → Version → Compilation → Wiring → Outcome → List ℕ → Type 0
+IsDeckText wiring deck version compiled setup outcome.Wired text = IsWiredText compiled setup text
+IsDeckText wiring deck version compiled setup (outcome.Unwired counts) text = IsAlikeText wiring deck counts version compiled setup text
+IsDeckText wiring deck version compiled setup (outcome.PrintsOtherwise place) text =
+    IsOtherwiseText wiring deck place version compiled setup text

@@ -8,19 +8,22 @@ use Rattle.match_calls.specs.Unmatched.{unmatched_status}
 use Rattle.match_calls.specs.declared.unmatched.Unmatched.{Unmatched}
 use Rattle.match_calls.specs.declared.unmatched.Unmatched.TheVariants as why
 use Rattle.match_calls.specs.declared.match_texts.counts.Counts.{Counts}
+use Rattle.match_calls.specs.declared.match_texts.telling.Telling.{Telling}
 
--- What is told of texts that don't match: the panel is not wired for the chart, and what is missing and too much was printed; or a text is
--- refused, and nothing was printed.
-pub data LeavesUnmatched (chart wiring : List ℕ) (told : Unmatched) (old new : Option (List ℕ)) (Unprinted : Type 0) : Type 0 where
-  unwired : (counts : Counts) → told ≡ why.Unwired counts → Prints chart wiring (IsUnwiredText counts) old new
-      → LeavesUnmatched chart wiring told old new Unprinted
+-- What is told of texts that don't match: the panel is not wired for the chart, and what is missing and too much was printed, or a hint; or a
+-- text is refused, and nothing was printed.
+pub data LeavesUnmatched (telling : Telling) (chart wiring : List ℕ) (told : Unmatched) (old new : Option (List ℕ)) (Unprinted : Type 0)
+    : Type 0 where
+  unwired : (counts : Counts) → told ≡ why.Unwired counts → Prints chart wiring (IsUnwiredText telling wiring counts) old new
+      → LeavesUnmatched telling chart wiring told old new Unprinted
   refused : (fault : Fault) → told ≡ why.Failed fault → RefusesPanels chart wiring fault → Unprinted
-      → LeavesUnmatched chart wiring told old new Unprinted
+      → LeavesUnmatched telling chart wiring told old new Unprinted
 
 -- Why the command does not end well: that; or the output can't be written, or memory ran out, and a part of what is found may have been
 -- printed.
-pub data StopsMatch (chart wiring : List ℕ) (told : Unmatched) (old new : Option (List ℕ)) (Unprinted : Type 0) : Type 0 where
-  unmatched : unmatched_status told ≡ 3 → LeavesUnmatched chart wiring told old new Unprinted
-      → StopsMatch chart wiring told old new Unprinted
-  unwritten : told ≡ why.Failed fault.Write → StopsMatch chart wiring told old new Unprinted
-  memory_wanting : told ≡ why.Failed fault.Memory → StopsMatch chart wiring told old new Unprinted
+pub data StopsMatch (telling : Telling) (chart wiring : List ℕ) (told : Unmatched) (old new : Option (List ℕ)) (Unprinted : Type 0)
+    : Type 0 where
+  unmatched : unmatched_status told ≡ 3 → LeavesUnmatched telling chart wiring told old new Unprinted
+      → StopsMatch telling chart wiring told old new Unprinted
+  unwritten : told ≡ why.Failed fault.Write → StopsMatch telling chart wiring told old new Unprinted
+  memory_wanting : told ≡ why.Failed fault.Memory → StopsMatch telling chart wiring told old new Unprinted

@@ -5,7 +5,7 @@ ghost use Rattle.std.specs.String.{string_bytes};
 ghost use Rattle.match_calls.specs.Helper.{IsFoundText, TellsCounts};
 
 use crate::match_reports::{Matching, match_compiled};
-use crate::match_texts::{Counts, counts_of, match_text};
+use crate::match_texts::{Counts, Telling, counts_of, told_text};
 use crate::panels::Panels;
 use faults::Fault;
 use std::alloc::{AllocError, Global};
@@ -30,26 +30,45 @@ fn told_counts(matching: &Matching) -> Option<Counts>
 }
 
 // Finds whether a panel is wired for a chart by some plan of it, and what is printed of that.
-fn find(alloc: Global, panels: &Panels) -> Result<Found, AllocError>
-    ensures { IfOk result (λ found.
-        IsFoundText panels.now.version panels.now.compiled panels.now.setup found.counts (string_bytes found.text)) }
+fn find(
+    alloc: Global,
+    telling: Telling,
+    panels: &Panels,
+    wiring: &[u8],
+) -> Result<Found, AllocError>
+    ensures { IfOk result (λ found. IsFoundText telling wiring.now panels.now.version panels.now.compiled panels.now.setup
+        found.counts (string_bytes found.text)) }
 {
     let matching = match_compiled(alloc, &panels.compiled, &panels.setup)?;
     let chart = panels.compiled.chart();
-    let text = match_text(alloc, panels.version, chart, &panels.setup, &matching)?;
+    let setup = &panels.setup;
+    let text = told_text(
+        alloc,
+        telling,
+        panels.version,
+        chart,
+        setup,
+        wiring,
+        &matching,
+    )?;
     let counts = told_counts(&matching);
     Ok(Found { counts, text })
 }
 
-/// Finds whether a panel is wired for a chart by some plan of it, and what is printed of that.
+/// Finds whether a panel is wired for a chart by some plan of it, and what is printed of that. `wiring` is the text of the panel.
 ///
 /// # Errors
 ///
 /// `Memory` where a growth was refused.
-pub(crate) fn found_of<'a>(alloc: Global, panels: &Panels) -> Result<Found, Fault<'a>>
-    ensures found { IfOk result (λ found.
-        IsFoundText panels.now.version panels.now.compiled panels.now.setup found.counts (string_bytes found.text)) }
+pub(crate) fn found_of<'a>(
+    alloc: Global,
+    telling: Telling,
+    panels: &Panels,
+    wiring: &[u8],
+) -> Result<Found, Fault<'a>>
+    ensures found { IfOk result (λ found. IsFoundText telling wiring.now panels.now.version panels.now.compiled panels.now.setup
+        found.counts (string_bytes found.text)) }
     ensures memory { IfErr result (λ told. told ≡ Fault.Memory) }
 {
-    Ok(find(alloc, panels)?)
+    Ok(find(alloc, telling, panels, wiring)?)
 }

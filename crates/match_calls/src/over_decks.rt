@@ -14,7 +14,7 @@ ghost use Rattle.program_io.specs.Refusals.{RefusesDeck};
 
 use crate::apart::apart_on;
 use crate::found::{Found, found_of};
-use crate::match_texts::Counts;
+use crate::match_texts::{Counts, Telling};
 use crate::outcome::Outcome;
 use crate::panels::{Panels, cards_of, panels_of};
 use crate::unmatched::{Unmatched, tell_unmatched};
@@ -36,14 +36,15 @@ struct Answer {
 fn unwired_answer<'a>(
     alloc: Global,
     panels: &Panels,
+    wiring: &[u8],
     counts: Counts,
     difference: String,
     cards: &[Card],
 ) -> Result<Answer, Fault<'a>>
     requires few { length cards.now ≤ most_cards }
-    requires unwired { IsUnwiredText counts panels.now.version panels.now.compiled panels.now.setup (string_bytes difference) }
+    requires unwired { IsUnwiredText Telling.Wires wiring.now counts panels.now.version panels.now.compiled panels.now.setup (string_bytes difference) }
     ensures answer { IfOk result (λ answer. (deck : List ℕ) → Deck deck cards.now
-        → IsDeckText deck panels.now.version panels.now.compiled panels.now.setup answer.outcome (string_bytes answer.text)) }
+        → IsDeckText wiring.now deck panels.now.version panels.now.compiled panels.now.setup answer.outcome (string_bytes answer.text)) }
     ensures memory { IfErr result (λ told. told ≡ Fault.Memory) }
 {
     let mut text = difference;
@@ -63,19 +64,24 @@ fn unwired_answer<'a>(
 }
 
 // What is found over the text of a deck.
-fn deck_answer<'a>(alloc: Global, panels: &Panels, deck: &[u8]) -> Result<Answer, Fault<'a>>
+fn deck_answer<'a>(
+    alloc: Global,
+    panels: &Panels,
+    wiring: &[u8],
+    deck: &[u8],
+) -> Result<Answer, Fault<'a>>
     ensures answer { IfOk result (λ answer.
-        IsDeckText deck.now panels.now.version panels.now.compiled panels.now.setup answer.outcome (string_bytes answer.text)) }
+        IsDeckText wiring.now deck.now panels.now.version panels.now.compiled panels.now.setup answer.outcome (string_bytes answer.text)) }
     ensures refused { IfErr result (λ told. told ≢ Fault.Memory → RefusesDeck deck.now told) }
 {
     let cards = cards_of(alloc, deck)?;
-    let Found { counts, text } = found_of(alloc, panels)?;
+    let Found { counts, text } = found_of(alloc, Telling::Wires, panels, wiring)?;
     match counts {
         None => Ok(Answer {
             outcome: Outcome::Wired,
             text,
         }),
-        Some(counts) => unwired_answer(alloc, panels, counts, text, cards.as_slice()),
+        Some(counts) => unwired_answer(alloc, panels, wiring, counts, text, cards.as_slice()),
     }
 }
 
@@ -103,7 +109,7 @@ pub fn print_deck_match<'a, R: Read + Drop, W: Write>(
 {
     let panels = panels_of(alloc, chart, wiring)?;
     let bytes = read_whole(alloc, deck, path)?;
-    let answer = deck_answer(alloc, &panels, bytes.as_slice())?;
+    let answer = deck_answer(alloc, &panels, wiring, bytes.as_slice())?;
     put(out, answer.text.as_bytes())?;
     match answer.outcome {
         Outcome::Wired => Ok(()),

@@ -6,6 +6,7 @@ mod Wheels
 mod Unique
 mod Whole
 mod Found
+mod TooNarrow
 mod Steps
 mod Zipped
 mod Alike

@@ -1,6 +1,7 @@
 pub mod ComparedColumns
 pub mod Groups
 pub mod NamingWires
+pub mod Narrow
 pub mod PilotWires
 pub mod Renumbered
 pub mod Shown

@@ -4,6 +4,7 @@ ghost use Rattle.std.specs.Prelude.{◌≡◌, ◌<◌, ◌≤◌, IfNone, IfSom
 ghost use Rattle.capacity.specs.Capacities.{HasGroup, standard};
 ghost use Rattle.capacity.specs.declared.group.CounterGroup.{CounterGroup};
 ghost use Rattle.panel_plans.specs.Groups.{group_with};
+ghost use Rattle.panel_plans.specs.Narrow.{IsTotal};
 ghost use Rattle.panel_plans.specs.Shown.{CarriesTo, IsShown, ShowsUnits, units_group};
 ghost use Rattle.plans.specs.declared.counter.TotalCounter.{TotalCounter};
 ghost use Rattle.charts.specs.Field.{decimals_of};
@@ -59,8 +60,9 @@ fn decimals_of(chart: &Chart, name: Name) -> u16
 
 /// Where the units of the total on a line stand, if a total stands there.
 pub(crate) fn units_on(chart: &Chart, line: &Line) -> Option<Units>
-    ensures { (total : TotalOn chart.now.lines line.now) → units_wheel chart.now.lines line.now total < 256
+    ensures value { (total : TotalOn chart.now.lines line.now) → units_wheel chart.now.lines line.now total < 256
         → result ≡ Some (units_of chart.now.lines line.now total) }
+    ensures only { IfSome result (λ _. IsTotal line.now.statement) }
 {
     let need = line_total(chart, line)?.need;
     match &line.statement {

@@ -6,12 +6,14 @@
 //! the wheel to which they lead. A column of a control field and its level name the comparing position, and the sign column of an amount
 //! its pilot, together with its lowest total or its mark. Where a column is compared twice for a level, the two positions may change places,
 //! and the first that is not yet taken will do. Where nothing shows the part of a thing, one for which some of its wires
-//! speak stands in for it, else a free one: so what is wrong can still be told.
+//! speak stands in for it, else a free one: so what is wrong can still be told. [`narrow_group`] tells a counter group that is named for a total
+//! and too narrow for it.
 #![tactic(auto)]
 
 mod compared;
 mod counters;
 mod groups;
+mod narrow;
 mod near;
 mod parts;
 mod pilots;
@@ -20,4 +22,5 @@ mod stand_ins;
 mod text_units;
 mod wheel_parts;
 
+pub use narrow::{Narrow, narrow_group};
 pub use plan::read_plan;

@@ -58,7 +58,7 @@ cut_bad chart number line kept told (inr long) (not_text card column punched fir
 cut_bad chart number line kept told (inr long) (not_amount card column punched first named) = absurd (omega (arith, long.1, punched.short))
 
 -- the first and the last of the good cards
-edges_of : (chart : Chart) (cards : List (List ℕ)) (standing now : Standing) → IsAt chart.lines (Some cards) standing
+pub edges_of : (chart : Chart) (cards : List (List ℕ)) (standing now : Standing) → IsAt chart.lines (Some cards) standing
     → now.count ≡ standing.count → now.first ≡ standing.first → now.last ≡ standing.last → AreEdges cards now
 edges_of chart [] standing now at count first last = record { count = count ∙ at.2; first = first ∙ at.3; last = last ∙ at.1.0 }
 edges_of chart (card ∷ cards) standing now at count first last =

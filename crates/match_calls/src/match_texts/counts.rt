@@ -1,12 +1,10 @@
 //! How much is missing and too much.
 
-ghost use Rattle.std.specs.Prelude.{◌≡◌};
 ghost use Rattle.match_calls.specs.MatchTexts.Counts.{AreCountsOf};
-ghost use Rattle.match_calls.specs.MatchTexts.Forms.{forms, same_form};
 
 use differences::size;
 use matching::Matching;
-use setups::{Setup, Tape};
+use panel_progress::forms;
 
 /// How much is missing and how much is too much: wires, jacks and stops, and the form, where it is another.
 #[derive(Clone, Copy, Debug, PartialEq, Eq)]
@@ -15,22 +13,6 @@ pub struct Counts {
     pub missing: u32,
     /// How much is too much.
     pub extra: u32,
-}
-
-/// Whether two tapes have one form.
-pub(crate) fn is_same_form(one: &Tape, other: &Tape) -> bool
-    ensures { result ≡ same_form one.now other.now }
-{
-    one.lines() == other.lines()
-        && one.first() == other.first()
-        && one.overflow() == other.overflow()
-}
-
-// How many forms are missing, and too much: one, where two tapes have not one form.
-fn forms(one: &Tape, other: &Tape) -> u32
-    ensures { result ≡ forms one.now other.now }
-{
-    if is_same_form(one, other) { 0 } else { 1 }
 }
 
 /// How much is missing and too much, by what is found of a setup: the wires, jacks and stops of each difference, and one more where the

@@ -2,25 +2,29 @@
 
 ghost use Rattle.std.specs.Prelude.{◌≡◌, ◌++◌, Contains, IfOk, OnOk, length};
 ghost use Rattle.std.specs.String.{string_bytes};
-ghost use Rattle.match_calls.specs.MatchTexts.Forms.{form_beside};
+ghost use Rattle.panel_progress.specs.Forms.{form_beside};
 ghost use Rattle.match_calls.specs.MatchTexts.Helper.{GainsLacking, GainsMissing, GainsSurplus, IsSurplus};
 ghost use Rattle.match_calls.specs.MatchTexts.Missing.{AreLacking, LacksOnLine, line_heading, missing_form};
 ghost use Rattle.plans.specs.Plans.{ServesChart};
 
-use crate::match_texts::counts::is_same_form;
 use chart_rules::Chart;
 use charts::{Line, Statement};
 use differences::difference;
 use legend::Row;
 use numerals::push_numbered;
+use panel_progress::is_same_form;
 use plans::Plan;
 use setups::{Setup, Tape};
 use std::alloc::{AllocError, Global};
 use wire_chart::{Version, write_form, write_parts};
 use wire_gen::line_setup;
 
-// Writes the form of a tape, where another has another.
-fn write_form_beside(text: &mut String, tape: &Tape, other: &Tape) -> Result<(), AllocError>
+/// Writes the form of a tape, where another has another.
+pub(crate) fn write_form_beside(
+    text: &mut String,
+    tape: &Tape,
+    other: &Tape,
+) -> Result<(), AllocError>
     ensures { OnOk result (string_bytes text.new ≡ string_bytes text.old ++ form_beside tape.now other.now) }
 {
     if is_same_form(tape, other) {

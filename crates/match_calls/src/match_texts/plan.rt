@@ -11,8 +11,8 @@ use numerals::push_numbered;
 use plans::{Plan, TotalCounter};
 use std::alloc::AllocError;
 
-// Writes a counter group: its width, a point and its number.
-fn write_group(text: &mut String, group: CounterGroup) -> Result<(), AllocError>
+/// Writes a counter group: its width, a point and its number.
+pub(crate) fn write_group(text: &mut String, group: CounterGroup) -> Result<(), AllocError>
     ensures { OnOk result (string_bytes text.new ≡ string_bytes text.old ++ group_words group) }
 {
     push_numbered(text, " ", group.width)?;

@@ -1,22 +1,28 @@
 //! Writing what is found.
 
-ghost use Rattle.std.specs.Prelude.{◌≡◌, ◌++◌, IfOk, OnOk};
+ghost use Rattle.std.specs.Prelude.{◌≡◌, ◌++◌, IfOk, OnOk, codes};
 ghost use Rattle.std.specs.String.{string_bytes};
 ghost use Rattle.match_calls.specs.MatchTexts.MatchText.{IsMatchText};
 ghost use Rattle.match_calls.specs.MatchTexts.Missing.{under_heading};
+ghost use Rattle.match_calls.specs.MatchTexts.PlanText.{plan_text};
 ghost use Rattle.matching.specs.Answers.{IsMatchingOf};
 
 use crate::match_texts::missing::{missing_text, surplus_text};
 use crate::match_texts::plan::write_plan;
 use chart_rules::Chart;
 use matching::Matching;
+use plans::Plan;
 use setups::Setup;
 use std::alloc::{AllocError, Global};
 use wire_chart::Version;
 
 #[tactic(auto, using(crate::proofs::MatchTexts::Whole::nothing_headed, crate::proofs::MatchTexts::Whole::something_headed))]
-// Writes a heading and what stands under it; nothing, where nothing would.
-fn write_under_heading(text: &mut String, heading: &str, body: &String) -> Result<(), AllocError>
+/// Writes a heading and what stands under it; nothing, where nothing would.
+pub(crate) fn write_under_heading(
+    text: &mut String,
+    heading: &str,
+    body: &String,
+) -> Result<(), AllocError>
     ensures { OnOk result (string_bytes text.new ≡ string_bytes text.old ++ under_heading heading.now (string_bytes body.now)) }
 {
     if body.is_empty() {
@@ -24,6 +30,14 @@ fn write_under_heading(text: &mut String, heading: &str, body: &String) -> Resul
     }
     text.push_str(heading)?;
     text.push_str(body.as_str())
+}
+
+/// Writes that a panel is wired for a chart, and by which plan.
+pub(crate) fn write_wired(text: &mut String, chart: &Chart, plan: &Plan) -> Result<(), AllocError>
+    ensures { OnOk result (string_bytes text.new ≡ string_bytes text.old ++ codes "ok\n" ++ plan_text chart.now.lines plan.now) }
+{
+    text.push_str("ok\n")?;
+    write_plan(text, chart, plan)
 }
 
 #[tactic(auto, using(crate::proofs::MatchTexts::Whole::difference_told))]
@@ -45,10 +59,7 @@ pub fn match_text(
 {
     let mut text = String::new(alloc);
     match matching {
-        Matching::Matched { plan } => {
-            text.push_str("ok\n")?;
-            write_plan(&mut text, chart, plan)?;
-        }
+        Matching::Matched { plan } => write_wired(&mut text, chart, plan)?,
         Matching::Differs {
             plan,
             missing,

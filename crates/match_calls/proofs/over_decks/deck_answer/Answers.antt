@@ -4,7 +4,7 @@ use Rattle.match_calls.proofs.over_decks.deck_answer.Goals as goal
 
 pub returns-clause-answer : goal.returns-clause-answer
 returns-clause-answer c =
-    answered_over c.unwired_answer.result (λ answer. answer.outcome) (λ answer. string_bytes answer.text) c.args.deck.now
+    answered_over c.unwired_answer.result (λ answer. answer.outcome) (λ answer. string_bytes answer.text) c.args.wiring.now c.args.deck.now
     c.as_slice.result.now c.in_ok-cards.cards.items c.args.panels.now.version c.args.panels.now.compiled c.args.panels.now.setup c.as_slice.ensures.value
     c.in_ok-cards.ensures.deck c.unwired_answer.ensures.answer
 

@@ -45,7 +45,7 @@ returns-in-Wired-clause-printed g c = record {
   setup = c.in_ok-panels.panels.setup;
   panels = c.in_ok-panels.ensures.are;
   text = string_bytes c.in_ok-answer.answer.text;
-  right = wired_over c.as_slice.result.now c.in_ok-panels.panels.version c.in_ok-panels.panels.compiled c.in_ok-panels.panels.setup c.in_ok-answer.answer.outcome
+  right = wired_over c.args.wiring.now c.as_slice.result.now c.in_ok-panels.panels.version c.in_ok-panels.panels.compiled c.in_ok-panels.panels.setup c.in_ok-answer.answer.outcome
       (string_bytes c.in_ok-answer.answer.text) c.in_ok-answer.ensures.answer c.in-Wired.is;
   written = rw (← c.as_bytes.ensures.value) c.in_ok-put.ensures.written;
 }
@@ -64,7 +64,7 @@ returns-in-Unwired-clause-stopped g c =
             setup = c.in_ok-panels.panels.setup;
             panels = c.in_ok-panels.ensures.are;
             text = string_bytes c.in_ok-answer.answer.text;
-            right = unwired_over c.as_slice.result.now c.in_ok-panels.panels.version c.in_ok-panels.panels.compiled c.in_ok-panels.panels.setup c.in_ok-answer.answer.outcome
+            right = unwired_over c.args.wiring.now c.as_slice.result.now c.in_ok-panels.panels.version c.in_ok-panels.panels.compiled c.in_ok-panels.panels.setup c.in_ok-answer.answer.outcome
                 (string_bytes c.in_ok-answer.answer.text) c.in_ok-answer.ensures.answer c.in-Unwired.counts c.in-Unwired.is;
             written = rw (← c.as_bytes.ensures.value) c.in_ok-put.ensures.written;
           });
@@ -84,7 +84,7 @@ returns-clause-stopped g c =
             setup = c.in_ok-panels.panels.setup;
             panels = c.in_ok-panels.ensures.are;
             text = string_bytes c.in_ok-answer.answer.text;
-            right = otherwise_over c.as_slice.result.now c.in_ok-panels.panels.version c.in_ok-panels.panels.compiled c.in_ok-panels.panels.setup c.in_ok-answer.answer.outcome
+            right = otherwise_over c.args.wiring.now c.as_slice.result.now c.in_ok-panels.panels.version c.in_ok-panels.panels.compiled c.in_ok-panels.panels.setup c.in_ok-answer.answer.outcome
                 (string_bytes c.in_ok-answer.answer.text) c.in_ok-answer.ensures.answer c.in-PrintsOtherwise.place c.in-PrintsOtherwise.is;
             written = rw (← c.as_bytes.ensures.value) c.in_ok-put.ensures.written;
           });

@@ -1,0 +1,71 @@
+//! The command that shows all cards of a deck that a chart can't be run with, over any reader and writers.
+
+ghost use Rattle.std.specs.Prelude.{◌≡◌, ◌≢◌, ◌≤◌, ◌⊎◌, IfErr, OnOk};
+ghost use Rattle.check_calls.specs.Showing.{ShowsOk, StopsShowing};
+ghost use Rattle.faults.specs.Lines.{IsTold};
+ghost use Rattle.faults.specs.Status.{status_of};
+
+use crate::deck_checks::show_cards;
+use compile407::compile;
+use faults::{Ending, Fault, tell};
+use program_io::{put, read_whole};
+use std::alloc::Global;
+use std::io::{Read, Write};
+
+/// Compiles a chart, reads a deck whole, and prints all its cards that the chart can't be run with, each shown as it stands below its line, or,
+/// where there is none, `ok` and which cards there are. `path` names the deck in what is told of one that can't be read.
+///
+/// # Errors
+///
+/// The fault of the chart, else `File` of a deck that can't be read, else `Whole` with number 3 for one of more than 999,999 cards, and nothing is
+/// printed. Else the fault of the first card that is shown. `Memory` where a growth was refused and `Write` where the output can't be written:
+/// then a part may have been printed.
+pub fn print_shown<'a, R: Read + Drop, W: Write>(
+    alloc: Global,
+    chart: &[u8],
+    path: &'a str,
+    deck: R,
+    out: &mut W,
+) -> Result<(), Fault<'a>>
+    ensures fine { OnOk result (ShowsOk chart.now (R.remaining deck) (W.contents out.old) (W.contents out.new)) }
+    ensures stops { IfErr result (λ told. StopsShowing chart.now (R.remaining deck) (W.contents out.old) (W.contents out.new) told
+        (Fault.File path.entry) (out.new ≡ out.old)) }
+{
+    let compiled = compile(alloc, chart)?;
+    let bytes = read_whole(alloc, deck, path)?;
+    let shown = show_cards(alloc, compiled.chart(), bytes.as_slice())?;
+    put(out, shown.text.as_slice())?;
+    match shown.first {
+        None => Ok(()),
+        Some(fault) => Err(fault),
+    }
+}
+
+/// Shows all cards of a deck that a chart can't be run with, as [`print_shown`] does, and tells on one line of `faults` why the answer is not
+/// `ok`.
+///
+/// The statuses are 0 where it is, and then nothing is told, 3 where the chart or the deck is refused, 4 where the deck can't be read or the
+/// output can't be written, 5 for memory. The line on `faults` is that of the first card that is shown.
+pub fn show_deck_to_end<R: Read + Drop, W: Write, V: Write>(
+    alloc: Global,
+    chart: &[u8],
+    path: &str,
+    deck: R,
+    out: &mut W,
+    faults: &mut V,
+) -> Ending
+    ensures fine { result.status ≡ 0
+        → ShowsOk chart.now (R.remaining deck) (W.contents out.old) (W.contents out.new) × (faults.new ≡ faults.old) }
+    ensures stops { (result.status ≡ 0) ⊎ ((told : Fault) × (result.status ≡ status_of told)
+        × StopsShowing chart.now (R.remaining deck) (W.contents out.old) (W.contents out.new) told (Fault.File path.entry) (out.new ≡ out.old)
+        × IsTold told result.is_told (V.contents faults.old) (V.contents faults.new)) }
+    ensures statuses { (result.status ≢ 1) × (result.status ≤ 5) }
+{
+    match print_shown(alloc, chart, path, deck, out) {
+        Ok(()) => Ending {
+            status: 0,
+            is_told: true,
+        },
+        Err(fault) => tell(&fault, faults),
+    }
+}

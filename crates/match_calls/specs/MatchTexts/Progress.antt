@@ -1,0 +1,100 @@
+-- How far a panel is that isn't wired for a chart: which lines of its wiring chart are too much, and which lines of the chart are done.
+use Rattle.std.specs.Prelude.{◌≡◌, ℕ, ◌+◌, ◌==◌, List, [], ◌++◌, Option, Some, None, codes, decimal, if◌then◌else◌, length, slice_get}
+use Rattle.card_code.specs.Lines.{lines_of}
+use Rattle.charts.specs.declared.chart.Line.{Line}
+use Rattle.match_calls.specs.MatchTexts.Counts.{CountsDifferences}
+use Rattle.match_calls.specs.MatchTexts.MatchText.{IsMatchText}
+use Rattle.match_calls.specs.MatchTexts.Missing.{under_heading}
+use Rattle.match_calls.specs.MatchTexts.PlanText.{group_words, plan_text}
+use Rattle.match_calls.specs.declared.match_texts.counts.Counts.{Counts}
+use Rattle.match_calls.specs.declared.match_texts.telling.Telling.{Telling}
+use Rattle.match_calls.specs.declared.match_texts.telling.Telling.TheVariants as telling
+use Rattle.matching.specs.declared.answer.Matching.{Matching}
+use Rattle.matching.specs.declared.answer.Matching.TheVariants.{Differs, Matched}
+use Rattle.panel_progress.specs.Counts.{AreCountsBefore}
+use Rattle.panel_progress.specs.ExtraLines.{AreToldLines}
+use Rattle.panel_progress.specs.Forms.{form_beside}
+use Rattle.panel_progress.specs.Standings.{counts_text, standings_text}
+use Rattle.panel_progress.specs.declared.counting.LineCount.{LineCount}
+use Rattle.panel_plans.specs.Narrow.{IsNarrowOn}
+use Rattle.panel_plans.specs.declared.narrow.Narrow.{Narrow}
+use Rattle.plans.specs.Plans.{Lists}
+use Rattle.setups.specs.Tapes.{CarriageTape}
+use Rattle.setups.specs.Wiring.{Wiring}
+use Rattle.wire_chart.specs.Below.wiring_text.declared.statement.Version.{Version}
+
+-- The lines of a wiring chart that are too much: line 2, the form, where another is asked for, and those that say something that is too much.
+pub record ListsExtra (version : Version) (wanted : CarriageTape) (extra : Wiring) (wiring text : List ℕ) : Type 0 where
+  pub told : List ℕ
+  pub are_told : AreToldLines version extra 1 (lines_of wiring) told
+  pub spelled : text ≡ under_heading (codes "line 2: ") (form_beside extra.tape wanted) ++ told
+
+-- that a group is too narrow for the total on the line with a number, if one is
+abbrev pub narrow_words : ℕ → Option Narrow → List ℕ
+narrow_words number None = []
+narrow_words number (Some narrow) =
+    codes "line " ++ decimal number ++ codes ": group" ++ group_words narrow.group ++ codes " is too narrow: " ++ decimal narrow.need
+    ++ codes " positions are needed\n"
+
+-- what is told of a line of the chart
+pub record TellsNarrow (lines : List Line) (setup : Wiring) (line : Line) (told : List ℕ) : Type 0 where
+  pub found : Option Narrow
+  pub is : IsNarrowOn lines setup line found
+  pub spelled : told ≡ narrow_words line.number found
+
+-- of the lines before a place of the chart, one after another
+pub data AreNarrow (lines : List Line) (setup : Wiring) : (place : ℕ) → List ℕ → Type 0 where
+  none : AreNarrow lines setup 0 []
+  next : (place : ℕ) (line : Line) (before told : List ℕ) → AreNarrow lines setup place before → slice_get lines place ≡ Some line
+      → TellsNarrow lines setup line told → AreNarrow lines setup (place + 1) (before ++ told)
+
+-- These lines, under a heading; then the groups that are named for totals and too narrow for them; and then which lines of the chart are done,
+-- begun and not begun.
+pub record TellsProgress (version : Version) (lines : List Line) (setup : Wiring) (plan : Lists) (missing extra : Wiring)
+    (wiring text : List ℕ) : Type 0 where
+  pub surplus : List ℕ
+  pub lists : ListsExtra version missing.tape extra wiring surplus
+  pub counts : List LineCount
+  pub are_counts : AreCountsBefore lines plan setup (length lines) counts
+  pub narrow : List ℕ
+  pub are_narrow : AreNarrow lines setup (length lines) narrow
+  pub spelled : text ≡ under_heading (codes "too much in the wiring chart\n") surplus ++ narrow ++ standings_text counts
+
+-- so of what was found: nothing of a setup that is wired for the chart
+abbrev pub IsProgressText : Version → List Line → Wiring → (wiring : List ℕ) → Matching → List ℕ → Type 0
+IsProgressText version lines setup wiring (Matched plan) text = text ≡ []
+IsProgressText version lines setup wiring (Differs plan missing extra) text = TellsProgress version lines setup plan missing extra wiring text
+
+-- What is found, with what is missing and too much, and how far the panel is.
+pub record TellsWires (version : Version) (lines : List Line) (setup : Wiring) (wiring : List ℕ) (matching : Matching) (text : List ℕ)
+    : Type 0 where
+  pub found : List ℕ
+  pub tells : IsMatchText version lines setup matching found
+  pub progress : List ℕ
+  pub far : IsProgressText version lines setup wiring matching progress
+  pub spelled : text ≡ found ++ progress
+
+-- how much is too much, if anything is
+abbrev pub extra_line : ℕ → List ℕ
+extra_line extra = if extra == 0 then [] else codes "too much: " ++ decimal extra ++ codes "\n"
+
+-- A hint names no wire, jack or stop: how much each line of the chart lacks, how much is too much, which groups are too narrow, and which lines
+-- are done, begun and not begun.
+pub record TellsHint (lines : List Line) (setup : Wiring) (plan : Lists) (missing extra : Wiring) (text : List ℕ) : Type 0 where
+  pub all : Counts
+  pub counted : CountsDifferences missing extra all
+  pub counts : List LineCount
+  pub are_counts : AreCountsBefore lines plan setup (length lines) counts
+  pub narrow : List ℕ
+  pub are_narrow : AreNarrow lines setup (length lines) narrow
+  pub spelled : text ≡ counts_text counts ++ extra_line all.extra ++ narrow ++ standings_text counts
+
+-- so of what was found
+abbrev pub IsHintText : List Line → Wiring → Matching → List ℕ → Type 0
+IsHintText lines setup (Matched plan) text = text ≡ codes "ok\n" ++ plan_text lines plan
+IsHintText lines setup (Differs plan missing extra) text = TellsHint lines setup plan missing extra text
+
+-- what is told of what was found
+abbrev pub IsToldText : Telling → (wiring : List ℕ) → Version → List Line → Wiring → Matching → List ℕ → Type 0
+IsToldText telling.Wires wiring version lines setup matching text = TellsWires version lines setup wiring matching text
+IsToldText telling.Hints wiring version lines setup matching text = IsHintText lines setup matching text

@@ -1,0 +1,59 @@
+-- Groups that are too narrow for a total.
+use Rattle.std.proofs.Common.{◌≡◌, ◌∙◌, ℕ, ◌<◌, ◌≤◌, sym, ap, subst, arith, List, Option, Some, None, IfSome}
+use Rattle.std.specs.Prelude.{IfNone}
+use Rattle.capacity.specs.Capacities.{HasGroup, standard}
+use Rattle.capacity.specs.declared.group.CounterGroup.{CounterGroup}
+use Rattle.charts.specs.declared.chart.Line.{Line}
+use Rattle.panel_plans.proofs.Rows.{has-place}
+use Rattle.panel_plans.specs.Groups.{group_with}
+use Rattle.panel_plans.specs.Narrow.{IsNarrow, IsNarrowOn, IsTotal, NarrowFor}
+use Rattle.panel_plans.specs.Totals.{units_of}
+use Rattle.panel_plans.specs.Wired.{TotalOn, units_wheel}
+use Rattle.panel_plans.specs.declared.counters.Units.{Units}
+use Rattle.panel_plans.specs.declared.narrow.Narrow.{Narrow}
+use Rattle.setups.specs.Wiring.{Wiring}
+
+-- no group of the machine is so, where none at a place is
+pub none_narrow : (setup : Wiring) (level wheel need : ℕ) {bound : ℕ} → 32 ≤ bound
+    → ((p : ℕ) → p < bound → ¬ IsNarrow setup level wheel need (group_with p)) → (group : CounterGroup) → HasGroup standard group
+    → ¬ IsNarrow setup level wheel need group
+none_narrow setup level wheel need last none group there narrow =
+    let at = has-place group there in
+    none at.place (omega (arith, last, at.within)) (subst (IsNarrow setup level wheel need) (sym at.is) narrow)
+
+-- where no total stands on a line
+pub no_total : (lines : List Line) (setup : Wiring) (line : Line) (units : Option Units) → units ≡ None
+    → ((total : TotalOn lines line) → units_wheel lines line total < 256 → units ≡ Some (units_of lines line total))
+    → IsNarrowOn lines setup line None
+no_total lines setup line units is value = record {
+  only = tt;
+  is = λ total less. tt;
+  none = λ total less. absurd (let e = sym is ∙ value total less in cc);
+}
+
+abbrev unit_in : Units → Option Units → Units
+unit_in other None = other
+unit_in other (Some units) = units
+
+-- and where one does
+pub of_total : (lines : List Line) (setup : Wiring) (line : Line) (shown : Option Units) (units : Units) (found : Option Narrow) → shown ≡ Some units
+    → ((total : TotalOn lines line) → units_wheel lines line total < 256 → shown ≡ Some (units_of lines line total)) → IsTotal line.statement
+    → IfSome found (NarrowFor setup units.level units.wheel units.need)
+    → IfNone found ((group : CounterGroup) → HasGroup standard group → ¬ IsNarrow setup units.level units.wheel units.need group)
+    → IsNarrowOn lines setup line found
+of_total lines setup line shown units found is value only some none = record {
+  only = whatever found;
+  is = λ total less.
+      subst (λ (u : Units). IfSome found (NarrowFor setup u.level u.wheel u.need)) (same total less) some;
+  none = λ total less.
+      subst
+      (λ (u : Units). IfNone found ((group : CounterGroup) → HasGroup standard group → ¬ IsNarrow setup u.level u.wheel u.need group))
+      (same total less) none;
+}
+  where
+    same : (total : TotalOn lines line) → units_wheel lines line total < 256 → units ≡ units_of lines line total
+    same total less = ap (unit_in units) (sym is ∙ value total less)
+
+    whatever : (its : Option Narrow) → IfSome its (λ _. IsTotal line.statement)
+    whatever None = tt
+    whatever (Some narrow) = only
