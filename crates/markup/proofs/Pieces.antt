@@ -84,6 +84,18 @@ numbers_more from count =
     ∙ map-range_with_len_more (λ (n : ℕ). n) from count (from + count) refl
     ∙ ap (λ (l : List ℕ). l ++ (from + count) ∷ []) (map_same (range_with_len from count))
 
+-- a word for each number of a range
+pub range_none : (word : ℕ → List ℕ) (old : List ℕ) → old ≡ old ++ flat_map word (range_with_len 1 0)
+range_none word old = sym (append-nil old)
+
+pub range_more : (word : ℕ → List ℕ) (old mid new : List ℕ) (count : ℕ) → mid ≡ old ++ flat_map word (range_with_len 1 count)
+    → new ≡ mid ++ word (count + 1) → new ≡ old ++ flat_map word (range_with_len 1 (count + 1))
+range_more word old mid new count before one =
+    one ∙ ap (λ (l : List ℕ). l ++ word (count + 1)) before
+    ∙ flat_map_more word old (range_with_len 1 count) (count + 1)
+    ∙ ap (λ (l : List ℕ). old ++ flat_map word l)
+    (ap (λ (n : ℕ). range_with_len 1 count ++ n ∷ []) (omega arith) ∙ sym (numbers_more 1 count))
+
 -- one number more
 pub each_number : (Is : ℕ → List ℕ → Type 0) (count : ℕ) (old mid new : List ℕ) → GainsEach Is (range_with_len 1 count) old mid
     → GainsOne (Is (count + 1)) mid new → GainsEach Is (range_with_len 1 (count + 1)) old new

@@ -5,11 +5,12 @@ use Rattle.std.specs.List.{list_all}
 use Rattle.std.proofs.Math.Nat.{mod-lt, div-add-mod, div-lt_iff_lt-mul}
 use Rattle.std.proofs.lemmas.Bool.{and_parts, eqb-true, leb-true, or_cases, false≢true}
 use Rattle.std.proofs.lemmas.Bool.Decides.{nat_tests}
+use Rattle.std.proofs.lemmas.Nat.{mul-le}
 use Rattle.std.proofs.lemmas.Option.{same_Some}
 use Rattle.hubs.specs.Hubs.{number_of, is_hub_in_range, is_exit_hub, is_entry_hub}
 use Rattle.hubs.specs.declared.hub.Hub.{Hub}
 use Rattle.hubs.proofs.HubLemmas.{in_range, number_of-entry, number_of-exit, number_of-injective, number_of-range}
-use Rattle.panel_drawing.specs.Blocks.{height, middle, place_at, place_numbered, place_of, width, are_apart, are_blocks, block_in, blocks, has_room, is_block, is_drawn, is_of_kind, is_on_its_side, place_in}
+use Rattle.panel_drawing.specs.Blocks.{height, lower_edge, middle, place_at, place_numbered, place_of, right_edge, width, are_apart, are_blocks, block_in, blocks, has_room, is_block, is_dotted, is_drawn, is_of_kind, is_on_its_side, place_in}
 use Rattle.panel_drawing.specs.declared.blocks.Block.{Block}
 use Rattle.panel_drawing.specs.declared.blocks.Place.{Place}
 
@@ -52,57 +53,112 @@ in_block test before (first ∷ others) number are all less most =
 -- a place stands in a block
 pub record StandsIn (block : Block) (place : Place) : Type 0 where
   pub from_left : block.left ≤ place.x
-  pub to_right : place.x < block.left + block.columns
+  pub to_right : place.x < right_edge block
   pub from_top : block.top ≤ place.y
-  pub to_bottom : place.y < block.top + block.rows
+  pub to_bottom : place.y < lower_edge block
+
+-- a step less than so many, each as long
+within_steps : (left step less many : ℕ) → 1 ≤ step → less < many → left + step * less < left + step * many
+within_steps left step less many some few =
+    let more : step * (less + 1) ≤ step * many = mul-le step (less + 1) step many (omega arith) (omega (arith, few)) in
+    let one : step * (less + 1) ≡ step * less + step = distributed step less in
+    omega (arith, more, one, some)
+  where
+    distributed : (a b : ℕ) → a * (b + 1) ≡ a * b + a
+    distributed a b = omega arith
+
+-- the parts of what is known of a block
+pub record IsRight (block : Block) : Type 0 where
+  pub wide : 1 ≤ block.columns
+  pub enough : block.count ≡ block.columns * block.rows
+  pub spaced : 10 ≤ block.across
+  pub from_left : 10 ≤ block.left
+  pub to_right : right_edge block ≤ width
+  pub from_top : 10 ≤ block.top
+  pub to_bottom : lower_edge block ≤ height
+  pub side : is_on_its_side block ≡ true
+
+pub is_right : (block : Block) → is_block block ≡ true → IsRight block
+is_right block is =
+    let one = and_parts (is_of_kind block) _ is in
+    let two = and_parts (has_room block) _ one.1 in
+    let room = and_parts (nat_le 1 block.columns) (block.count == block.columns * block.rows) two.0 in
+    let three = and_parts (is_dotted block) _ two.1 in
+    let dotted = and_parts (nat_le 10 block.across) (block.run == block.across * (block.columns - 1) + 1) three.0 in
+    let four = and_parts (is_drawn block) (is_on_its_side block) three.1 in
+    let drawn = and_parts (nat_le 10 block.left) _ four.0 in
+    let across = and_parts (nat_le (right_edge block) width) _ drawn.1 in
+    let down = and_parts (nat_le 10 block.top) (nat_le (lower_edge block) height) across.1 in
+    record {
+      wide = leb-true 1 block.columns room.0;
+      enough = eqb-true block.count (block.columns * block.rows) room.1;
+      spaced = leb-true 10 block.across dotted.0;
+      from_left = leb-true 10 block.left drawn.0;
+      to_right = leb-true (right_edge block) width across.0;
+      from_top = leb-true 10 block.top down.0;
+      to_bottom = leb-true (lower_edge block) height down.1;
+      side = four.1;
+    }
 
 -- the place of a block's hub stands in it
 pub stands_in : (block : Block) (number : ℕ) → IsOf block number → StandsIn block (place_in block number)
 stands_in block number of =
-    let room = and_parts (has_room block) _ (and_parts (is_of_kind block) _ of.is).1 in
-    let both = and_parts (nat_le 1 block.columns) (nat_le block.count (block.columns * block.rows)) room.0 in
-    let wide : 1 ≤ block.columns = leb-true 1 block.columns both.0 in
-    let enough : block.count ≤ block.columns * block.rows = leb-true block.count (block.columns * block.rows) both.1 in
+    let right = is_right block of.is in
     let passed : ℕ = number - block.before - 1 in
-    let left : passed % block.columns < block.columns = mod-lt passed wide in
-    let few : passed < block.rows * block.columns = omega (arith, enough, of.behind, of.within) in
-    let down : passed / block.columns < block.rows = (div-lt_iff_lt-mul wide).1 few in
+    let aside : passed % block.columns < block.columns = mod-lt passed right.wide in
+    let few : passed < block.rows * block.columns = omega (arith, right.enough, of.behind, of.within) in
+    let down : passed / block.columns < block.rows = (div-lt_iff_lt-mul right.wide).1 few in
     record {
       from_left = omega arith;
-      to_right = omega (arith, left);
+      to_right =
+          within_steps block.left block.across (passed % block.columns) block.columns (omega (arith, right.spaced)) aside;
       from_top = omega arith;
-      to_bottom = omega (arith, down);
+      to_bottom = within_steps block.top 14 (passed / block.columns) block.rows (omega arith) down;
     }
 
 -- no place stands in two blocks that are apart
 pub stands_in_one : (one other : Block) (place : Place) → are_apart one other ≡ true → StandsIn one place → StandsIn other place → ⊥
 stands_in_one one other place apart here there =
-    let right = nat_le (one.left + one.columns) other.left in
-    let left = nat_le (other.left + other.columns) one.left in
-    let under = nat_le (one.top + one.rows) other.top in
-    let over = nat_le (other.top + other.rows) one.top in
+    let right = nat_le (right_edge one) other.left in
+    let left = nat_le (right_edge other) one.left in
+    let under = nat_le (lower_edge one) other.top in
+    let over = nat_le (lower_edge other) one.top in
     elim (or_cases (right || left) (under || over) apart) [
       | inl aside ↦ elim (or_cases right left aside) [
-        | inl e ↦ omega (arith, leb-true (one.left + one.columns) other.left e, here.to_right, there.from_left)
-        | inr e ↦ omega (arith, leb-true (other.left + other.columns) one.left e, there.to_right, here.from_left)
+        | inl e ↦ omega (arith, leb-true (right_edge one) other.left e, here.to_right, there.from_left)
+        | inr e ↦ omega (arith, leb-true (right_edge other) one.left e, there.to_right, here.from_left)
       ]
       | inr above ↦ elim (or_cases under over above) [
-        | inl e ↦ omega (arith, leb-true (one.top + one.rows) other.top e, here.to_bottom, there.from_top)
-        | inr e ↦ omega (arith, leb-true (other.top + other.rows) one.top e, there.to_bottom, here.from_top)
+        | inl e ↦ omega (arith, leb-true (lower_edge one) other.top e, here.to_bottom, there.from_top)
+        | inr e ↦ omega (arith, leb-true (lower_edge other) one.top e, there.to_bottom, here.from_top)
       ]
     ]
 
+-- as many steps, where they come to the same place
+same_steps : (left step one other : ℕ) → 1 ≤ step → left + step * one ≡ left + step * other → one ≡ other
+same_steps left step one other some same = by_order (nat_lt one other) (nat_lt other one) refl refl
+  where
+    further : (less many : ℕ) → less < many → left + step * less ≡ left + step * many → ⊥
+    further less many few is = omega (arith, within_steps left step less many some few, is)
+
+    by_order : (less more : Bool) → nat_lt one other ≡ less → nat_lt other one ≡ more → one ≡ other
+    by_order true more e f = absurd (further one other (grind (arith, nat_tests, e)) same)
+    by_order false true e f = absurd (further other one (grind (arith, nat_tests, f)) (sym same))
+    by_order false false e f = grind (arith, nat_tests, e, f)
+
 -- two hubs of a block at one place are one
-one_in_block : (block : Block) (m n : ℕ) → block.before < m → block.before < n → place_in block m ≡ place_in block n → m ≡ n
-one_in_block block m n behind too same =
+pub one_in_block : (block : Block) (m n : ℕ) → 1 ≤ block.across → block.before < m → block.before < n
+    → place_in block m ≡ place_in block n → m ≡ n
+one_in_block block m n spaced behind too same =
     let first : ℕ = m - block.before - 1 in
     let second : ℕ = n - block.before - 1 in
-    let aside : block.left + first % block.columns ≡ block.left + second % block.columns = ap (λ (p : Place). p.x) same in
-    let under : block.top + first / block.columns ≡ block.top + second / block.columns = ap (λ (p : Place). p.y) same in
-    let down : first / block.columns ≡ second / block.columns = omega (arith, under) in
+    let aside : first % block.columns ≡ second % block.columns =
+    same_steps block.left block.across (first % block.columns) (second % block.columns) spaced (ap (λ (p : Place). p.x) same) in
+    let down : first / block.columns ≡ second / block.columns =
+    same_steps block.top 14 (first / block.columns) (second / block.columns) (omega arith) (ap (λ (p : Place). p.y) same) in
     let one : first ≡ second =
     sym (div-add-mod first block.columns) ∙ ap (λ (q : ℕ). block.columns * q + first % block.columns) down
-    ∙ omega (arith, aside) ∙ div-add-mod second block.columns in
+    ∙ ap (λ (q : ℕ). block.columns * (second / block.columns) + q) aside ∙ div-add-mod second block.columns in
     omega (arith, one, behind, too)
 
 -- two hubs at one place are one
@@ -132,7 +188,7 @@ one_at_place before (first ∷ others) m n are less most less_too most_too same 
         → place_in (block_in others m) m ≡ place_in (block_in others n) n → m ≡ n)
         → m ≡ n
     by_tests true true e f at is one other next =
-        one_in_block first m n (omega (arith, at, less)) (omega (arith, at, less_too))
+        one_in_block first m n (omega (arith, (is_right first is).spaced)) (omega (arith, at, less)) (omega (arith, at, less_too))
         (sym (ap (λ (b : Block). place_in b m) (chosen m true e)) ∙ same ∙ ap (λ (b : Block). place_in b n) (chosen n true f))
     by_tests true false e f at is one other next =
         let later = other (grind (arith, nat_tests, f, at)) in
@@ -161,40 +217,21 @@ pub in_blocks : (number : ℕ) → 1 ≤ number → number ≤ 1936 → IsOf (bl
 in_blocks number from most =
     (in_block (λ (block : Block). true) 0 blocks number all_blocks passes_all (omega (arith, from)) most).0
 
--- the parts of what is known of a block
-pub record IsRight (block : Block) : Type 0 where
-  pub wide : 1 ≤ block.columns
-  pub from_left : 1 ≤ block.left
-  pub to_right : block.left + block.columns ≤ width
-  pub from_top : 2 ≤ block.top
-  pub to_bottom : block.top + block.rows ≤ height
-  pub side : is_on_its_side block ≡ true
-
-pub is_right : (block : Block) → is_block block ≡ true → IsRight block
-is_right block is =
-    let one = and_parts (is_of_kind block) _ is in
-    let two = and_parts (has_room block) _ one.1 in
-    let room = and_parts (nat_le 1 block.columns) (nat_le block.count (block.columns * block.rows)) two.0 in
-    let three = and_parts (is_drawn block) (is_on_its_side block) two.1 in
-    let drawn = and_parts (nat_le 1 block.left) _ three.0 in
-    let across = and_parts (nat_le (block.left + block.columns) width) _ drawn.1 in
-    let down = and_parts (nat_le 2 block.top) (nat_le (block.top + block.rows) height) across.1 in
-    record {
-      wide = leb-true 1 block.columns room.0;
-      from_left = leb-true 1 block.left drawn.0;
-      to_right = leb-true (block.left + block.columns) width across.0;
-      from_top = leb-true 2 block.top down.0;
-      to_bottom = leb-true (block.top + block.rows) height down.1;
-      side = three.1;
-    }
-
 -- what stands before the place of a hub's number in its block: the block is where the number can be placed
 pub in_its_block : (number : ℕ) → 1 ≤ number → number ≤ 1936 → (block : Block) → block ≡ block_in blocks number
-    → (block.before < number) × (0 < block.columns) × (block.left ≤ 100) × (block.top ≤ 100)
+    → (block.before < number) × (0 < block.columns) × (block.left ≤ 2000) × (block.top ≤ 2000) × (block.across ≤ 2000)
 in_its_block number from most block is =
     let of = in_blocks number from most in
     let right = is_right (block_in blocks number) of.is in
-    rw is (of.behind, omega (arith, right.wide), omega (arith, right.to_right), omega (arith, right.to_bottom))
+    let one : (block_in blocks number).across * 1 ≤ (block_in blocks number).across * (block_in blocks number).columns =
+    mul-le (block_in blocks number).across 1 (block_in blocks number).across (block_in blocks number).columns (omega arith) right.wide in
+    rw is (
+      of.behind,
+      omega (arith, right.wide),
+      omega (arith, right.to_right),
+      omega (arith, right.to_bottom),
+      omega (arith, right.to_right, one),
+    )
 
 -- a hub of the panel has a number
 pub numbered : (hub : Hub) → is_hub_in_range hub ≡ true → (n : ℕ) × (number_of hub ≡ Some n) × (1 ≤ n) × (n ≤ 1936)
@@ -241,28 +278,28 @@ placed hub is =
       },
     )
 
-pub right_of_margin : (hub : Hub) → is_hub_in_range hub ≡ true → (1 ≤ (place_of hub).x) × ((place_of hub).x < width)
+pub right_of_margin : (hub : Hub) → is_hub_in_range hub ≡ true → (10 ≤ (place_of hub).x) × ((place_of hub).x < width)
 right_of_margin hub is =
     let at = (placed hub is).1 in
     (omega (arith, at.right.from_left, at.stands.from_left), omega (arith, at.right.to_right, at.stands.to_right))
 
-pub under_margin : (hub : Hub) → is_hub_in_range hub ≡ true → (2 ≤ (place_of hub).y) × ((place_of hub).y < height)
+pub under_margin : (hub : Hub) → is_hub_in_range hub ≡ true → (10 ≤ (place_of hub).y) × ((place_of hub).y < height)
 under_margin hub is =
     let at = (placed hub is).1 in
     (omega (arith, at.right.from_top, at.stands.from_top), omega (arith, at.right.to_bottom, at.stands.to_bottom))
 
 -- the blocks of exits end above the middle, those of entries begin under it
 side_of_exit : (block : Block) (number : ℕ) → block.before < number → number ≤ 1040 → is_on_its_side block ≡ true
-    → block.top + block.rows ≤ middle
+    → lower_edge block ≤ middle
 side_of_exit block number behind exit side = by_side (nat_le (block.before + block.count) 1040) refl
   where
-    by_side : (b : Bool) → nat_le (block.before + block.count) 1040 ≡ b → block.top + block.rows ≤ middle
+    by_side : (b : Bool) → nat_le (block.before + block.count) 1040 ≡ b → lower_edge block ≤ middle
     by_side true e =
-        leb-true (block.top + block.rows) middle
-        (sym (ap (λ (c : Bool). if c then nat_le (block.top + block.rows) middle else nat_le 1040 block.before && nat_lt middle block.top) e) ∙ side)
+        leb-true (lower_edge block) middle
+        (sym (ap (λ (c : Bool). if c then nat_le (lower_edge block) middle else nat_le 1040 block.before && nat_lt middle block.top) e) ∙ side)
     by_side false e =
         let both = and_parts (nat_le 1040 block.before) (nat_lt middle block.top)
-        (sym (ap (λ (c : Bool). if c then nat_le (block.top + block.rows) middle else nat_le 1040 block.before && nat_lt middle block.top) e) ∙ side) in
+        (sym (ap (λ (c : Bool). if c then nat_le (lower_edge block) middle else nat_le 1040 block.before && nat_lt middle block.top) e) ∙ side) in
         absurd (omega (arith, leb-true 1040 block.before both.0, behind, exit))
 
 side_of_entry : (block : Block) (number : ℕ) → number ≤ block.before + block.count → 1041 ≤ number → is_on_its_side block ≡ true
@@ -273,7 +310,7 @@ side_of_entry block number within entry side = by_side (nat_le (block.before + b
     by_side true e = absurd (omega (arith, leb-true (block.before + block.count) 1040 e, within, entry))
     by_side false e =
         let both = and_parts (nat_le 1040 block.before) (nat_lt middle block.top)
-        (sym (ap (λ (c : Bool). if c then nat_le (block.top + block.rows) middle else nat_le 1040 block.before && nat_lt middle block.top) e) ∙ side) in
+        (sym (ap (λ (c : Bool). if c then nat_le (lower_edge block) middle else nat_le 1040 block.before && nat_lt middle block.top) e) ∙ side) in
         grind (arith, nat_tests, both.1)
 
 pub exit_above : (exit : Hub) → is_exit_hub exit ≡ true → (place_of exit).y < middle

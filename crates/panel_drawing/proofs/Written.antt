@@ -11,7 +11,7 @@ use Rattle.hubs.proofs.HubLemmas.{hub_numbered}
 use Rattle.panel_drawing.specs.Blocks.{blocks}
 use Rattle.markup.specs.Pieces.{numbered_words}
 use Rattle.markup.proofs.Pieces.{and_more, numbered_last}
-use Rattle.panel_drawing.specs.Drawing.{block_text, drawing_between, drawing_close, drawing_open, hub_dot, step_text, steps_text, wire_text}
+use Rattle.panel_drawing.specs.Drawing.{block_text, drawing_behind, drawing_between, drawing_close, drawing_open, hub_dot, step_text, steps_text, wire_text}
 use Rattle.panel_drawing.specs.Helper.{GainsDrawing, GainsHubs}
 use Rattle.panel_drawing.specs.declared.drawing.PanelWire.{PanelWire}
 
@@ -50,23 +50,23 @@ steps_more old mid new from to others place whole less item before one =
     ∙ sym (ap (λ (l : List Hub). mid ++ steps_text from l) left) ∙ before
 
 -- the pieces of a drawing
-pub drawing_whole : (wires : List PanelWire) (old one two three four five new : List ℕ)
-    → one ≡ old ++ drawing_open → two ≡ one ++ flat_map block_text blocks → GainsHubs (hub_dot wires) 1936 two three
-    → four ≡ three ++ drawing_between → five ≡ four ++ numbered_words wire_text 1 wires → new ≡ five ++ drawing_close
-    → GainsDrawing wires old new
-drawing_whole wires old one two three four five new first second third fourth fifth sixth = record {
-  drawing = drawing_open ++ flat_map block_text blocks ++ numbered_words (hub_dot wires) 1 third.hubs ++ drawing_between
-      ++ numbered_words wire_text 1 wires ++ drawing_close;
-  is = record { hubs = third.hubs; all = third.all; spelled = refl };
-  gained = by old drawing_open (flat_map block_text blocks) (numbered_words (hub_dot wires) 1 third.hubs) drawing_between
-      (numbered_words wire_text 1 wires) drawing_close first second third.gained fourth fifth sixth;
+pub drawing_whole : (wires : List PanelWire) (old one two three four five six new : List ℕ)
+    → one ≡ old ++ drawing_open → two ≡ one ++ flat_map block_text blocks → three ≡ two ++ drawing_between
+    → four ≡ three ++ numbered_words wire_text 1 wires → five ≡ four ++ drawing_behind → GainsHubs (hub_dot wires) 1936 five six
+    → new ≡ six ++ drawing_close → GainsDrawing wires old new
+drawing_whole wires old one two three four five six new first second third fourth fifth sixth last = record {
+  drawing = drawing_open ++ flat_map block_text blocks ++ drawing_between ++ numbered_words wire_text 1 wires ++ drawing_behind
+      ++ numbered_words (hub_dot wires) 1 sixth.hubs ++ drawing_close;
+  is = record { hubs = sixth.hubs; all = sixth.all; spelled = refl };
+  gained = by old drawing_open (flat_map block_text blocks) drawing_between (numbered_words wire_text 1 wires) drawing_behind
+      (numbered_words (hub_dot wires) 1 sixth.hubs) drawing_close first second third fourth fifth sixth.gained last;
 }
   where
-    by : (o a b c d e f : List ℕ) → one ≡ o ++ a → two ≡ one ++ b → three ≡ two ++ c → four ≡ three ++ d → five ≡ four ++ e
-        → new ≡ five ++ f → new ≡ o ++ (a ++ b ++ c ++ d ++ e ++ f)
-    by o a b c d e f h1 h2 h3 h4 h5 h6 =
-        and_more o five new _ f (and_more o four five _ e (and_more o three four _ d (and_more o two three _ c
-        (and_more o one two a b h1 h2) h3) h4) h5) h6
+    by : (o a b c d e f g : List ℕ) → one ≡ o ++ a → two ≡ one ++ b → three ≡ two ++ c → four ≡ three ++ d → five ≡ four ++ e
+        → six ≡ five ++ f → new ≡ six ++ g → new ≡ o ++ (a ++ b ++ c ++ d ++ e ++ f ++ g)
+    by o a b c d e f g h1 h2 h3 h4 h5 h6 h7 =
+        and_more o six new _ g (and_more o five six _ f (and_more o four five _ e (and_more o three four _ d (and_more o two three _ c
+        (and_more o one two a b h1 h2) h3) h4) h5) h6) h7
 
 -- each number is that of a hub
 pub some_hub : (number : ℕ) → number < 1936 → ((hub : Hub) → number_of hub ≡ Some (number + 1) → None ≡ Some hub) → ⊥

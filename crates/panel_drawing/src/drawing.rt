@@ -1,16 +1,17 @@
 //! The drawing as SVG.
 
 ghost use Rattle.std.specs.Prelude.{◌≡◌, ◌++◌, ◌≤◌, codes, decimal, OnOk};
-ghost use Rattle.std.specs.List.{flat_map};
+ghost use Rattle.std.specs.List.{flat_map, range_with_len};
 ghost use Rattle.std.specs.String.{string_bytes};
 ghost use Rattle.panel_drawing.specs.Blocks.{blocks, place_of};
 ghost use Rattle.markup.specs.Pieces.{numbered_words};
-ghost use Rattle.panel_drawing.specs.Drawing.{block_text, box_text, centre_text, colour_text, curve_between, dot_text, drawing_between, drawing_close, drawing_open, ends_at, has_number, has_wire_at, hub_dot, label_text, line_to, link_text, linked_dot, pen_at, picture_open, step_text, steps_text, way_curve, width_text, wire_name, wire_path, wire_text};
+ghost use Rattle.panel_drawing.specs.Drawing.{block_text, centre_text, colour_text, counts_wheels, curve_between, dot_text, dots_open, dots_text, drawing_behind, drawing_between, drawing_close, drawing_open, ends_at, has_number, has_wire_at, hub_dot, kind_words, label_left, label_open, label_place, label_text, label_top, label_words, line_to, link_text, linked_dot, next_row, next_rows, pen_at, picture_open, step_text, steps_text, way_curve, width_text, wire_name, wire_path, wire_text};
 ghost use Rattle.panel_drawing.specs.Helper.{GainsDrawing, GainsHubs};
 
 use crate::blocks::{BLOCKS, Block, Place, hub_place};
+use hub_table::Letters;
 use hubs::{Hub, write_hub};
-use numerals::{push_between, push_numbered};
+use numerals::{push_between, push_number, push_numbered};
 use std::alloc::AllocError;
 
 /// A wire that is drawn.
@@ -24,44 +25,169 @@ pub struct PanelWire {
     pub line: u16,
 }
 
-// The box of a block.
-fn write_box(text: &mut String, block: &Block) -> Result<(), AllocError>
-    ensures { OnOk result (string_bytes text.new ≡ string_bytes text.old ++ box_text block.now) }
+// What a kind of hub is called.
+fn kind_words(kind: Letters) -> &'static str
+    ensures { result.now ≡ kind_words kind }
 {
-    push_numbered(text, "<rect x=\"", block.left)?;
-    push_numbered(text, "\" y=\"", block.top)?;
-    push_numbered(text, "\" width=\"", block.columns)?;
-    push_between(text, "\" height=\"", block.rows, "\"/>")
+    match kind {
+        Letters::FR => "FIRST READING: the card behind it, columns 1 to 80",
+        Letters::SR => "SECOND READING: the card whose line is printed, columns 1 to 80",
+        Letters::CX => "the cards differ",
+        Letters::GX => "wheels",
+        Letters::CO => "carry",
+        Letters::BAN => "balance +",
+        Letters::BAT => "balance -",
+        Letters::PIN => "pilots, normal",
+        Letters::PIT => "pilots, transferred",
+        Letters::SX => "STORAGE out, 1 to 4",
+        Letters::IX => "first card of a group, out",
+        Letters::CSD => "splits, rows 9 to 0",
+        Letters::CSZ => "splits, rows 11 and 12",
+        Letters::EM => "EMITTERS 1 to 8",
+        Letters::CC => "card",
+        Letters::PX => "program",
+        Letters::HX => "heading",
+        Letters::CA => "comparing, one card",
+        Letters::CB => "comparing, the other card",
+        Letters::GE => "wheels",
+        Letters::PL => "+",
+        Letters::MI => "-",
+        Letters::RO => "out",
+        Letters::BT => "test",
+        Letters::CI => "carry",
+        Letters::BAC => "balance",
+        Letters::PIC => "pilots, common",
+        Letters::PIX => "pilots, pickup",
+        Letters::SE => "STORAGE in, 1 to 4",
+        Letters::SI => "in",
+        Letters::SO => "out",
+        Letters::IE => "first card of a group, in",
+        Letters::CSE => "splits, in",
+        Letters::W => "PRINT WHEELS 1 to 120",
+        Letters::ST => "total due",
+        Letters::SP => "space",
+        Letters::SK => "skip to a channel",
+        Letters::RS => "page",
+    }
 }
 
-// The width of the counter groups of a block, where each width has one.
-fn write_width(text: &mut String, width: u32) -> Result<(), AllocError>
-    ensures { OnOk result (string_bytes text.new ≡ string_bytes text.old ++ width_text width) }
+// Whether a kind is called by the wheels of its counter groups.
+fn counts_wheels(kind: Letters) -> bool
+    ensures { result ≡ counts_wheels kind }
+{
+    matches!(kind, Letters::GX | Letters::GE)
+}
+
+// How many wheels the groups of a block have, where its kind is called by its wheels.
+fn write_width(text: &mut String, block: &Block) -> Result<(), AllocError>
+    ensures { OnOk result (string_bytes text.new ≡ string_bytes text.old ++ width_text block.now) }
+{
+    if counts_wheels(block.kind) {
+        push_number(text, block.width)?;
+        text.push_str(" ")
+    } else {
+        Ok(())
+    }
+}
+
+// The front of a label.
+fn write_label_open(text: &mut String, width: u32) -> Result<(), AllocError>
+    ensures { OnOk result (string_bytes text.new ≡ string_bytes text.old ++ label_open width) }
 {
     if width == 0 {
-        Ok(())
+        text.push_str("<text")
     } else {
-        push_numbered(text, ".", width)
+        text.push_str("<text class=\"small\"")
     }
+}
+
+#[tactic(auto, unfolding(crate::specs::Drawing::label_left))]
+// Where a label begins.
+fn write_label_left(text: &mut String, left: u32) -> Result<(), AllocError>
+    ensures { OnOk result (string_bytes text.new ≡ string_bytes text.old ++ label_left left) }
+{
+    push_numbered(text, " x=\"", left)
+}
+
+#[tactic(auto, unfolding(crate::specs::Drawing::label_top))]
+// How far down the block of a label is.
+fn write_label_top(text: &mut String, top: u32) -> Result<(), AllocError>
+    ensures { OnOk result (string_bytes text.new ≡ string_bytes text.old ++ label_top top) }
+{
+    push_between(text, "\" y=\"", top, "\" dy=\"-11\">")
+}
+
+// The place of a label.
+fn write_label_place(text: &mut String, block: &Block) -> Result<(), AllocError>
+    ensures { OnOk result (string_bytes text.new ≡ string_bytes text.old ++ label_place block.now) }
+{
+    write_label_left(text, block.left)?;
+    write_label_top(text, block.top)
+}
+
+#[tactic(auto, unfolding(crate::specs::Drawing::label_words))]
+// The words of a label.
+fn write_label_words(text: &mut String, block: &Block) -> Result<(), AllocError>
+    ensures { OnOk result (string_bytes text.new ≡ string_bytes text.old ++ label_words block.now) }
+{
+    write_width(text, block)?;
+    text.push_str(kind_words(block.kind))?;
+    text.push_str("</text>\n")
 }
 
 // The label of a block.
 fn write_label(text: &mut String, block: &Block) -> Result<(), AllocError>
     ensures { OnOk result (string_bytes text.new ≡ string_bytes text.old ++ label_text block.now) }
 {
-    push_numbered(text, "<text x=\"", block.left)?;
-    push_between(text, "\" y=\"", block.top, "\">")?;
-    text.push_str(block.kind.spelled())?;
-    write_width(text, block.width)?;
-    text.push_str("</text>\n")
+    write_label_open(text, block.width)?;
+    write_label_place(text, block)?;
+    write_label_words(text, block)
+}
+
+// The front of the dots of a block, with the place of the first.
+fn write_dots_open(text: &mut String, block: &Block) -> Result<(), AllocError>
+    ensures { OnOk result (string_bytes text.new ≡ string_bytes text.old ++ dots_open block.now) }
+{
+    push_numbered(text, "<path class=\"dots", block.across)?;
+    push_numbered(text, "\" d=\"M", block.left)?;
+    push_numbered(text, " ", block.top)
+}
+
+// The next row of dots, behind one.
+fn write_next_row(text: &mut String, block: &Block) -> Result<(), AllocError>
+    ensures { OnOk result (string_bytes text.new ≡ string_bytes text.old ++ next_row block.now) }
+{
+    push_numbered(text, "m-", block.run)?;
+    push_numbered(text, " 14h", block.run)
+}
+
+#[tactic(auto, using(markup::proofs::Pieces::range_none, markup::proofs::Pieces::range_more))]
+// The rows of dots behind the first one.
+fn write_next_rows(text: &mut String, block: &Block) -> Result<(), AllocError>
+    ensures { OnOk result (string_bytes text.new ≡ string_bytes text.old ++ next_rows block.now) }
+{
+    for _row in 0..block.rows.saturating_sub(1) {
+        write_next_row(text, block)?;
+    }
+    Ok(())
+}
+
+// The dots of a block.
+fn write_dots(text: &mut String, block: &Block) -> Result<(), AllocError>
+    ensures { OnOk result (string_bytes text.new ≡ string_bytes text.old ++ dots_text block.now) }
+{
+    write_dots_open(text, block)?;
+    push_numbered(text, "h", block.run)?;
+    write_next_rows(text, block)?;
+    text.push_str("\"/>\n")
 }
 
 // A block.
 fn write_block(text: &mut String, block: &Block) -> Result<(), AllocError>
     ensures { OnOk result (string_bytes text.new ≡ string_bytes text.old ++ block_text block.now) }
 {
-    write_box(text, block)?;
-    write_label(text, block)
+    write_label(text, block)?;
+    write_dots(text, block)
 }
 
 #[tactic(auto, using(markup::proofs::Pieces::one_more))]
@@ -75,16 +201,16 @@ fn write_blocks(text: &mut String, table: &[Block]) -> Result<(), AllocError>
     Ok(())
 }
 
-// The centre and the size of a dot.
+// The centre and the size of a larger dot.
 fn write_centre(text: &mut String, place: Place) -> Result<(), AllocError>
     ensures { OnOk result (string_bytes text.new ≡ string_bytes text.old ++ centre_text place) }
 {
     push_numbered(text, " cx=\"", place.x)?;
-    push_between(text, "\" cy=\"", place.y, "\" r=\".3\">")
+    push_between(text, "\" cy=\"", place.y, "\" r=\"5\">")
 }
 
 #[tactic(auto, unfolding(crate::specs::Drawing::dot_text))]
-// A dot.
+// A larger dot.
 fn write_dot(text: &mut String, hub: Hub) -> Result<(), AllocError>
     ensures { OnOk result (string_bytes text.new ≡ string_bytes text.old ++ dot_text hub) }
 {
@@ -133,7 +259,7 @@ fn write_linked_dot(text: &mut String, number: u32, hub: Hub) -> Result<(), Allo
     text.push_str("</a>\n")
 }
 
-// A hub.
+// A hub, where a wire has an end there.
 fn write_hub_dot(
     text: &mut String,
     wires: &[PanelWire],
@@ -143,14 +269,14 @@ fn write_hub_dot(
     ensures { OnOk result (string_bytes text.new ≡ string_bytes text.old ++ hub_dot wires.now number hub) }
 {
     if has_wire_at(number, wires) {
-        return write_linked_dot(text, number, hub);
+        write_linked_dot(text, number, hub)
+    } else {
+        Ok(())
     }
-    write_dot(text, hub)?;
-    text.push_str("\n")
 }
 
 #[tactic(auto, using(crate::proofs::Written::hubs_none, crate::proofs::Written::hubs_more, crate::proofs::Written::some_hub))]
-// All hubs of the panel.
+// All hubs at which a wire has an end.
 fn write_hubs(text: &mut String, wires: &[PanelWire]) -> Result<(), AllocError>
     ensures { OnOk result (GainsHubs (hub_dot wires.now) 1936 (string_bytes text.old) (string_bytes text.new)) }
 {
@@ -176,8 +302,8 @@ fn write_curve(text: &mut String, from: Place, to: Place) -> Result<(), AllocErr
     ensures { OnOk result (string_bytes text.new ≡ string_bytes text.old ++ curve_between from to) }
 {
     push_numbered(text, "C", from.x)?;
-    push_numbered(text, " 37 ", to.x)?;
-    push_numbered(text, " 37 ", to.x)?;
+    push_numbered(text, " 470 ", to.x)?;
+    push_numbered(text, " 470 ", to.x)?;
     push_numbered(text, " ", to.y)
 }
 
@@ -250,15 +376,22 @@ fn write_open(text: &mut String) -> Result<(), AllocError>
     ensures { OnOk result (string_bytes text.new ≡ string_bytes text.old ++ drawing_open) }
 {
     text.push_str(
-        "<svg id=\"panel\" xmlns=\"http://www.w3.org/2000/svg\" viewBox=\"0 0 87 77\"><g id=\"board\">\n<g class=\"hubs\">\n",
+        "<svg id=\"panel\" xmlns=\"http://www.w3.org/2000/svg\" viewBox=\"0 0 1250 890\"><g id=\"board\"><rect class=\"plate\" width=\"1250\" height=\"890\" rx=\"15\"/>\n<g class=\"blocks\">\n<text x=\"30\" y=\"262\">COUNTERS, out, 1 to 8</text>\n<text x=\"30\" y=\"562\">COUNTERS, in, 1 to 8</text>\n",
     )
 }
 
-// What stands between the hubs and the wires.
+// What stands between the blocks and the wires.
 fn write_between(text: &mut String) -> Result<(), AllocError>
     ensures { OnOk result (string_bytes text.new ≡ string_bytes text.old ++ drawing_between) }
 {
     text.push_str("</g>\n<g class=\"wires\">\n")
+}
+
+// What stands between the wires and the hubs.
+fn write_behind(text: &mut String) -> Result<(), AllocError>
+    ensures { OnOk result (string_bytes text.new ≡ string_bytes text.old ++ drawing_behind) }
+{
+    text.push_str("</g>\n<g class=\"hubs\">\n")
 }
 
 // The end of the drawing.
@@ -271,10 +404,11 @@ fn write_close(text: &mut String) -> Result<(), AllocError>
 }
 
 #[tactic(auto, using(crate::proofs::Written::drawing_whole))]
-/// Writes the drawing of the panel as an SVG element: a box with a label for each block of hubs, a dot with its name for each hub, and
-/// for each wire of the list, in its order, a curve with its name. What is drawn has the id `board`, the element `panel`. A wire links to
-/// the element `wire` with its number in the list, from 1, and a dot at which a wire has an end to the element `hub` with the number of the
-/// hub. A marker with the id `background` shows what is drawn in the pictures of the page: see [`write_picture_open`].
+/// Writes the drawing of the panel as an SVG element: for each block of hubs its words and a small dot for each hub, for each wire of the
+/// list, in its order, a curve with its name, and for each hub at which one of them has an end a larger dot with its name. What is drawn has
+/// the id `board`, the element `panel`. A wire links to the element `wire` with its number in the list, from 1, and a larger dot to the
+/// element `hub` with the number of the hub. A marker with the id `background` shows what is drawn in the pictures of the page: see
+/// [`write_picture_open`].
 ///
 /// Fails only where no memory is left; a front of the drawing may then have been written.
 pub fn write_drawing(text: &mut String, wires: &[PanelWire]) -> Result<(), AllocError>
@@ -282,9 +416,10 @@ pub fn write_drawing(text: &mut String, wires: &[PanelWire]) -> Result<(), Alloc
 {
     write_open(text)?;
     write_blocks(text, &BLOCKS)?;
-    write_hubs(text, wires)?;
     write_between(text)?;
     write_wires(text, wires)?;
+    write_behind(text)?;
+    write_hubs(text, wires)?;
     write_close(text)
 }
 
@@ -295,7 +430,7 @@ pub fn write_picture_open(text: &mut String) -> Result<(), AllocError>
     ensures { OnOk result (string_bytes text.new ≡ string_bytes text.old ++ picture_open) }
 {
     text.push_str(
-        "<svg xmlns=\"http://www.w3.org/2000/svg\" viewBox=\"0 0 87 77\"><path class=\"background\" d=\"M0 0h0\"/>",
+        "<svg xmlns=\"http://www.w3.org/2000/svg\" viewBox=\"0 0 1250 890\"><path class=\"background\" d=\"M0 0h0\"/>",
     )
 }
 

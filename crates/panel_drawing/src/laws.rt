@@ -15,10 +15,10 @@ pub fn hubs_have_places_of_their_own()
     ensures { (one other : Hub) → is_hub_in_range one ≡ true → is_hub_in_range other ≡ true → place_of one ≡ place_of other → one ≡ other }
 {}
 
-/// Each hub of the panel stands on the drawing, with a step of margin at least.
+/// Each hub of the panel stands on the drawing, with a margin of ten units at least.
 pub fn places_are_on_the_drawing()
-    ensures right { (hub : Hub) → is_hub_in_range hub ≡ true → (1 ≤ (place_of hub).x) × ((place_of hub).x < width) }
-    ensures down { (hub : Hub) → is_hub_in_range hub ≡ true → (2 ≤ (place_of hub).y) × ((place_of hub).y < height) }
+    ensures right { (hub : Hub) → is_hub_in_range hub ≡ true → (10 ≤ (place_of hub).x) × ((place_of hub).x < width) }
+    ensures down { (hub : Hub) → is_hub_in_range hub ≡ true → (10 ≤ (place_of hub).y) × ((place_of hub).y < height) }
 {}
 
 /// Each exit stands above each entry.

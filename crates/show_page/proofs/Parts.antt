@@ -4,7 +4,10 @@ use Rattle.std.specs.Prelude.{All, String, if◌then◌else◌, map, nat_le}
 use Rattle.std.specs.declared.alloc.Global.{Global}
 use Rattle.std.proofs.lemmas.List.{map-append, take_more}
 use Rattle.std.proofs.lemmas.List.Elements.{All-cons, All-head, All-nil, All-tail, Contains-get_or}
+use Rattle.charts.specs.declared.chart.Line.{Line}
+use Rattle.explanations.specs.Pages.{AreFoundLines}
 use Rattle.explanations.specs.PlacedInRun.{PrintsLine}
+use Rattle.explanations.specs.declared.found.FoundLine.{FoundLine}
 use Rattle.hubs.specs.declared.hub.Hub.{Hub}
 use Rattle.machine.specs.Runs.{MachineLines}
 use Rattle.placed_lines.specs.declared.placed_line.PlacedLine.{PlacedLine}
@@ -16,10 +19,12 @@ use Rattle.page_sections.specs.WireSections.Helper.{GainsWireSections}
 use Rattle.panel_drawing.specs.Helper.{GainsDrawing}
 use Rattle.panel_drawing.specs.declared.drawing.PanelWire.{PanelWire}
 use Rattle.traces.specs.Traces.{IsTrace}
+use Rattle.show_page.specs.Begin.{begin_text}
 use Rattle.show_page.specs.Cycles.{shown_cycles}
-use Rattle.show_page.specs.Frame.{document_close, why_open}
-use Rattle.show_page.specs.Helper.{GainsBody, GainsFront}
-use Rattle.show_page.specs.Page.{IsPage, front, front_text, page_text, shown, unasked}
+use Rattle.show_page.specs.Frame.{document_close, stage_open}
+use Rattle.show_page.specs.Helper.{GainsBody, GainsHead}
+use Rattle.show_page.specs.Page.{IsPage, counts_of, front, page_text, sheets_part, shown, unasked}
+use Rattle.show_page.specs.Titles.{head_text, heading_of}
 
 -- the lines of a run are printed, and so are those of them that are shown
 pub run_prints : (wiring : Wiring) (deck : List (List ℕ)) (lines : List PlacedLine) → MachineLines wiring deck lines
@@ -54,47 +59,57 @@ unasked_item pairs place d old new wire less before is pushed =
     ∙ sym (map-append unasked (take place pairs) (get_or pairs place d ∷ []))
     ∙ ap (λ (l : List (Hub × Hub)). map unasked l) (sym (take_more pairs place d less))
 
--- the pieces behind the front
-pub body_whole : (cards : ℕ) (wires : List PanelWire) (told : List ToldWheel) (trace legend old one two three four five six new : List ℕ)
-    → GainsDrawing wires old one → two ≡ one ++ legend → three ≡ two ++ why_open → four ≡ three ++ told_sections told
-    → GainsWireSections wires told four five → six ≡ five ++ shown_cycles cards trace → new ≡ six ++ document_close
-    → GainsBody cards trace wires legend told old new
-body_whole cards wires told trace legend old one two three four five six new h1 h2 h3 h4 h5 h6 h7 = record {
+-- the pieces behind the sheets
+pub body_whole : (cards : ℕ) (wires : List PanelWire) (told : List ToldWheel)
+    (trace legend old one two three four five six seven new : List ℕ)
+    → GainsDrawing wires old one → two ≡ one ++ legend → three ≡ two ++ stage_open → four ≡ three ++ begin_text told wires trace
+    → five ≡ four ++ told_sections told → GainsWireSections wires told five six → seven ≡ six ++ shown_cycles cards trace
+    → new ≡ seven ++ document_close → GainsBody cards trace wires legend told old new
+body_whole cards wires told trace legend old one two three four five six seven new h1 h2 h3 h4 h5 h6 h7 h8 = record {
   drawing = h1.drawing;
   drawn = h1.is;
-  ways = h5.text;
-  are_ways = h5.are;
+  ways = h6.text;
+  are_ways = h6.are;
   gained =
-      h7 ∙ ap (λ (l : List ℕ). l ++ document_close)
-      (h6 ∙ ap (λ (l : List ℕ). l ++ shown_cycles cards trace)
-      (h5.gained ∙ ap (λ (l : List ℕ). l ++ h5.text)
-      (h4 ∙ ap (λ (l : List ℕ). l ++ told_sections told)
-      (h3 ∙ ap (λ (l : List ℕ). l ++ why_open) (h2 ∙ ap (λ (l : List ℕ). l ++ legend) h1.gained)))));
+      h8 ∙ ap (λ (l : List ℕ). l ++ document_close)
+      (h7 ∙ ap (λ (l : List ℕ). l ++ shown_cycles cards trace)
+      (h6.gained ∙ ap (λ (l : List ℕ). l ++ h6.text)
+      (h5 ∙ ap (λ (l : List ℕ). l ++ told_sections told)
+      (h4 ∙ ap (λ (l : List ℕ). l ++ begin_text told wires trace)
+      (h3 ∙ ap (λ (l : List ℕ). l ++ stage_open) (h2 ∙ ap (λ (l : List ℕ). l ++ legend) h1.gained))))));
 }
 
 -- the pieces of the page
-pub page_whole : (wiring : Wiring) (asked : List (String Global × Wiring)) (deck : List (List ℕ)) (lines : List PlacedLine)
-    (wires : List PanelWire) (told : List ToldWheel) (trace legend none one new : List ℕ) → MachineLines wiring deck lines
-    → IsTrace wiring deck trace → AreTold wiring asked deck (printed_places (shown (length deck) lines)) told → none ≡ []
-    → GainsFront (length deck) trace (shown (length deck) lines) wiring.tape.lines none one
-    → GainsBody (length deck) trace wires legend told one new → IsPage wiring asked deck wires legend new
+pub page_whole : (wiring : Wiring) (asked : List (String Global × Wiring)) (deck : List (List ℕ)) (chart : List Line)
+    (lines : List PlacedLine) (found : List FoundLine) (wires : List PanelWire) (told : List ToldWheel)
+    (trace legend none one two new : List ℕ) → MachineLines wiring deck lines
+    → AreFoundLines wiring deck (shown (length deck) lines) found → IsTrace wiring deck trace
+    → AreTold wiring asked deck (printed_places (shown (length deck) lines)) told → none ≡ []
+    → GainsHead (heading_of chart) (counts_of deck lines wires) none one
+    → two ≡ one ++ sheets_part (length deck) (shown (length deck) lines) found wiring.tape.lines
+    → GainsBody (length deck) trace wires legend told two new → IsPage wiring asked deck chart wires legend new
 unfolding page_text
-page_whole wiring asked deck lines wires told trace legend none one new run traced are empty first body = record {
-  style = first.style;
-  is_style = first.is_style;
-  lines = lines;
-  run = run;
-  told = told;
-  are_told = are;
-  drawing = body.drawing;
-  drawn = body.drawn;
-  ways = body.ways;
-  are_ways = body.are_ways;
-  trace = trace;
-  traced = traced;
-  spelled =
-      let front = front_text first.style (length deck) trace (shown (length deck) lines) wiring.tape.lines in
-      let cycles = shown_cycles (length deck) trace in
-      subst (λ (l : List ℕ). new ≡ l ++ body.drawing ++ legend ++ why_open ++ told_sections told ++ body.ways ++ cycles ++ document_close)
-      (first.gained ∙ ap (λ (l : List ℕ). l ++ front) empty) body.gained;
-}
+page_whole wiring asked deck chart lines found wires told trace legend none one two new run are_found traced are empty first sheets body =
+    record {
+      style = first.style;
+      is_style = first.is_style;
+      lines = lines;
+      run = run;
+      found = found;
+      are_found = are_found;
+      told = told;
+      are_told = are;
+      drawing = body.drawing;
+      drawn = body.drawn;
+      ways = body.ways;
+      are_ways = body.are_ways;
+      trace = trace;
+      traced = traced;
+      spelled =
+          let head = head_text first.style (heading_of chart) (counts_of deck lines wires) in
+          let part = sheets_part (length deck) (shown (length deck) lines) found wiring.tape.lines in
+          let cycles = shown_cycles (length deck) trace in
+          subst (λ (l : List ℕ). new ≡ l ++ body.drawing ++ legend ++ stage_open ++ begin_text told wires trace ++ told_sections told
+          ++ body.ways ++ cycles ++ document_close)
+          (sheets ∙ ap (λ (l : List ℕ). l ++ part) (first.gained ∙ ap (λ (l : List ℕ). l ++ head) empty)) body.gained;
+    }

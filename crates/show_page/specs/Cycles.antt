@@ -1,15 +1,7 @@
--- The cycles of the run on the page: a link to the first one at the top, and an element for each that is shown.
-use Rattle.std.specs.Prelude.{ℕ, ◌==◌, List, [], codes, if◌then◌else◌, length, nat_le}
+-- The cycles of the run on the page: an element for each that is shown.
+use Rattle.std.specs.Prelude.{ℕ, List, if◌then◌else◌, length, nat_le}
 use Rattle.card_code.specs.Lines.{lines_of}
 use Rattle.page_sections.specs.CycleSections.Sections.{cycles_text}
-
--- a link to the first cycle
-unfoldable pub step_words : List ℕ
-step_words = codes "<p class=\"step\"><a href=\"#cycle1\">Step through the cycles of the run</a></p>\n"
-
--- the link of a trace; a trace without a cycle has none
-unfoldable pub step_text : List ℕ → List ℕ
-step_text trace = if length (lines_of trace) == 0 then [] else step_words
 
 -- how many cycles are shown at most: all of the run over a deck of so many cards, where it has 200 at most, else 200
 abbrev pub most_shown : (cards cycles : ℕ) → ℕ

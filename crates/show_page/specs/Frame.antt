@@ -2,9 +2,13 @@
 use Rattle.std.specs.Prelude.{◌≡◌, ℕ, ◌==◌, ◌&&◌, ◌||◌, Bool, true, not, List, codes, nat_le}
 use Rattle.std.specs.List.{list_all}
 
--- the front of the document
+-- the front of the document, up to its title
 unfoldable pub document_open : List ℕ
-document_open = codes "<!DOCTYPE html>\n<html xmlns=\"http://www.w3.org/1999/xhtml\" lang=\"en\"><head><meta charset=\"utf-8\"/>\n<meta name=\"viewport\" content=\"width=device-width, initial-scale=1\"/><title>A report and its panel</title>\n<style>"
+document_open = codes "<!DOCTYPE html>\n<html xmlns=\"http://www.w3.org/1999/xhtml\" lang=\"en\"><head><meta charset=\"utf-8\"/>\n<meta name=\"viewport\" content=\"width=device-width, initial-scale=1\"/><title>"
+
+-- what stands between the title and the style sheet
+unfoldable pub style_open : List ℕ
+style_open = codes "</title>\n<style>"
 
 -- What the style sheet may have: line feeds, and printable characters but & and <. So a browser takes none of it for markup, and it ends
 -- where its element does. How the page looks is said by the sheet alone.
@@ -14,37 +18,41 @@ is_of_style byte = (byte == 10) || ((nat_le 32 byte && nat_le byte 126) && not (
 abbrev pub IsStyle : List ℕ → Type 0
 IsStyle style = list_all is_of_style style ≡ true
 
--- the end of the head, and the front of the body
-unfoldable pub body_open : List ℕ
-body_open = codes "</style></head><body>\n<p>Choose a printed character to see, for each row that its wheel received, one way by which the impulse came. Choose a wire or a hub of the panel to see the characters of which such a way leads through it. The drawing of the panel is our own schematic, not the real layout of the machine.</p>\n<h1 id=\"report\">The report</h1>\n"
+-- the end of the head, and the front of the body, up to the title
+unfoldable pub header_open : List ℕ
+header_open = codes "</style></head><body>\n<header><p class=\"kind\">A report of a simulated IBM 407 accounting machine, and how it came about</p>\n<h1>"
 
 -- what is said where only the first pages and cycles are shown
 unfoldable pub cut_words : List ℕ
-cut_words = codes "<p>The deck has more than 200 cards: its first two pages and its first 200 cycles are shown.</p>\n"
+cut_words = codes "<p class=\"cut\">The deck has more than 200 cards: its first two pages and its first 200 cycles are shown.</p>\n"
 
--- what stands before the sheets
+-- what stands before the sheets, up to how many characters the widest line has
+unfoldable pub main_open : List ℕ
+main_open = codes "</header>\n<main>\n<nav><a href=\"#report\">Report</a> <a href=\"#panel\">Panel</a> <a href=\"#chart\">Chart</a></nav>\n<h2 id=\"report\">The report</h2>\n<p>Each printed character is a link. The word at the left of a line tells which cycle printed it: that of a card, or the total of a level. The total of the whole deck is the final one.</p>\n<div class=\"sheets\" style=\"--n:"
+
+-- what stands behind that
 unfoldable pub sheets_open : List ℕ
-sheets_open = codes "<div class=\"sheets\">\n"
+sheets_open = codes "\">\n"
 
 -- what stands between the sheets and the drawing
 unfoldable pub panel_open : List ℕ
-panel_open = codes "</div>\n<h1>The panel</h1>\n<div class=\"board\">\n"
+panel_open = codes "</div>\n<h2>The panel</h2>\n<p>Impulses leave the machine at the hubs above, and come back to it at those below. A wire has the colour of the line that asks for it. The drawing is our own schematic, not the real layout of the machine.</p>\n<div class=\"board\">\n"
 
 -- what stands before the legend of a chart
 unfoldable pub legend_open : List ℕ
-legend_open = codes "</div>\n<h1>What each line asks for</h1>\n<p>The wires for which a line asks have its colour.</p>\n<div class=\"legend\">\n"
+legend_open = codes "</div>\n<h2 id=\"chart\">What each line asks for</h2>\n<p>The wires for which a line asks have its colour.</p>\n<div class=\"legend\">\n"
 
 -- what stands around the text of a wiring chart
 unfoldable pub wiring_open : List ℕ
-wiring_open = codes "</div>\n<h1>The wiring chart</h1>\n<div class=\"legend\">\n<pre class=\"c0\">"
+wiring_open = codes "</div>\n<h2 id=\"chart\">The wiring chart</h2>\n<div class=\"legend\">\n<pre class=\"c0\">"
 
 unfoldable pub wiring_close : List ℕ
 wiring_close = codes "</pre>\n"
 
--- what stands between the legend and the explanations
-unfoldable pub why_open : List ℕ
-why_open = codes "</div>\n<div class=\"why\">\n"
+-- what stands between the legend and what is shown of what was chosen
+unfoldable pub stage_open : List ℕ
+stage_open = codes "</div>\n</main>\n<aside>\n"
 
 -- the end of the document
 unfoldable pub document_close : List ℕ
-document_close = codes "</div>\n</body></html>\n"
+document_close = codes "</aside>\n</body></html>\n"

@@ -5,7 +5,7 @@ ghost use Rattle.std.specs.String.{string_bytes};
 ghost use Rattle.card_code.specs.Lines.{lines_of};
 ghost use Rattle.card_code.specs.MostCards.{most_cards};
 ghost use Rattle.traces.specs.Traces.{IsTrace};
-ghost use Rattle.show_page.specs.Cycles.{most_shown, shown_cycles, step_text, step_words};
+ghost use Rattle.show_page.specs.Cycles.{most_shown, shown_cycles};
 
 use card_code::Card;
 use page_sections::cycle_sections::{count_cycles, write_cycles};
@@ -30,28 +30,6 @@ fn most_shown(cards: usize, cycles: usize) -> usize
     ensures { result ≡ most_shown cards cycles }
 {
     if cards <= 200 { cycles } else { 200 }
-}
-
-#[tactic(auto, unfolding(crate::specs::Cycles::step_words))]
-// A link to the first cycle.
-fn write_step_words(text: &mut String) -> Result<(), AllocError>
-    ensures { OnOk result (string_bytes text.new ≡ string_bytes text.old ++ step_words) }
-{
-    text.push_str(
-        "<p class=\"step\"><a href=\"#cycle1\">Step through the cycles of the run</a></p>\n",
-    )
-}
-
-#[tactic(auto, unfolding(crate::specs::Cycles::step_text))]
-// A link to the first cycle of a trace, where it has one.
-pub(crate) fn write_step(text: &mut String, trace: &[u8]) -> Result<(), AllocError>
-    ensures { OnOk result (string_bytes text.new ≡ string_bytes text.old ++ step_text trace.now) }
-{
-    if count_cycles(trace) == 0 {
-        Ok(())
-    } else {
-        write_step_words(text)
-    }
 }
 
 #[tactic(auto, unfolding(crate::specs::Cycles::shown_cycles))]

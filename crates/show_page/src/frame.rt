@@ -3,59 +3,78 @@
 ghost use Rattle.std.specs.Prelude.{◌≡◌, ◌++◌, OnOk};
 ghost use Rattle.std.specs.String.{string_bytes};
 ghost use Rattle.markup.specs.Pieces.{GainsOne};
-ghost use Rattle.show_page.specs.Frame.{IsStyle, document_open, body_open, cut_words, sheets_open, panel_open, legend_open, wiring_open, wiring_close, why_open, document_close};
+ghost use Rattle.show_page.specs.Frame.{IsStyle, cut_words, document_close, document_open, header_open, legend_open, main_open, panel_open, sheets_open, stage_open, style_open, wiring_close, wiring_open};
 
 use std::alloc::AllocError;
 
 #[tactic(auto, unfolding(crate::specs::Frame::document_open))]
-// The front of the document.
+// The front of the document, up to its title.
 pub(crate) fn write_document_open(text: &mut String) -> Result<(), AllocError>
     ensures { OnOk result (string_bytes text.new ≡ string_bytes text.old ++ document_open) }
 {
     text.push_str(
-        "<!DOCTYPE html>\n<html xmlns=\"http://www.w3.org/1999/xhtml\" lang=\"en\"><head><meta charset=\"utf-8\"/>\n<meta name=\"viewport\" content=\"width=device-width, initial-scale=1\"/><title>A report and its panel</title>\n<style>",
+        "<!DOCTYPE html>\n<html xmlns=\"http://www.w3.org/1999/xhtml\" lang=\"en\"><head><meta charset=\"utf-8\"/>\n<meta name=\"viewport\" content=\"width=device-width, initial-scale=1\"/><title>",
     )
 }
 
-// Writes the style sheet: sheets like green-bar paper, blocks, wires in twelve colours. Of the elements with explanations, wires, hubs and
-// cycles it shows the one that is linked to, and at the empty path of a picture the panel.
+#[tactic(auto, unfolding(crate::specs::Frame::style_open))]
+// What stands between the title and the style sheet.
+pub(crate) fn write_style_open(text: &mut String) -> Result<(), AllocError>
+    ensures { OnOk result (string_bytes text.new ≡ string_bytes text.old ++ style_open) }
+{
+    text.push_str("</title>\n<style>")
+}
+
+// Writes the style sheet, for light and dark and for paper: sheets like green-bar paper, the panel, wires in twelve colours. Of the elements
+// with explanations, wires, hubs and cycles it shows the one that is linked to, and at the empty path of a picture the panel.
 pub(crate) fn write_style(text: &mut String) -> Result<(), AllocError>
     ensures { OnOk result (GainsOne IsStyle (string_bytes text.old) (string_bytes text.new)) }
 {
     text.push_str(
-        "body{margin:1em;font:16px/1.4 sans-serif;color:#222;background:#fff}h1{font-size:1.2em}
-pre{margin:0;font:13px/1.5 monospace}.sheets{overflow-x:auto}
-.sheets pre{width:max-content;padding:0 1.5em;margin:0 0 1em;border:1px solid #bbb;line-height:1.5em;background:repeating-linear-gradient(#fff 0 4.5em,#e2f0e0 4.5em 9em);print-color-adjust:exact}
-.sheets a{color:inherit;text-decoration:none}.sheets a:hover,.sheets a:focus,.sheets span:target{background:#fd6}
-#panel{display:block;width:100%;min-width:44em;max-width:80em;height:auto}.board{overflow-x:auto}
-.hubs rect{fill:#f3f1ec;stroke:#ccc;stroke-width:.1;transform:translate(-.5px,-.5px)}
-.hubs text{font:1.4px sans-serif;transform:translate(-.4px,-.8px)}.hubs circle{fill:#777}
-.hubs a circle{fill:#222}.hubs a:hover circle,.hubs a:focus circle{fill:#d00}
-.wires path{fill:none;stroke-width:.2;stroke-opacity:.75}.wires path:hover,.wires a:focus path{stroke-width:.6;stroke-opacity:1}
-.c0{stroke:#555;border-color:#555}.c1{stroke:#c0392b;border-color:#c0392b}.c2{stroke:#2471a3;border-color:#2471a3}
-.c3{stroke:#1e8449;border-color:#1e8449}.c4{stroke:#7d3c98;border-color:#7d3c98}.c5{stroke:#ca6f1e;border-color:#ca6f1e}
-.c6{stroke:#0e7c7b;border-color:#0e7c7b}.c7{stroke:#b03a83;border-color:#b03a83}.c8{stroke:#6e4b1f;border-color:#6e4b1f}
-.c9{stroke:#5b6abf;border-color:#5b6abf}.c10{stroke:#7a8b12;border-color:#7a8b12}.c11{stroke:#e0559a;border-color:#e0559a}
-.legend pre{white-space:pre-wrap;border-left-width:6px;border-left-style:solid;padding-left:.6em;margin:0 0 .5em}
-.legend pre:target{background:#fd6}.why section{display:none}.why pre{white-space:pre-wrap;margin:.3em 0}
-.why section:target{display:block;position:fixed;left:0;right:0;bottom:0;max-height:60vh;overflow:auto;box-sizing:border-box;padding:.5em 1em;background:#fffbe8;border-top:3px solid #c90}
-.why svg{display:block;width:100%;height:auto;background:#fff}.background{marker-start:url(#background)}marker{overflow:visible}marker use{opacity:.3}
-.why path{fill:none;stroke:#d00;stroke-width:.5;stroke-linejoin:round}.why p{margin:.3em 0}.why div{columns:15em}.why div a{display:block}
-@media(min-width:75em){body:has(>.why>:target){margin-right:46vw}.why section:target{left:auto;top:0;width:44vw;max-height:none;border-top:0;border-left:3px solid #c90}}
-@page{margin:1cm}@media print{body{margin:0}.why{display:none}.sheets,.board{overflow:visible}#panel{min-width:0}.sheets pre{font-size:6.5pt;break-after:page}}
-.why section[id^=cycle] a{display:inline-block;margin-right:1em}.why section[id^=cycle] pre{white-space:pre;overflow-x:auto}.why section[id^=cycle] pre::first-line{font-weight:bold}
-@media(max-width:74.99em){.why section[id^=cycle]:target{height:40vh}}@media print{.step{display:none}.legend pre{break-inside:avoid}}
+        ":root{--ground:#f2eee4;--paper:#fdfcf7;--bar:#dfeedd;--hole:#cfc8b6;--ink:#20252a;--soft:#5a5f63;--rule:#cfc7b4;--link:#8a2b12;--pick:#ffd667;--plate:#1f252b}
+@media(prefers-color-scheme:dark){:root{--ground:#17191b;--paper:#222629;--bar:#2b3a30;--hole:#3d4246;--ink:#ece7dc;--soft:#adb1b3;--rule:#4b5054;--link:#ffb490;--pick:#795c0c;--plate:#11151a}}
+*{box-sizing:border-box}html{scroll-padding-top:3.4rem}
+body{margin:0;font:17px/1.5 Georgia,Times New Roman,serif;color:var(--ink);background:var(--ground)}
+a{color:var(--link)}a:focus-visible{outline:3px solid #1769d2;outline-offset:1px}
+header{padding:1.3rem 1.5rem .2rem}h1{margin:.1em 0;font-size:clamp(1.7rem,4vw,2.9rem);line-height:1.1;letter-spacing:.02em}
+.kind{margin:0;font:600 .78rem/1.3 sans-serif;letter-spacing:.06em;text-transform:uppercase;color:var(--soft)}
+.counts{margin:.3em 0 .6em;max-width:44em;font-size:1.08rem}.cut{max-width:44em;color:var(--soft)}
+main{padding:0 1.5rem 2rem}h2{margin:1.4rem 0 .2rem;font-size:1.5rem;border-bottom:2px solid var(--ink)}main>p{margin:.35rem 0 .7rem;color:var(--soft);font-size:.98rem}
+nav{display:flex;flex-wrap:wrap;gap:.3rem;position:sticky;top:0;z-index:3;padding:.4rem 0;background:var(--ground)}
+nav a{font:600 .9rem sans-serif;padding:.35em .8em;border-radius:1.2em;text-decoration:none;color:var(--ground);background:var(--ink)}nav a:hover,nav a:focus{background:var(--link)}
+pre{font-family:Courier Prime,Courier New,Courier,monospace}
+.sheets{display:grid;gap:1rem}
+.sheets pre{margin:0;overflow-x:auto;padding:0 1.6em;border:1px solid var(--rule);box-shadow:0 2px 10px #0002;font-size:clamp(9px,calc(41vw/(var(--n) + 16)/.6),21px);line-height:1.6em;print-color-adjust:exact;background:radial-gradient(circle at .8em .8em,var(--hole) .28em,#0000 .3em) 0 0/1.6em 1.6em repeat-y,radial-gradient(circle at .8em .8em,var(--hole) .28em,#0000 .3em) 100% 0/1.6em 1.6em repeat-y,repeating-linear-gradient(var(--paper) 0 4.8em,var(--bar) 4.8em 9.6em)}
+.sheets b{display:inline-block;width:6.2em;margin-right:1.2em;font:600 .72em/1.5 sans-serif;text-align:right;color:var(--soft)}
+.sheets a{color:inherit;font-weight:700;text-decoration:underline dotted #a58f5f .07em;text-underline-offset:.22em}.sheets a:hover,.sheets a:focus,.sheets span:target{background:var(--pick)}
+.board{overflow-x:auto}#panel{display:block;width:100%;min-width:38rem;max-width:72rem;height:auto;stroke-opacity:.9}.plate{fill:var(--plate)}
+.blocks text{font:18px sans-serif;fill:#dfe4e8}.blocks .small{font-size:12px;fill:#a4acb3}
+.blocks path{fill:none;stroke:#69737d;stroke-width:6;stroke-linecap:round;stroke-opacity:1}.dots10{stroke-dasharray:0 10}.dots13{stroke-dasharray:0 13}.dots15{stroke-dasharray:0 15}
+.wires path{fill:none;stroke-width:2.8}.wires a:hover path,.wires a:focus path{stroke:#ffd23f;stroke-width:9;stroke-opacity:1}
+.hubs circle{fill:#e9edf0;stroke:#0b0d0f;stroke-width:1}.hubs a:hover circle,.hubs a:focus circle{fill:#ffd23f;r:8px}
+.c0{stroke:#b0bec5;border-color:#78909c}.c1{stroke:#ff8a80;border-color:#d9574c}.c2{stroke:#64b5f6;border-color:#3d8fd1}.c3{stroke:#81c784;border-color:#4f9a53}.c4{stroke:#ce93d8;border-color:#a763b3}.c5{stroke:#ffb74d;border-color:#d98c1f}
+.c6{stroke:#4dd0e1;border-color:#2398a8}.c7{stroke:#f48fb1;border-color:#cf5f87}.c8{stroke:#c7a488;border-color:#94704f}.c9{stroke:#9fa8da;border-color:#6c77bd}.c10{stroke:#d4e157;border-color:#98a31f}.c11{stroke:#80cbc4;border-color:#45988f}
+.legend pre{margin:.3em 0;padding:.25em .7em;border-left-width:.6rem;border-left-style:solid;background:var(--paper);font-size:.85rem;line-height:1.5;white-space:pre-wrap;scroll-margin-top:3.4rem}.legend pre:target,.legend pre:hover{background:var(--pick)}
+aside{background:var(--paper)}.begin,aside section{padding:.6rem 1.2rem 1.4rem}aside h2{font-size:1.32rem;border:0}aside section{display:none}aside section:target{display:block}
+aside section pre{margin:.4em 0;font-size:.92rem;line-height:1.45;white-space:pre-wrap}aside section[id^=cycle] pre{white-space:pre;overflow-x:auto}aside pre::first-line{font-weight:700}
+aside section>a{display:inline-block;margin:0 .4rem .3rem 0;padding:.3em .75em;border:1.5px solid var(--ink);border-radius:1.2em;font:600 .85rem sans-serif;text-decoration:none;color:var(--ink)}aside section>a:hover,aside section>a:focus{background:var(--pick)}
+aside section div{columns:15em}aside section div a{display:block}aside p{margin:.35em 0}
+aside svg{display:block;width:100%;height:auto;max-width:80rem}aside svg path{fill:none;stroke:#ffd23f;stroke-width:8;stroke-linejoin:round;stroke-linecap:round}aside svg .background{stroke:none;marker-start:url(#background)}marker{overflow:visible}#background{stroke-opacity:.22}
+@media(min-width:68em){body{display:grid;grid-template:auto 1fr/minmax(0,47fr) minmax(0,53fr)}header,main{grid-column:1;min-width:0}aside{grid-column:2;grid-row:1/3;position:sticky;top:0;height:100vh;overflow:auto;border-left:3px solid var(--ink)}aside:has(>section:target) .begin{display:none}aside svg{max-height:calc(100vh - 4rem)}}
+@media(max-width:67.99em){header,main,.begin,aside section{padding-left:.9rem;padding-right:.9rem}.sheets pre{font-size:clamp(9px,calc(88vw/(var(--n) + 16)/.6),21px)}aside section:target{position:fixed;left:0;right:0;bottom:0;z-index:4;height:66vh;overflow:auto;border-top:4px solid var(--ink);background:var(--paper);box-shadow:0 -6px 24px #0006}body:has(>aside>section:target) main{padding-bottom:68vh}}
+@page{margin:14mm 12mm}
+@media print{:root{--ground:#fff;--paper:#fff;--ink:#000;--plate:#fff}body{display:block;font-size:10.5pt}nav,.begin,aside section>a{display:none}aside{position:static;height:auto;overflow:visible;border:0;break-before:page}aside:not(:has(>section:target)){display:none}aside section:target{position:static;height:auto;border:0;box-shadow:none}body:has(>aside>section:target) main{padding-bottom:0}.sheets pre{box-shadow:none;break-inside:avoid;font-size:min(11pt,calc(170mm/(var(--n) + 16)/.6))}.board{overflow:visible}#panel{min-width:0;stroke-opacity:1}.plate{stroke:#333;stroke-width:3}.blocks text,.blocks .small{fill:#222}.blocks path{stroke:#aaa}.hubs circle{fill:#222}aside svg path{stroke:#d81e05}.legend pre{break-inside:avoid}h2{break-after:avoid}}
 ",
     )
 }
 
-#[tactic(auto, unfolding(crate::specs::Frame::body_open))]
-// The end of the head, and the front of the body.
-pub(crate) fn write_body_open(text: &mut String) -> Result<(), AllocError>
-    ensures { OnOk result (string_bytes text.new ≡ string_bytes text.old ++ body_open) }
+#[tactic(auto, unfolding(crate::specs::Frame::header_open))]
+// The end of the head, and the front of the body, up to the title.
+pub(crate) fn write_header_open(text: &mut String) -> Result<(), AllocError>
+    ensures { OnOk result (string_bytes text.new ≡ string_bytes text.old ++ header_open) }
 {
     text.push_str(
-        "</style></head><body>\n<p>Choose a printed character to see, for each row that its wheel received, one way by which the impulse came. Choose a wire or a hub of the panel to see the characters of which such a way leads through it. The drawing of the panel is our own schematic, not the real layout of the machine.</p>\n<h1 id=\"report\">The report</h1>\n",
+        "</style></head><body>\n<header><p class=\"kind\">A report of a simulated IBM 407 accounting machine, and how it came about</p>\n<h1>",
     )
 }
 
@@ -65,16 +84,26 @@ pub(crate) fn write_cut_words(text: &mut String) -> Result<(), AllocError>
     ensures { OnOk result (string_bytes text.new ≡ string_bytes text.old ++ cut_words) }
 {
     text.push_str(
-        "<p>The deck has more than 200 cards: its first two pages and its first 200 cycles are shown.</p>\n",
+        "<p class=\"cut\">The deck has more than 200 cards: its first two pages and its first 200 cycles are shown.</p>\n",
+    )
+}
+
+#[tactic(auto, unfolding(crate::specs::Frame::main_open))]
+// What stands before the sheets, up to how many characters the widest line has.
+pub(crate) fn write_main_open(text: &mut String) -> Result<(), AllocError>
+    ensures { OnOk result (string_bytes text.new ≡ string_bytes text.old ++ main_open) }
+{
+    text.push_str(
+        "</header>\n<main>\n<nav><a href=\"#report\">Report</a> <a href=\"#panel\">Panel</a> <a href=\"#chart\">Chart</a></nav>\n<h2 id=\"report\">The report</h2>\n<p>Each printed character is a link. The word at the left of a line tells which cycle printed it: that of a card, or the total of a level. The total of the whole deck is the final one.</p>\n<div class=\"sheets\" style=\"--n:",
     )
 }
 
 #[tactic(auto, unfolding(crate::specs::Frame::sheets_open))]
-// What stands before the sheets.
+// What stands behind that.
 pub(crate) fn write_sheets_open(text: &mut String) -> Result<(), AllocError>
     ensures { OnOk result (string_bytes text.new ≡ string_bytes text.old ++ sheets_open) }
 {
-    text.push_str("<div class=\"sheets\">\n")
+    text.push_str("\">\n")
 }
 
 #[tactic(auto, unfolding(crate::specs::Frame::panel_open))]
@@ -82,7 +111,9 @@ pub(crate) fn write_sheets_open(text: &mut String) -> Result<(), AllocError>
 pub(crate) fn write_panel_open(text: &mut String) -> Result<(), AllocError>
     ensures { OnOk result (string_bytes text.new ≡ string_bytes text.old ++ panel_open) }
 {
-    text.push_str("</div>\n<h1>The panel</h1>\n<div class=\"board\">\n")
+    text.push_str(
+        "</div>\n<h2>The panel</h2>\n<p>Impulses leave the machine at the hubs above, and come back to it at those below. A wire has the colour of the line that asks for it. The drawing is our own schematic, not the real layout of the machine.</p>\n<div class=\"board\">\n",
+    )
 }
 
 #[tactic(auto, unfolding(crate::specs::Frame::legend_open))]
@@ -91,7 +122,7 @@ pub(crate) fn write_legend_open(text: &mut String) -> Result<(), AllocError>
     ensures { OnOk result (string_bytes text.new ≡ string_bytes text.old ++ legend_open) }
 {
     text.push_str(
-        "</div>\n<h1>What each line asks for</h1>\n<p>The wires for which a line asks have its colour.</p>\n<div class=\"legend\">\n",
+        "</div>\n<h2 id=\"chart\">What each line asks for</h2>\n<p>The wires for which a line asks have its colour.</p>\n<div class=\"legend\">\n",
     )
 }
 
@@ -100,7 +131,9 @@ pub(crate) fn write_legend_open(text: &mut String) -> Result<(), AllocError>
 pub(crate) fn write_wiring_open(text: &mut String) -> Result<(), AllocError>
     ensures { OnOk result (string_bytes text.new ≡ string_bytes text.old ++ wiring_open) }
 {
-    text.push_str("</div>\n<h1>The wiring chart</h1>\n<div class=\"legend\">\n<pre class=\"c0\">")
+    text.push_str(
+        "</div>\n<h2 id=\"chart\">The wiring chart</h2>\n<div class=\"legend\">\n<pre class=\"c0\">",
+    )
 }
 
 #[tactic(auto, unfolding(crate::specs::Frame::wiring_close))]
@@ -111,12 +144,12 @@ pub(crate) fn write_wiring_close(text: &mut String) -> Result<(), AllocError>
     text.push_str("</pre>\n")
 }
 
-#[tactic(auto, unfolding(crate::specs::Frame::why_open))]
-// What stands between the legend and the explanations.
-pub(crate) fn write_why_open(text: &mut String) -> Result<(), AllocError>
-    ensures { OnOk result (string_bytes text.new ≡ string_bytes text.old ++ why_open) }
+#[tactic(auto, unfolding(crate::specs::Frame::stage_open))]
+// What stands between the legend and what is shown of what was chosen.
+pub(crate) fn write_stage_open(text: &mut String) -> Result<(), AllocError>
+    ensures { OnOk result (string_bytes text.new ≡ string_bytes text.old ++ stage_open) }
 {
-    text.push_str("</div>\n<div class=\"why\">\n")
+    text.push_str("</div>\n</main>\n<aside>\n")
 }
 
 #[tactic(auto, unfolding(crate::specs::Frame::document_close))]
@@ -124,5 +157,5 @@ pub(crate) fn write_why_open(text: &mut String) -> Result<(), AllocError>
 pub(crate) fn write_document_close(text: &mut String) -> Result<(), AllocError>
     ensures { OnOk result (string_bytes text.new ≡ string_bytes text.old ++ document_close) }
 {
-    text.push_str("</div>\n</body></html>\n")
+    text.push_str("</aside>\n</body></html>\n")
 }

@@ -1,14 +1,16 @@
 //! One page for a browser: the report, the panel, a way for each row that a wheel received and the cycles of the run.
 //!
 //! [`show_chart`] makes the page of a chart and a deck, [`show_panel`] that of a panel that is wired as a wiring chart says. It is one file
-//! of XHTML without scripts, and needs no network: the printed pages, the drawing of the panel, the legend or the wiring chart, for
-//! each printed character an element with its explanation, to which the character links, for each wire and each of their hubs an element
+//! of XHTML without scripts, and needs no network: the printed pages, the drawing of the panel, the legend or the wiring chart,
+//! for each printed character an element with its explanation, to which the character links, for each wire and each of their hubs an element
 //! with what came through it, and an element for each cycle of the run.
 //! `specs/Page.antt` says what is written.
 #![tactic(auto)]
 
+mod begin;
 mod cycles;
 mod frame;
+mod head;
 mod page;
 mod show;
 

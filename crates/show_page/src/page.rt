@@ -2,15 +2,12 @@
 
 ghost use Rattle.std.specs.Prelude.{◌≡◌, ◌≤◌, ◌++◌, OnOk};
 ghost use Rattle.std.specs.String.{string_bytes};
-ghost use Rattle.show_page.specs.Helper.{GainsFront};
-ghost use Rattle.show_page.specs.Page.{cut_text, front, shown};
+ghost use Rattle.show_page.specs.Page.{cut_text, front, sheets_front, sheets_part, shown};
 
-use crate::cycles::write_step;
-use crate::frame::{
-    write_body_open, write_cut_words, write_document_open, write_panel_open, write_sheets_open,
-    write_style,
-};
-use page_sections::report_sheets::write_sheets;
+use crate::frame::{write_cut_words, write_main_open, write_panel_open, write_sheets_open};
+use explanations::FoundLine;
+use numerals::push_number;
+use page_sections::report_sheets::{widest, write_sheets};
 use placed_lines::PlacedLine;
 use std::alloc::AllocError;
 
@@ -46,23 +43,30 @@ fn write_cut(text: &mut String, cards: usize) -> Result<(), AllocError>
     }
 }
 
-// The page up to the drawing.
-pub(crate) fn write_front(
+#[tactic(auto, unfolding(crate::specs::Page::sheets_front))]
+// What stands before the sheets, of which the widest line has so many characters.
+fn write_sheets_front(text: &mut String, cards: usize, wide: usize) -> Result<(), AllocError>
+    ensures { OnOk result (string_bytes text.new ≡ string_bytes text.old ++ sheets_front cards wide) }
+{
+    write_cut(text, cards)?;
+    write_main_open(text)?;
+    push_number(text, wide)?;
+    write_sheets_open(text)
+}
+
+#[tactic(auto, unfolding(crate::specs::Page::sheets_part))]
+// The page up to the drawing, behind its head.
+pub(crate) fn write_sheets_part(
     text: &mut String,
     cards: usize,
-    trace: &[u8],
     lines: &[PlacedLine],
+    found: &[FoundLine],
     form_lines: u32,
 ) -> Result<(), AllocError>
     requires { form_lines ≤ 144 }
-    ensures { OnOk result (GainsFront cards trace.now lines.now form_lines (string_bytes text.old) (string_bytes text.new)) }
+    ensures { OnOk result (string_bytes text.new ≡ string_bytes text.old ++ sheets_part cards lines.now found.now form_lines) }
 {
-    write_document_open(text)?;
-    write_style(text)?;
-    write_body_open(text)?;
-    write_cut(text, cards)?;
-    write_step(text, trace)?;
-    write_sheets_open(text)?;
-    write_sheets(text, lines, form_lines)?;
+    write_sheets_front(text, cards, widest(lines))?;
+    write_sheets(text, lines, found, form_lines)?;
     write_panel_open(text)
 }

@@ -7,13 +7,18 @@ ghost use Rattle.plans.specs.Plans.{ServesChart};
 ghost use Rattle.show_page.specs.Helper.{GainsBody};
 ghost use Rattle.show_page.specs.Page.{IsPage, ShowsChart, ShowsPanel, unasked, wiring_text};
 
+use crate::begin::write_begin;
 use crate::cycles::{traced, write_shown_cycles};
 use crate::frame::{
-    write_document_close, write_legend_open, write_why_open, write_wiring_close, write_wiring_open,
+    write_document_close, write_legend_open, write_stage_open, write_wiring_close,
+    write_wiring_open,
 };
-use crate::page::{shown, write_front};
+use crate::head::{RunCounts, heading_of, write_head};
+use crate::page::{shown, write_sheets_part};
 use card_code::Card;
 use chart_rules::Chart;
+use charts::Line;
+use explanations::find_lines;
 use hubs::Hub;
 use legend::line_setups;
 use machine::simulate;
@@ -27,7 +32,7 @@ use setups::Setup;
 use std::alloc::{AllocError, Global};
 use wiring_text::Version;
 
-// The page behind its front, of a deck of so many cards: the drawing of these wires, this legend, what is told of these wheels and of the
+// The page behind its sheets, of a deck of so many cards: the drawing of these wires, this legend, what is told of these wheels and of the
 // wires, and the cycles of the trace.
 fn write_body(
     alloc: Global,
@@ -42,41 +47,51 @@ fn write_body(
 {
     write_drawing(text, wires)?;
     text.push_str(legend)?;
-    write_why_open(text)?;
+    write_stage_open(text)?;
+    write_begin(text, told, wires, trace)?;
     write_told_sections(text, told)?;
     write_wire_sections(alloc, text, wires, told)?;
     write_shown_cycles(alloc, text, cards, trace)?;
     write_document_close(text)
 }
 
-// The page of a setup and a deck, with those who ask for wires, these wires and this legend.
+// The page of a setup and a deck, with those who ask for wires, the heading of a chart with these lines, these wires and this legend.
 fn page(
     alloc: Global,
     setup: &Setup,
     asked: &[(String, Setup)],
     cards: &[Card],
+    chart: &[Line],
     wires: &[PanelWire],
     legend: &str,
 ) -> Result<String, AllocError>
     requires { length cards.now ≤ most_cards }
-    ensures { IfOk result (λ text. IsPage setup.now asked.now cards.now wires.now legend.now (string_bytes text)) }
+    ensures { IfOk result (λ text. IsPage setup.now asked.now cards.now chart.now wires.now legend.now (string_bytes text)) }
 {
     let printed = simulate(alloc, setup, cards)?;
     let trace = traced(alloc, setup, cards)?;
     let lines = shown(cards.len(), &printed);
-    let form_lines = u32::from(setup.tape().lines());
+    let found = find_lines(alloc, setup, cards, lines)?;
     let told = told_wheels(alloc, setup, asked, cards, lines)?;
+    let counts = RunCounts {
+        cards: cards.len(),
+        lines: printed.len(),
+        wires: wires.len(),
+    };
+    let form_lines = u32::from(setup.tape().lines());
     let mut text = String::new(alloc);
-    write_front(&mut text, cards.len(), &trace, lines, form_lines)?;
+    write_head(&mut text, heading_of(chart), counts)?;
+    write_sheets_part(&mut text, cards.len(), lines, &found, form_lines)?;
     write_body(alloc, &mut text, cards.len(), &trace, wires, legend, &told)?;
     Ok(text)
 }
 
-/// The page of a chart with its plan and its setup, and a deck of at most 999,999 cards, as a file of XHTML: the pages that the machine
-/// prints, wired so, the drawing of the panel with each wire of the setup once, the legend of the chart, in a version of the language of
-/// wiring charts, for each printed character its explanation, which names the lines of the chart that ask for its wires, for each wire what
-/// came through it, and for each cycle of the run what happened in it. `source` is the text of the chart. Of a deck of more than 200 cards
-/// the first two pages and the first 200 cycles are shown, and the page says so. Its only refusal is memory.
+/// The page of a chart with its plan and its setup, and a deck of at most 999,999 cards, as a file of XHTML: the chart's first heading as
+/// the title, with how many cards, lines and wires there are; the pages that the machine prints, wired so, each line with a word for its
+/// cycle; the drawing of the panel with each wire of the setup once; the legend of the chart, in a version of the language of wiring charts;
+/// for each printed character its explanation, which names the lines of the chart that ask for its wires, for each wire what came through
+/// it, and for each cycle of the run what happened in it. `source` is the text of the chart. Of a deck of more than 200 cards the first two
+/// pages and the first 200 cycles are shown, and the page says so. Its only refusal is memory.
 pub fn show_chart(
     alloc: Global,
     version: Version,
@@ -95,7 +110,7 @@ pub fn show_chart(
     write_legend_open(&mut legend)?;
     write_legend(alloc, &mut legend, version, chart, plan, source)?;
     let asked = line_setups(alloc, chart, plan, source)?;
-    page(alloc, setup, &asked, cards, &wires, &legend)
+    page(alloc, setup, &asked, cards, chart.lines(), &wires, &legend)
 }
 
 // A wire that no line of a chart asks for.
@@ -131,8 +146,8 @@ fn write_wiring(text: &mut String, source: &[u8]) -> Result<(), AllocError>
 }
 
 /// The page of a panel that is wired as a wiring chart says, and a deck of at most 999,999 cards, as [`show_chart`] gives that of a chart:
-/// no line of a chart asks for the wires, and the wiring chart stands in place of the legend. `source` is its text. Its only refusal is
-/// memory.
+/// the title tells how many cards there are, no line of a chart asks for the wires, and the wiring chart stands in place of the legend.
+/// `source` is its text. Its only refusal is memory.
 pub fn show_panel(
     alloc: Global,
     setup: &Setup,
@@ -146,5 +161,5 @@ pub fn show_panel(
     let wires = unasked_wires(alloc, &pairs)?;
     let mut legend = String::new(alloc);
     write_wiring(&mut legend, source)?;
-    page(alloc, setup, &[], cards, &wires, &legend)
+    page(alloc, setup, &[], cards, &[], &wires, &legend)
 }

@@ -1,9 +1,13 @@
--- The pages of a report as markup. A sheet for each page from page 1 to the last one with a line, a row for each line of the form, a
--- link for each printed character.
-use Rattle.std.specs.Prelude.{ℕ, ◌-◌, ◌==◌, List, [], ◌∷◌, ◌++◌, codes, decimal, if◌then◌else◌, length, slice_index_or}
+-- The pages of a report as markup. A sheet for each page from page 1 to the last one with a line, a row for each line of the form. A row
+-- with a line has a word for the cycle that printed it, and a link for each printed character.
+use Rattle.std.specs.Prelude.{ℕ, ◌-◌, ◌==◌, ◌&&◌, List, [], ◌∷◌, ◌++◌, codes, decimal, if◌then◌else◌, length, max, slice_index_or}
 use Rattle.std.specs.List.{flat_map, range_with_len}
 use Rattle.markup.specs.Escapes.{escaped}
-use Rattle.page_text.specs.Pages.{last_page, text_at}
+use Rattle.explanations.specs.declared.found.FoundLine.{FoundLine}
+use Rattle.net.specs.Cycles.{level_number}
+use Rattle.net.specs.declared.cycle.Cycle.{Cycle}
+use Rattle.net.specs.declared.cycle.Cycle.TheVariants.{RunIn, Card, Prog, Head}
+use Rattle.page_text.specs.Pages.{last_page, text_at, without_trailing_blanks}
 use Rattle.placed_lines.specs.declared.placed_line.PlacedLine.{PlacedLine}
 
 -- the name of a row, and that of a wheel of it
@@ -31,16 +35,38 @@ unfoldable pub characters_text : (page line : ℕ) → List ℕ → List ℕ
 characters_text page line characters =
     flat_map (λ wheel. wheel_text page line wheel (slice_index_or characters (wheel - 1) 0)) (range_with_len 1 (length characters))
 
--- a row: its characters, as an element of its own where there are any, and the end of a line
-abbrev pub row_open : (page line : ℕ) → List ℕ
-row_open page line = codes "<span id=\"" ++ row_name page line ++ codes "\">"
+-- the word for a cycle that printed a line: of a card cycle the number of its card, of a program cycle its level
+abbrev pub total_word : ℕ → List ℕ
+total_word level = if level == 4 then codes "final" else codes "total " ++ decimal level
 
-abbrev pub written_row : (page line : ℕ) → List ℕ → List ℕ
-written_row page line [] = []
-written_row page line (first ∷ others) = row_open page line ++ characters_text page line (first ∷ others) ++ codes "</span>"
+abbrev pub cycle_word : Cycle → (card : ℕ) → List ℕ
+cycle_word RunIn card = codes "run-in"
+cycle_word Card card = codes "card " ++ decimal card
+cycle_word (Prog level ordinal) card = total_word (level_number level)
+cycle_word (Head heading) card = codes "head"
 
-unfoldable pub row_text : List PlacedLine → (page line : ℕ) → List ℕ
-row_text lines page line = written_row page line (text_at lines page line) ++ codes "\n"
+-- the word at a place, by the cycles that printed lines; none where none of them did there
+abbrev pub word_at : List FoundLine → (page line : ℕ) → List ℕ
+word_at [] page line = []
+word_at (found ∷ others) page line =
+    if found.kept.line.page == page && found.kept.line.line == line then cycle_word found.kept.cycle found.cards
+    else word_at others page line
+
+-- a row: its word, its characters up to the last one that is no blank, as an element of its own where a line stands there, and the end of
+-- a line
+unfoldable pub row_open : (page line : ℕ) → List ℕ
+row_open page line = codes "<span id=\"" ++ row_name page line ++ codes "\"><b>"
+
+unfoldable pub word_text : List FoundLine → (page line : ℕ) → List ℕ
+word_text found page line = row_open page line ++ word_at found page line ++ codes "</b>"
+
+abbrev pub written_row : List FoundLine → (page line : ℕ) → List ℕ → List ℕ
+written_row found page line [] = []
+written_row found page line (first ∷ others) =
+    word_text found page line ++ characters_text page line (without_trailing_blanks (first ∷ others)) ++ codes "</span>"
+
+unfoldable pub row_text : List PlacedLine → List FoundLine → (page line : ℕ) → List ℕ
+row_text lines found page line = written_row found page line (text_at lines page line) ++ codes "\n"
 
 -- the front of a sheet; a reader of HTML drops an end of a line that stands directly behind a `pre`'s tag, which a blank row 1 would be, so
 -- an empty element stands between them
@@ -48,9 +74,15 @@ abbrev pub sheet_open : ℕ → List ℕ
 sheet_open page = codes "<pre id=\"page" ++ decimal page ++ codes "\"><span></span>"
 
 -- a sheet of so many rows
-unfoldable pub sheet_text : List PlacedLine → (long page : ℕ) → List ℕ
-sheet_text lines long page = sheet_open page ++ flat_map (row_text lines page) (range_with_len 1 long) ++ codes "</pre>\n"
+unfoldable pub sheet_text : List PlacedLine → List FoundLine → (long page : ℕ) → List ℕ
+sheet_text lines found long page =
+    sheet_open page ++ flat_map (row_text lines found page) (range_with_len 1 long) ++ codes "</pre>\n"
 
 -- all sheets
-unfoldable pub sheets_text : List PlacedLine → (long : ℕ) → List ℕ
-sheets_text lines long = flat_map (sheet_text lines long) (range_with_len 1 (last_page lines))
+unfoldable pub sheets_text : List PlacedLine → List FoundLine → (long : ℕ) → List ℕ
+sheets_text lines found long = flat_map (sheet_text lines found long) (range_with_len 1 (last_page lines))
+
+-- how many characters the widest line has, up to its last one that is no blank
+abbrev pub widest : List PlacedLine → ℕ
+widest [] = 0
+widest (placed ∷ others) = max (length (without_trailing_blanks placed.text)) (widest others)

@@ -4,11 +4,13 @@ ghost use Rattle.std.specs.Prelude.{◌≡◌, ◌<◌, ◌≤◌, ◌++◌, cod
 ghost use Rattle.std.specs.List.{flat_map, range_with_len};
 ghost use Rattle.std.specs.String.{string_bytes};
 ghost use Rattle.page_text.specs.Pages.{text_at};
-ghost use Rattle.page_sections.specs.ReportSheets.Sheets.{characters_text, link_text, printed_text, row_name, row_open, row_text, sheet_open, sheet_text, sheets_text, wheel_name, wheel_text, written_row};
+ghost use Rattle.page_sections.specs.ReportSheets.Sheets.{characters_text, cycle_word, link_text, printed_text, row_name, row_open, row_text, sheet_open, sheet_text, sheets_text, total_word, wheel_name, wheel_text, widest, word_at, word_text, written_row};
 
+use explanations::FoundLine;
 use markup::push_escaped;
+use net::Cycle;
 use numerals::{push_between, push_numbered};
-use page_text::last_page;
+use page_text::{last_page, without_trailing_blanks};
 use placed_lines::PlacedLine;
 use std::alloc::AllocError;
 
@@ -80,7 +82,7 @@ fn write_wheel(
     }
 }
 
-#[tactic(auto, unfolding(crate::specs::ReportSheets::Sheets::characters_text), using(crate::proofs::ReportSheets::Written::range_none, crate::proofs::ReportSheets::Written::range_more))]
+#[tactic(auto, unfolding(crate::specs::ReportSheets::Sheets::characters_text), using(markup::proofs::Pieces::range_none, markup::proofs::Pieces::range_more))]
 // The characters of a line.
 fn write_characters(
     text: &mut String,
@@ -98,30 +100,88 @@ fn write_characters(
     Ok(())
 }
 
+// The word for a program cycle of a level.
+fn write_total_word(text: &mut String, level: u8) -> Result<(), AllocError>
+    ensures { OnOk result (string_bytes text.new ≡ string_bytes text.old ++ total_word level) }
+{
+    if level == 4 {
+        text.push_str("final")
+    } else {
+        push_numbered(text, "total ", level)
+    }
+}
+
+// The word for a cycle that printed a line. The card is that of a card cycle.
+fn write_cycle_word(text: &mut String, cycle: Cycle, card: u32) -> Result<(), AllocError>
+    ensures { OnOk result (string_bytes text.new ≡ string_bytes text.old ++ cycle_word cycle card) }
+{
+    match cycle {
+        Cycle::RunIn => text.push_str("run-in"),
+        Cycle::Card => push_numbered(text, "card ", card),
+        Cycle::Prog(level, _) => write_total_word(text, level.number()),
+        Cycle::Head(_) => text.push_str("head"),
+    }
+}
+
+// The word at a place; none where none of the cycles printed there.
+fn write_word_at(
+    text: &mut String,
+    found: &[FoundLine],
+    page: u64,
+    line: u32,
+) -> Result<(), AllocError>
+    ensures { OnOk result (string_bytes text.new ≡ string_bytes text.old ++ word_at found.now page line) }
+{
+    for one in found {
+        if one.kept.line.page == page && one.kept.line.line == line {
+            return write_cycle_word(text, one.kept.cycle, one.cards);
+        }
+    }
+    Ok(())
+}
+
+#[tactic(auto, unfolding(crate::specs::ReportSheets::Sheets::row_open))]
 // The front of a row.
 fn write_row_open(text: &mut String, page: u64, line: u32) -> Result<(), AllocError>
     ensures { OnOk result (string_bytes text.new ≡ string_bytes text.old ++ row_open page line) }
 {
     text.push_str("<span id=\"")?;
     write_row_name(text, page, line)?;
-    text.push_str("\">")
+    text.push_str("\"><b>")
 }
 
-// The characters of a row, as an element of its own where there are any.
+#[tactic(auto, unfolding(crate::specs::ReportSheets::Sheets::word_text))]
+// The front of a row, with its word.
+fn write_word(
+    text: &mut String,
+    found: &[FoundLine],
+    page: u64,
+    line: u32,
+) -> Result<(), AllocError>
+    ensures { OnOk result (string_bytes text.new ≡ string_bytes text.old ++ word_text found.now page line) }
+{
+    write_row_open(text, page, line)?;
+    write_word_at(text, found, page, line)?;
+    text.push_str("</b>")
+}
+
+#[tactic(auto, using(crate::proofs::ReportSheets::no_longer))]
+// The word and the characters of a row, as an element of its own where a line stands there.
 fn write_printed_row(
     text: &mut String,
+    found: &[FoundLine],
     page: u64,
     line: u32,
     characters: &[u8],
 ) -> Result<(), AllocError>
     requires { length characters.now ≤ 120 }
-    ensures { OnOk result (string_bytes text.new ≡ string_bytes text.old ++ written_row page line characters.now) }
+    ensures { OnOk result (string_bytes text.new ≡ string_bytes text.old ++ written_row found.now page line characters.now) }
 {
     if characters.is_empty() {
         return Ok(());
     }
-    write_row_open(text, page, line)?;
-    write_characters(text, page, line, characters)?;
+    write_word(text, found, page, line)?;
+    write_characters(text, page, line, without_trailing_blanks(characters))?;
     text.push_str("</span>")
 }
 
@@ -143,28 +203,30 @@ fn text_at(lines: &[PlacedLine], page: u64, line: u32) -> &[u8]
 fn write_row(
     text: &mut String,
     lines: &[PlacedLine],
+    found: &[FoundLine],
     page: u64,
     line: u32,
 ) -> Result<(), AllocError>
-    ensures { OnOk result (string_bytes text.new ≡ string_bytes text.old ++ row_text lines.now page line) }
+    ensures { OnOk result (string_bytes text.new ≡ string_bytes text.old ++ row_text lines.now found.now page line) }
 {
-    write_printed_row(text, page, line, text_at(lines, page, line))?;
+    write_printed_row(text, found, page, line, text_at(lines, page, line))?;
     text.push_str("\n")
 }
 
-#[tactic(auto, using(crate::proofs::ReportSheets::Written::range_none, crate::proofs::ReportSheets::Written::range_more))]
+#[tactic(auto, using(markup::proofs::Pieces::range_none, markup::proofs::Pieces::range_more))]
 // The rows of a sheet.
 fn write_rows(
     text: &mut String,
     lines: &[PlacedLine],
+    found: &[FoundLine],
     long: u32,
     page: u64,
 ) -> Result<(), AllocError>
     requires { long ≤ 144 }
-    ensures { OnOk result (string_bytes text.new ≡ string_bytes text.old ++ flat_map (row_text lines.now page) (range_with_len 1 long)) }
+    ensures { OnOk result (string_bytes text.new ≡ string_bytes text.old ++ flat_map (row_text lines.now found.now page) (range_with_len 1 long)) }
 {
     for passed in 0..long {
-        write_row(text, lines, page, passed + 1)?;
+        write_row(text, lines, found, page, passed + 1)?;
     }
     Ok(())
 }
@@ -181,33 +243,47 @@ fn write_sheet_open(text: &mut String, page: u64) -> Result<(), AllocError>
 fn write_sheet(
     text: &mut String,
     lines: &[PlacedLine],
+    found: &[FoundLine],
     long: u32,
     page: u64,
 ) -> Result<(), AllocError>
     requires { long ≤ 144 }
-    ensures { OnOk result (string_bytes text.new ≡ string_bytes text.old ++ sheet_text lines.now long page) }
+    ensures { OnOk result (string_bytes text.new ≡ string_bytes text.old ++ sheet_text lines.now found.now long page) }
 {
     write_sheet_open(text, page)?;
-    write_rows(text, lines, long, page)?;
+    write_rows(text, lines, found, long, page)?;
     text.push_str("</pre>\n")
 }
 
-#[tactic(auto, unfolding(crate::specs::ReportSheets::Sheets::sheets_text), using(crate::proofs::ReportSheets::Written::range_none, crate::proofs::ReportSheets::Written::range_more))]
+#[tactic(auto, unfolding(crate::specs::ReportSheets::Sheets::sheets_text), using(markup::proofs::Pieces::range_none, markup::proofs::Pieces::range_more))]
 /// Writes the pages of lines on forms of `form_lines` lines, at most 144: a sheet for each page from page 1 to the last one that has a
 /// line, with a row for each line of the form. A printed character links to the element that is named for its page, its line and its
-/// wheel, as `p1l2w3`; a row with characters is the element of its page and its line, as `p1l2`.
+/// wheel, as `p1l2w3`; a row with a line is the element of its page and its line, as `p1l2`, and begins with a word for the cycle that
+/// printed it, by those that were found: `head`, `card 3`, `total 1`, `final`.
 ///
 /// Of two lines at one place the first is shown. Fails only where no memory is left; a front of the sheets may then have been written.
 pub fn write_sheets(
     text: &mut String,
     lines: &[PlacedLine],
+    found: &[FoundLine],
     form_lines: u32,
 ) -> Result<(), AllocError>
     requires { form_lines ≤ 144 }
-    ensures { OnOk result (string_bytes text.new ≡ string_bytes text.old ++ sheets_text lines.now form_lines) }
+    ensures { OnOk result (string_bytes text.new ≡ string_bytes text.old ++ sheets_text lines.now found.now form_lines) }
 {
     for passed in 0..last_page(lines) {
-        write_sheet(text, lines, form_lines, passed + 1)?;
+        write_sheet(text, lines, found, form_lines, passed + 1)?;
     }
     Ok(())
+}
+
+/// How many characters the widest of some lines has, up to its last one that is no blank; 0 where there is no line.
+pub fn widest(lines: &[PlacedLine]) -> usize
+    ensures { result ≡ widest lines.now }
+{
+    let mut wide = 0;
+    for placed in lines {
+        wide = wide.max(without_trailing_blanks(&placed.text).len());
+    }
+    wide
 }

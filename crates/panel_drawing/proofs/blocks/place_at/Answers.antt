@@ -11,7 +11,7 @@ place_in-requires c =
     record {
       behind = there.0;
       wide = there.1;
-      small = (there.2, there.3);
+      small = (there.2, there.3, there.4);
       within = c.requires.to;
     }
 

@@ -13,11 +13,12 @@ returns c =
     let old = string_bytes c.args.text.now in
     let one = string_bytes c.write_open.new.text in
     let two = string_bytes c.write_blocks.new.text in
-    let three = string_bytes c.write_hubs.new.text in
-    let four = string_bytes c.write_between.new.text in
-    let five = string_bytes c.write_wires.new.text in
+    let three = string_bytes c.write_between.new.text in
+    let four = string_bytes c.write_wires.new.text in
+    let five = string_bytes c.write_behind.new.text in
+    let six = string_bytes c.write_hubs.new.text in
     let new = string_bytes c.write_close.new.text in
-    where_ok (new ≡ five ++ drawing_close) (GainsDrawing c.args.wires.now old new) c.write_close.result
-    (drawing_whole c.args.wires.now old one two three four five new c.in_ok-write_open.ensures c.in_ok-write_blocks.ensures
-    c.in_ok-write_hubs.ensures c.in_ok-write_between.ensures c.in_ok-write_wires.ensures)
+    where_ok (new ≡ six ++ drawing_close) (GainsDrawing c.args.wires.now old new) c.write_close.result
+    (drawing_whole c.args.wires.now old one two three four five six new c.in_ok-write_open.ensures c.in_ok-write_blocks.ensures
+    c.in_ok-write_between.ensures c.in_ok-write_wires.ensures c.in_ok-write_behind.ensures c.in_ok-write_hubs.ensures)
     c.write_close.ensures

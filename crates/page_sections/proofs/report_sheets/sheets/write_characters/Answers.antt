@@ -2,7 +2,7 @@ use Rattle.std.proofs.Common.{◌≡◌, ◌∙◌, ap, arith, ℕ, ◌+◌, ◌
 use Rattle.std.specs.Prelude.{slice_index_or}
 use Rattle.std.specs.String.{string_bytes}
 use Rattle.page_sections.specs.ReportSheets.Sheets.{wheel_text}
-use Rattle.page_sections.proofs.ReportSheets.Written.{range_more}
+use Rattle.markup.proofs.Pieces.{range_more}
 use Rattle.page_sections.proofs.report_sheets.sheets.write_characters.Goals as goal
 
 pub loop-place-preserved : goal.loop-place-preserved

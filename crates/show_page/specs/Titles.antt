@@ -1,0 +1,71 @@
+-- What stands at the head of the page: its title, and how many cards, lines and wires there are.
+use Rattle.std.specs.Prelude.{ℕ, ◌==◌, List, [], ◌∷◌, ◌++◌, codes, decimal, if◌then◌else◌}
+use Rattle.charts.specs.declared.chart.Line.{Line}
+use Rattle.charts.specs.declared.statement.Statement.{Statement}
+use Rattle.charts.specs.declared.statement.Statement.TheVariants as says
+use Rattle.markup.specs.Escapes.{escaped}
+use Rattle.page_text.specs.Pages.{without_trailing_blanks}
+use Rattle.show_page.specs.Frame.{document_open, header_open, style_open}
+use Rattle.show_page.specs.declared.head.RunCounts.{RunCounts}
+
+-- the literal that a line of the chart puts on a heading line, without the blanks at its end
+abbrev pub heading_words : Statement → List ℕ
+heading_words (says.Head line wheel literal) = without_trailing_blanks literal
+heading_words other = []
+
+-- words, and others where there are none
+abbrev pub words_or : List ℕ → List ℕ → List ℕ
+words_or [] others = others
+words_or (first ∷ rest) others = first ∷ rest
+
+-- the heading of a chart: the first literal of its heading lines that has more than blanks; nothing where there is none
+abbrev pub heading_of : List Line → List ℕ
+heading_of [] = []
+heading_of (line ∷ others) = words_or (heading_words line.statement) (heading_of others)
+
+-- so many things
+abbrev pub plural : ℕ → List ℕ
+plural number = if number == 1 then [] else codes "s"
+
+unfoldable pub counted : ℕ → List ℕ → List ℕ
+counted number words = decimal number ++ codes " " ++ words ++ plural number
+
+-- a title that says how many cards the report is of
+unfoldable pub plain_open : List ℕ
+plain_open = codes "A report of "
+
+unfoldable pub plain_title : (cards : ℕ) → List ℕ
+plain_title cards = plain_open ++ counted cards (codes "card")
+
+-- the title: the heading, else that
+abbrev pub title_of : List ℕ → (cards : ℕ) → List ℕ
+title_of [] cards = plain_title cards
+title_of (first ∷ others) cards = escaped (first ∷ others)
+
+-- how many cards were read, how many lines were printed, and how many wires the panel has
+unfoldable pub read_words : List ℕ
+read_words = codes "</h1>\n<p class=\"counts\">The machine read "
+
+unfoldable pub printed_words : List ℕ
+printed_words = codes " and printed "
+
+unfoldable pub run_words : (cards lines : ℕ) → List ℕ
+run_words cards lines = read_words ++ counted cards (codes "card") ++ printed_words ++ counted lines (codes "line")
+
+unfoldable pub program_open : List ℕ
+program_open = codes ". It had no program: "
+
+unfoldable pub program_close : List ℕ
+program_close = codes " on a panel decided what it did. Choose anything on this page that is printed or wired.</p>\n"
+
+unfoldable pub program_words : ℕ → List ℕ
+program_words wires = program_open ++ counted wires (codes "wire") ++ program_close
+
+unfoldable pub counts_words : RunCounts → List ℕ
+counts_words counts = run_words counts.cards counts.lines ++ program_words counts.wires
+
+-- the head of the document, and the title on the page with these counts
+unfoldable pub head_text : (style heading : List ℕ) → RunCounts → List ℕ
+head_text style heading counts =
+    document_open ++ title_of heading counts.cards ++ style_open ++ style ++ header_open ++ title_of heading counts.cards
+    ++ counts_words counts

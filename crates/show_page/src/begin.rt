@@ -1,0 +1,134 @@
+//! Where a visitor may begin.
+
+ghost use Rattle.std.specs.Prelude.{◌≡◌, ◌++◌, OnOk};
+ghost use Rattle.std.specs.String.{string_bytes};
+ghost use Rattle.show_page.specs.Begin.{begin_close, begin_open, begin_text, character_entry, character_open, character_words, first_character, first_cycle, first_wire, front_links, step_words, wire_words};
+
+use page_sections::cycle_sections::count_cycles;
+use page_sections::report_sheets::write_wheel_link;
+use page_sections::wheel_sections::ToldWheel;
+use panel_drawing::PanelWire;
+use std::alloc::AllocError;
+
+#[tactic(auto, unfolding(crate::specs::Begin::begin_open))]
+// What stands before the links.
+fn write_begin_open(text: &mut String) -> Result<(), AllocError>
+    ensures { OnOk result (string_bytes text.new ≡ string_bytes text.old ++ begin_open) }
+{
+    text.push_str("<div class=\"begin\"><h2>Begin here</h2>\n<ul>\n")
+}
+
+#[tactic(auto, unfolding(crate::specs::Begin::begin_close))]
+// What stands behind the links.
+fn write_begin_close(text: &mut String) -> Result<(), AllocError>
+    ensures { OnOk result (string_bytes text.new ≡ string_bytes text.old ++ begin_close) }
+{
+    text.push_str(
+        "</ul>\n<p>Or choose anything that is printed or wired: with the pointer, or with the tabulator and Enter.</p></div>\n",
+    )
+}
+
+#[tactic(auto, unfolding(crate::specs::Begin::character_words))]
+// The words of the link to a printed character.
+fn write_character_words(text: &mut String) -> Result<(), AllocError>
+    ensures { OnOk result (string_bytes text.new ≡ string_bytes text.old ++ character_words) }
+{
+    text.push_str(
+        "A printed character</a>: for each row that its wheel received, one way by which the impulse came</li>\n",
+    )
+}
+
+#[tactic(auto, unfolding(crate::specs::Begin::wire_words))]
+// The link to the first wire.
+fn write_wire_words(text: &mut String) -> Result<(), AllocError>
+    ensures { OnOk result (string_bytes text.new ≡ string_bytes text.old ++ wire_words) }
+{
+    text.push_str(
+        "<li><a href=\"#wire1\">A wire</a>: who asks for it, and the characters of which a way leads through it</li>\n",
+    )
+}
+
+#[tactic(auto, unfolding(crate::specs::Begin::step_words))]
+// The link to the first cycle.
+fn write_step_words(text: &mut String) -> Result<(), AllocError>
+    ensures { OnOk result (string_bytes text.new ≡ string_bytes text.old ++ step_words) }
+{
+    text.push_str(
+        "<li><a href=\"#cycle1\">The first cycle</a> of the run, and from there one after another</li>\n",
+    )
+}
+
+#[tactic(auto, unfolding(crate::specs::Begin::character_open))]
+// The front of the link to a printed character that is told of.
+fn write_character_open(text: &mut String, told: &ToldWheel) -> Result<(), AllocError>
+    ensures { OnOk result (string_bytes text.new ≡ string_bytes text.old ++ character_open told.now) }
+{
+    write_wheel_link(text, told.why.line.page, told.why.line.line, told.why.wheel)
+}
+
+#[tactic(auto, unfolding(crate::specs::Begin::character_entry))]
+// The link to a printed character that is told of.
+fn write_character_entry(text: &mut String, told: &ToldWheel) -> Result<(), AllocError>
+    ensures { OnOk result (string_bytes text.new ≡ string_bytes text.old ++ character_entry told.now) }
+{
+    text.push_str("<li>")?;
+    write_character_open(text, told)?;
+    write_character_words(text)
+}
+
+// The link to the first printed character that is told of, where there is one.
+fn write_first_character(text: &mut String, told: &[ToldWheel]) -> Result<(), AllocError>
+    ensures { OnOk result (string_bytes text.new ≡ string_bytes text.old ++ first_character told.now) }
+{
+    match told.first() {
+        Some(one) => write_character_entry(text, one),
+        None => Ok(()),
+    }
+}
+
+// The link to the first wire, where there is one.
+fn write_first_wire(text: &mut String, wires: &[PanelWire]) -> Result<(), AllocError>
+    ensures { OnOk result (string_bytes text.new ≡ string_bytes text.old ++ first_wire wires.now) }
+{
+    match wires.first() {
+        Some(_) => write_wire_words(text),
+        None => Ok(()),
+    }
+}
+
+#[tactic(auto, unfolding(crate::specs::Begin::first_cycle))]
+// The link to the first cycle of a trace, where it has one.
+fn write_first_cycle(text: &mut String, trace: &[u8]) -> Result<(), AllocError>
+    ensures { OnOk result (string_bytes text.new ≡ string_bytes text.old ++ first_cycle trace.now) }
+{
+    if count_cycles(trace) == 0 {
+        Ok(())
+    } else {
+        write_step_words(text)
+    }
+}
+
+#[tactic(auto, unfolding(crate::specs::Begin::front_links))]
+// What stands before the links, and the first one.
+fn write_front_links(text: &mut String, told: &[ToldWheel]) -> Result<(), AllocError>
+    ensures { OnOk result (string_bytes text.new ≡ string_bytes text.old ++ front_links told.now) }
+{
+    write_begin_open(text)?;
+    write_first_character(text, told)
+}
+
+#[tactic(auto, unfolding(crate::specs::Begin::begin_text))]
+// The links to where a visitor may begin.
+pub(crate) fn write_begin(
+    text: &mut String,
+    told: &[ToldWheel],
+    wires: &[PanelWire],
+    trace: &[u8],
+) -> Result<(), AllocError>
+    ensures { OnOk result (string_bytes text.new ≡ string_bytes text.old ++ begin_text told.now wires.now trace.now) }
+{
+    write_front_links(text, told)?;
+    write_first_wire(text, wires)?;
+    write_first_cycle(text, trace)?;
+    write_begin_close(text)
+}

@@ -1,0 +1,180 @@
+//! The head of the page: its title, and its counts.
+
+ghost use Rattle.std.specs.Prelude.{◌≡◌, ◌++◌, OnOk};
+ghost use Rattle.std.specs.String.{string_bytes};
+ghost use Rattle.show_page.specs.Helper.{GainsHead};
+ghost use Rattle.show_page.specs.Titles.{counted, counts_words, heading_of, heading_words, plain_open, plain_title, plural, printed_words, program_close, program_open, program_words, read_words, run_words, title_of};
+
+use crate::frame::{write_document_open, write_header_open, write_style, write_style_open};
+use charts::{Line, Statement};
+use markup::push_escaped;
+use numerals::push_number;
+use page_text::without_trailing_blanks;
+use std::alloc::AllocError;
+
+// How much a run has of what is counted at the head of its page.
+#[derive(Clone, Copy, Debug)]
+pub(crate) struct RunCounts {
+    // How many cards the deck has.
+    pub(crate) cards: usize,
+    // How many lines the machine prints of it.
+    pub(crate) lines: usize,
+    // How many wires the panel has.
+    pub(crate) wires: usize,
+}
+
+// The literal that a line of a chart puts on a heading line, without the blanks at its end.
+fn heading_words(statement: &Statement) -> &[u8]
+    ensures { result.now ≡ heading_words statement.now }
+{
+    match statement {
+        Statement::Head { literal, .. } => without_trailing_blanks(literal.characters()),
+        _ => &[],
+    }
+}
+
+#[tactic(auto, using(crate::proofs::Titles::words_none, crate::proofs::Titles::words_some))]
+// The first literal of some heading lines that has more than blanks; nothing where there is none.
+pub(crate) fn heading_of(lines: &[Line]) -> &[u8]
+    ensures { result.now ≡ heading_of lines.now }
+{
+    for line in lines {
+        let words = heading_words(&line.statement);
+        if !words.is_empty() {
+            return words;
+        }
+    }
+    &[]
+}
+
+// What stands behind the word for things that are not one.
+fn write_plural(text: &mut String, number: usize) -> Result<(), AllocError>
+    ensures { OnOk result (string_bytes text.new ≡ string_bytes text.old ++ plural number) }
+{
+    if number == 1 {
+        Ok(())
+    } else {
+        text.push_str("s")
+    }
+}
+
+#[tactic(auto, unfolding(crate::specs::Titles::counted))]
+// So many things.
+fn write_counted(text: &mut String, number: usize, words: &str) -> Result<(), AllocError>
+    ensures { OnOk result (string_bytes text.new ≡ string_bytes text.old ++ counted number words.now) }
+{
+    push_number(text, number)?;
+    text.push_str(" ")?;
+    text.push_str(words)?;
+    write_plural(text, number)
+}
+
+#[tactic(auto, unfolding(crate::specs::Titles::plain_open))]
+// What stands before how many cards a report is of.
+fn write_plain_open(text: &mut String) -> Result<(), AllocError>
+    ensures { OnOk result (string_bytes text.new ≡ string_bytes text.old ++ plain_open) }
+{
+    text.push_str("A report of ")
+}
+
+#[tactic(auto, unfolding(crate::specs::Titles::plain_title))]
+// A title that says how many cards the report is of.
+fn write_plain_title(text: &mut String, cards: usize) -> Result<(), AllocError>
+    ensures { OnOk result (string_bytes text.new ≡ string_bytes text.old ++ plain_title cards) }
+{
+    write_plain_open(text)?;
+    write_counted(text, cards, "card")
+}
+
+#[tactic(auto, using(crate::proofs::Titles::title_none, crate::proofs::Titles::title_some))]
+// The title.
+fn write_title(text: &mut String, heading: &[u8], cards: usize) -> Result<(), AllocError>
+    ensures { OnOk result (string_bytes text.new ≡ string_bytes text.old ++ title_of heading.now cards) }
+{
+    if heading.is_empty() {
+        write_plain_title(text, cards)
+    } else {
+        push_escaped(text, heading)
+    }
+}
+
+#[tactic(auto, unfolding(crate::specs::Titles::read_words))]
+// What stands before how many cards were read.
+fn write_read_words(text: &mut String) -> Result<(), AllocError>
+    ensures { OnOk result (string_bytes text.new ≡ string_bytes text.old ++ read_words) }
+{
+    text.push_str("</h1>\n<p class=\"counts\">The machine read ")
+}
+
+#[tactic(auto, unfolding(crate::specs::Titles::printed_words))]
+// What stands before how many lines were printed.
+fn write_printed_words(text: &mut String) -> Result<(), AllocError>
+    ensures { OnOk result (string_bytes text.new ≡ string_bytes text.old ++ printed_words) }
+{
+    text.push_str(" and printed ")
+}
+
+#[tactic(auto, unfolding(crate::specs::Titles::run_words))]
+// How many cards were read, and how many lines were printed.
+fn write_run_words(text: &mut String, cards: usize, lines: usize) -> Result<(), AllocError>
+    ensures { OnOk result (string_bytes text.new ≡ string_bytes text.old ++ run_words cards lines) }
+{
+    write_read_words(text)?;
+    write_counted(text, cards, "card")?;
+    write_printed_words(text)?;
+    write_counted(text, lines, "line")
+}
+
+#[tactic(auto, unfolding(crate::specs::Titles::program_open))]
+// What stands before how many wires there are.
+fn write_program_open(text: &mut String) -> Result<(), AllocError>
+    ensures { OnOk result (string_bytes text.new ≡ string_bytes text.old ++ program_open) }
+{
+    text.push_str(". It had no program: ")
+}
+
+#[tactic(auto, unfolding(crate::specs::Titles::program_close))]
+// What stands behind that.
+fn write_program_close(text: &mut String) -> Result<(), AllocError>
+    ensures { OnOk result (string_bytes text.new ≡ string_bytes text.old ++ program_close) }
+{
+    text.push_str(
+        " on a panel decided what it did. Choose anything on this page that is printed or wired.</p>\n",
+    )
+}
+
+#[tactic(auto, unfolding(crate::specs::Titles::program_words))]
+// How many wires the panel has.
+fn write_program_words(text: &mut String, wires: usize) -> Result<(), AllocError>
+    ensures { OnOk result (string_bytes text.new ≡ string_bytes text.old ++ program_words wires) }
+{
+    write_program_open(text)?;
+    write_counted(text, wires, "wire")?;
+    write_program_close(text)
+}
+
+#[tactic(auto, unfolding(crate::specs::Titles::counts_words))]
+// The counts.
+fn write_counts(text: &mut String, counts: RunCounts) -> Result<(), AllocError>
+    ensures { OnOk result (string_bytes text.new ≡ string_bytes text.old ++ counts_words counts) }
+{
+    write_run_words(text, counts.cards, counts.lines)?;
+    write_program_words(text, counts.wires)
+}
+
+// The head of the document, and the title on the page with its counts.
+pub(crate) fn write_head(
+    text: &mut String,
+    heading: &[u8],
+    counts: RunCounts,
+) -> Result<(), AllocError>
+    ensures { OnOk result (GainsHead heading.now counts (string_bytes text.old) (string_bytes text.new)) }
+{
+    write_document_open(text)?;
+    write_title(text, heading, counts.cards)?;
+    write_style_open(text)?;
+    write_style(text)?;
+    write_header_open(text)?;
+    write_title(text, heading, counts.cards)?;
+    write_counts(text, counts)
+}
