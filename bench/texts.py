@@ -168,6 +168,29 @@ def orders_fault(orders):
     return None if lines else "84"
 
 
+CHANGED = re.compile(rb"[^A-Z0-9 &\-/.$*,%#@!]")  # what is on no card
+
+
+def folded(whole):
+    """What `fold` answers on a text: its status, what it tells, and the deck. See docs/DECKS.md."""
+    changes = {"small letters made capitals": [], "tabs made blanks": [], "other bytes replaced": []}
+    cards = []
+    for number, line in enumerate(lines_of(whole), 1):
+        card, behind = bytearray(), 0
+        for found in CHANGED.finditer(line):
+            card += line[behind:found.start()]
+            behind = found.end()
+            kind = "tabs made blanks" if found[0] == b"\t" else "small letters made capitals" if found[0].islower() else "other bytes replaced"
+            changes[kind].append(f"line {number} column {behind}")
+            card += b" " * (8 - len(card) % 8) if found[0] == b"\t" else found[0].upper() if found[0].islower() else b" "
+        cards.append(card + line[behind:])
+    too_long = [b"fault 1 card %d\n" % number for number, card in enumerate(cards, 1) if len(card) > 80]
+    if too_long or len(cards) > 999_999:
+        return 3, b"".join(too_long) or b"fault 3\n", b""
+    told = "".join(f"{kind}: {len(places)}, first in {places[0]}\n" for kind, places in changes.items() if places)
+    return 0, told.encode(), b"".join(card + b"\n" for card in cards)
+
+
 def deck_fault(cards):
     for number, card in enumerate(cards, 1):
         if len(card) > 80:
