@@ -6,20 +6,21 @@ ghost use Rattle.card_code.specs.CardCode.{rows_of};
 use anyhow::Result;
 use browser_pages::show_to_end;
 use chart_calls::chart_to_end;
-use check_calls::check_deck_to_end;
+use check_calls::{check_deck_to_end, show_deck_to_end};
 use commands::{replay_by_orders, serve};
 use decks_in_row::DecksInRow;
 use devices::limited::LimitedReader;
 use fault_guide::guides::fault_to_end;
-use fault_lists::list_chart_to_end;
 use fold_calls::fold_to_end;
-use ledger_calls::ledger_to_end;
+use ledger_calls::{Question, tell_to_end};
+use match_calls::match_texts::Telling;
 use match_calls::{match_deck_to_end, match_to_end};
-use panel_guides::{Place, explain_to_end, legend_to_end};
+use panel_guides::{Place, legend_to_end};
 use sheet_calls::{fields_to_end, layout_to_end};
 use std::alloc::Global;
 use std::collections::VecDeque;
 use std::io::{Read, Write};
+use text_lists::list_text_to_end;
 use trace_calls::trace_to_end;
 use whole_runs::{PageRange, run_whole_to_end};
 
@@ -113,38 +114,22 @@ impl Served {
         served
     }
 
-    /// The explanation of a wheel.
-    pub fn explain<R: Read + Drop>(alloc: Global, text: &[u8], deck: R, place: Place) -> Served {
-        let mut served = Served::new(alloc);
-        served.status = explain_to_end(
-            alloc,
-            text,
-            "my.deck",
-            deck,
-            place,
-            &mut served.output,
-            &mut served.told,
-        )
-        .status;
-        served
-    }
-
-    /// The ledger of the figure on a wheel, with all entries of a long one or only some.
-    pub fn ledger<R: Read + Drop>(
+    /// What is told of a wheel.
+    pub fn tell<R: Read + Drop>(
         alloc: Global,
         text: &[u8],
         deck: R,
         place: Place,
-        all: bool,
+        question: Question,
     ) -> Served {
         let mut served = Served::new(alloc);
-        served.status = ledger_to_end(
+        served.status = tell_to_end(
             alloc,
             text,
             "my.deck",
             deck,
             place,
-            all,
+            question,
             &mut served.output,
             &mut served.told,
         )
@@ -180,6 +165,25 @@ impl Served {
         served
     }
 
+    /// Every fault of a chart, or, if it has none, the bad cards of a deck, each shown.
+    pub fn show_deck<R: Read + Drop>(alloc: Global, chart: &[u8], deck: R) -> Served {
+        let listed = Served::list_faults(alloc, chart);
+        if listed.status != 0 {
+            return listed;
+        }
+        let mut served = Served::new(alloc);
+        served.status = show_deck_to_end(
+            alloc,
+            chart,
+            "my.deck",
+            deck,
+            &mut served.output,
+            &mut served.told,
+        )
+        .status;
+        served
+    }
+
     /// Pages of a run that are printed once the whole deck has run.
     pub fn run_pages<R: Read + Drop>(
         alloc: Global,
@@ -209,10 +213,10 @@ impl Served {
         Ok(Served::of(alloc, "run", chart, DecksInRow::new(row)))
     }
 
-    /// Every fault of a chart.
+    /// Every fault of a chart or a wiring chart.
     pub fn list_faults(alloc: Global, text: &[u8]) -> Served {
         let mut served = Served::new(alloc);
-        served.status = list_chart_to_end(alloc, text, &mut served.output, &mut served.told).status;
+        served.status = list_text_to_end(alloc, text, &mut served.output, &mut served.told).status;
         served
     }
 
@@ -241,15 +245,17 @@ impl Served {
     }
 
     /// What is found of a panel beside a chart.
-    pub fn matching(alloc: Global, chart: &[u8], wiring: &[u8]) -> Served {
+    pub fn matching(alloc: Global, telling: Telling, chart: &[u8], wiring: &[u8]) -> Served {
         let mut served = Served::new(alloc);
         served.status = match_to_end(
             alloc,
+            telling,
             chart,
             wiring,
             &mut served.output,
             &mut served.told,
-        ).status;
+        )
+        .status;
         served
     }
 

@@ -8,7 +8,8 @@
 //! output can't be written.
 //! A command `replay --orders` has its orders behind it, given as a text is; `fault` has its number behind it, `fields` that of the card, and
 //! `explain`, `ledger` and `ledger --all` the page, the line and the wheel.
-//! A `check deck` checks the deck too, where `check` leaves it alone, and a `check all` tells every fault of the chart.
+//! A `check deck` checks the deck too, where `check` leaves it alone, a `check all` tells every fault of the chart, and a `check all deck` shows
+//! the bad cards of the deck if there is none.
 //! Behind `run pages` stand the first and the last page that are printed.
 //! A `run decks` has its decks in a row, divided by `~`, and `fold` its character behind it, or nothing for a blank.
 //! The rows of `show` are refused; its pages stand in `shown_cases`.
@@ -23,6 +24,7 @@ use anyhow::Result;
 use card_code::Column;
 use commands::{Fault, chart_and_deck, serve, tell};
 use devices::limited::{LimitedReader, LimitedWriter, Stop};
+use ledger_calls::Question;
 use panel_guides::Place;
 use std::alloc::Global;
 use std::fs;
@@ -159,6 +161,18 @@ fn place_of(words: &str) -> Option<Place> {
     }
 }
 
+// What a command tells of a wheel, and of which one.
+fn told_at(command: &str) -> Option<(Question, Place)> {
+    if let Some(place) = command.strip_prefix("ledger ").and_then(place_of) {
+        return Some((Question::Ledger { all: false }, place));
+    }
+    if let Some(place) = command.strip_prefix("ledger --all ").and_then(place_of) {
+        return Some((Question::Ledger { all: true }, place));
+    }
+    let place = command.strip_prefix("explain ").and_then(place_of)?;
+    Some((Question::Explanation, place))
+}
+
 // What a replay by orders gives.
 fn by_orders<R: Read + Drop>(
     rt: &HostRuntime,
@@ -217,14 +231,8 @@ fn worded<R: Read + Drop>(rt: &HostRuntime, command: &str, text: &[u8], deck: R)
     if let Some(card) = command.strip_prefix("fields ") {
         return Ok(Served::fields(alloc, text, deck, card.parse()?));
     }
-    if let Some(place) = command.strip_prefix("ledger ").and_then(place_of) {
-        return Ok(Served::ledger(alloc, text, deck, place, false));
-    }
-    if let Some(place) = command.strip_prefix("ledger --all ").and_then(place_of) {
-        return Ok(Served::ledger(alloc, text, deck, place, true));
-    }
-    match command.strip_prefix("explain ").and_then(place_of) {
-        Some(place) => Ok(Served::explain(alloc, text, deck, place)),
+    match told_at(command) {
+        Some((question, place)) => Ok(Served::tell(alloc, text, deck, place, question)),
         None => Ok(Served::of(alloc, command, text, deck)),
     }
 }
@@ -239,6 +247,7 @@ fn answer<R: Read + Drop>(rt: &HostRuntime, command: &str, text: &[u8], deck: R)
         "trace" => Ok(Served::trace(alloc, text, deck)),
         "check all" => Ok(Served::list_faults(alloc, text)),
         "check deck" => Ok(Served::check_deck(alloc, text, deck)),
+        "check all deck" => Ok(Served::show_deck(alloc, text, deck)),
         "show" => Ok(Served::show(alloc, text, deck)),
         _ => worded(rt, command, text, deck),
     }

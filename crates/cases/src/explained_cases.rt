@@ -1,11 +1,14 @@
-//! Explains each wheel of each page of the gallery, and walks each explanation through the wiring chart.
+//! Explains each wheel of each page of the gallery, and walks each explanation through the wiring chart, and the ledger of each sum down to
+//! the holes of its cards.
 //!
 //! The files `charts` and `panels` name planning charts of the reports and wired panels, one a line. Each explanation is walked by texts
 //! alone: the wiring chart, the legend, the deck, the pages, and the card code as `docs/MACHINE.md` has it, in the file `card_code`. Where
-//! one isn't right, the program ends with a fault. The counts that are written were made from the pages and the card code.
+//! one isn't right, the program ends with a fault. The counts that are written were made from the charts, the decks, the pages and the card
+//! code.
 
 use crate::answered::Served;
 use crate::case_files::read_text;
+use crate::walked_ledgers::{Sums, walk_ledgers};
 use crate::walked_pages::{Walked, explain_pages};
 use crate::walked_ways::Ground;
 use anyhow::Result;
@@ -72,6 +75,19 @@ fn write_walked<W: Write>(out: &mut W, name: &str, walked: Walked) -> Result<()>
     Ok(())
 }
 
+fn write_sums<W: Write>(out: &mut W, name: &str, sums: Sums) -> Result<()> {
+    let Sums {
+        figures,
+        entries,
+        holes,
+    } = sums;
+    writeln!(
+        out,
+        "{name}: ledgers of {figures} figures, entries {entries}, holes {holes}"
+    )?;
+    Ok(())
+}
+
 // Explains pages on a panel.
 fn walk_pages(
     alloc: Global,
@@ -108,7 +124,7 @@ fn walk_panel(alloc: Global, ground: &Ground, pages: &str) -> Result<Walked> {
     walk_pages(alloc, &setup, &[], ground, pages)
 }
 
-fn explain_chart(alloc: Global, example: &Example, code: &str) -> Result<Walked> {
+fn explain_chart(alloc: Global, example: &Example, code: &str) -> Result<(Walked, Sums)> {
     let printed = Printed::of(alloc, example)?;
     let ground = Ground {
         wiring: printed.wiring.as_str(),
@@ -117,7 +133,9 @@ fn explain_chart(alloc: Global, example: &Example, code: &str) -> Result<Walked>
         deck: example.deck.as_str(),
         code,
     };
-    walk_chart(alloc, &ground, printed.pages.as_str())
+    let pages = printed.pages.as_str();
+    let walked = walk_chart(alloc, &ground, pages)?;
+    Ok((walked, walk_ledgers(alloc, &ground, pages)?))
 }
 
 fn explain_panel(alloc: Global, example: &Example, code: &str) -> Result<Walked> {
@@ -141,15 +159,13 @@ fn read_code(rt: &HostRuntime) -> Result<String> {
     Ok(fs::read_to_string(rt, "explained/card_code")?)
 }
 
-/// Explains the pages of a planning chart, and writes how much was explained.
+/// Explains the pages of a planning chart and the sums on them, and writes how much was explained.
 pub fn write_chart<W: Write>(rt: &HostRuntime, out: &mut W, name: &str) -> Result<()> {
     let code = read_code(rt)?;
     let example = Example::read(rt, "reports", name, "chart")?;
-    write_walked(
-        out,
-        name,
-        explain_chart(rt.alloc(), &example, code.as_str())?,
-    )
+    let (walked, sums) = explain_chart(rt.alloc(), &example, code.as_str())?;
+    write_walked(out, name, walked)?;
+    write_sums(out, name, sums)
 }
 
 /// Explains the pages of a wired panel, and writes how much was explained.

@@ -19,6 +19,7 @@ mod report_cases;
 mod run_cases;
 mod shown_cases;
 mod upgrade_cases;
+mod walked_ledgers;
 mod walked_lines;
 mod walked_pages;
 mod walked_texts;

@@ -1,19 +1,20 @@
 //! Matches wired panels with planning charts, and prints of each what is printed and told, and the status.
 //!
 //! The file `index` has a line for each: the name of the wiring chart, which stands in `matches`, the path of the planning chart, and that of
-//! a deck where one is run too, divided by `|`. Of some wiring charts copies stand beside, in which the counter groups have other numbers, or
+//! a deck where one is run too, or `(hint)` where a hint is told, divided by `|`. Of some wiring charts copies stand beside, in which the counter groups have other numbers, or
 //! all other parts; of others copies from which a wire, a jack or the form was taken, or in which one is more, or another.
 
 use crate::answered::Served;
 use crate::case_files::read_case;
 use anyhow::Result;
+use match_calls::match_texts::Telling;
 use std::fs;
 use std::io::Write;
 
 // What a match with a chart gives.
-fn matched(rt: &HostRuntime, wiring: &[u8], chart: &str) -> Result<Served> {
+fn matched(rt: &HostRuntime, telling: Telling, wiring: &[u8], chart: &str) -> Result<Served> {
     let chart = fs::read(rt, chart)?;
-    Ok(Served::matching(rt.alloc(), chart.as_slice(), wiring))
+    Ok(Served::matching(rt.alloc(), telling, chart.as_slice(), wiring))
 }
 
 // What a match with a chart and a deck gives.
@@ -27,8 +28,9 @@ fn matched_deck(rt: &HostRuntime, wiring: &[u8], chart: &str, deck: &str) -> Res
 fn write_found<W: Write>(rt: &HostRuntime, out: &mut W, name: &str, given: &str) -> Result<()> {
     let wiring = read_case(rt, "matches", name, "wiring")?;
     let served = match given.split_once('|') {
+        Some((chart, "(hint)")) => matched(rt, Telling::Hints, wiring.as_slice(), chart),
         Some((chart, deck)) => matched_deck(rt, wiring.as_slice(), chart, deck),
-        None => matched(rt, wiring.as_slice(), given),
+        None => matched(rt, Telling::Wires, wiring.as_slice(), given),
     };
     served?.write_with_status(out)
 }

@@ -4,9 +4,6 @@ use clap::builder::ValueParser;
 use clap::{Arg, ArgAction, Command, value_parser};
 use std::alloc::{AllocError, Global};
 
-/// The version that the program answers.
-const VERSION: &str = "0.3";
-
 /// What stands behind the commands of the program's help.
 const AFTER_HELP: &str =
     "Status: 0 done, 2 words that can't be obeyed, 3 a text that is refused, a line or wheel that isn't there, or a panel that isn't wired for its chart, 4 a file that can't be read or an output that can't be written, 5 no memory. Why is told on one line of standard error. A file that is read may be -, standard input; one of them at most.\n\nDocuments, in the folder docs: CHART.md the planning chart, GALLERY.md whole charts with their pages, WIRING.md wiring charts, MACHINE.md the machine, EXPLAIN.md explanations, SHOW.md the page for a browser, FAULTS.md every fault.";
@@ -139,6 +136,12 @@ const DECK_ON_BOTH: Word = Word::Option {
     help: "a deck of cards, a file; the first line that the panel prints otherwise is told",
 };
 
+const HINT: Word = Word::Flag {
+    name: "HINT",
+    long: "hint",
+    help: "tells lines of the planning chart and counts alone, and no wire",
+};
+
 const OUTPUT: Word = Word::Value {
     name: "OUTPUT",
     long: "output",
@@ -210,7 +213,7 @@ const ALL: Word = Word::Flag {
 const ALL_FAULTS: Word = Word::Flag {
     name: "ALL",
     long: "all",
-    help: "tells every fault of the planning chart by its line, and not only the first",
+    help: "tells every fault of the planning chart by its line, and not only the first; if it has none, the bad cards of the deck are shown",
 };
 
 /// The commands in the order of the help.
@@ -258,7 +261,7 @@ pub(crate) static COMMANDS: &[CommandRow] = &[
     CommandRow {
         name: "match",
         about: "Tells whether a panel is wired for a planning chart, and so prints its report of every deck",
-        words: &[DECK_ON_BOTH, CHART, WIRING],
+        words: &[HINT, DECK_ON_BOTH, CHART, WIRING],
     },
     CommandRow {
         name: "legend",
@@ -353,10 +356,10 @@ fn command_of<'a>(alloc: Global, row: &CommandRow) -> Result<Command<'a>, AllocE
     Ok(command)
 }
 
-// The program without its commands.
-fn program<'a>(alloc: Global) -> Result<Command<'a>, AllocError> {
+// The program of this version, without its commands.
+fn program<'a>(alloc: Global, version: &'a str) -> Result<Command<'a>, AllocError> {
     Command::new(alloc, "run407")
-        .version(VERSION)
+        .version(version)
         .about(
             "Compiles planning charts and runs decks on a simulated IBM 407. Without a command it reads a chart and then its deck from standard input, and prints the pages.",
         )
@@ -377,7 +380,7 @@ fn with_commands<'a>(
     Ok(parser)
 }
 
-/// The program's commands, each with its words.
-pub fn parser<'a>(alloc: Global) -> Result<Command<'a>, AllocError> {
-    with_commands(alloc, program(alloc)?, COMMANDS)
+/// The program of this version with its commands, each with its words.
+pub fn parser<'a>(alloc: Global, version: &'a str) -> Result<Command<'a>, AllocError> {
+    with_commands(alloc, program(alloc, version)?, COMMANDS)
 }

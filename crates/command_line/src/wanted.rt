@@ -48,6 +48,11 @@ pub enum Wanted<'a> {
         chart: &'a str,
         deck: &'a str,
     },
+    /// Every fault of a planning chart, or, if it has none, all cards of a deck that it can't be run with, each shown.
+    ShowDeck {
+        chart: &'a str,
+        deck: &'a str,
+    },
     /// The lines of a planning chart's report, drawn.
     Layout {
         chart: &'a str,
@@ -85,6 +90,8 @@ pub enum Wanted<'a> {
     Match {
         chart: &'a str,
         wiring: &'a str,
+        /// Whether no wire is told.
+        hints: bool,
     },
     /// The same; where it isn't, a deck is run on it and on the chart's own panel.
     MatchDeck {
@@ -191,8 +198,12 @@ fn told(rt: &HostRuntime, error: &Error) -> Refused
 }
 
 // What the words match.
-fn matches_of<'a>(alloc: Global, words: &'a [String]) -> Result<ArgMatches<'a>, Error> {
-    parser(alloc)?.try_get_matches_from(words)
+fn matches_of<'a>(
+    alloc: Global,
+    version: &'a str,
+    words: &'a [String],
+) -> Result<ArgMatches<'a>, Error> {
+    parser(alloc, version)?.try_get_matches_from(words)
 }
 
 // The file that a word of a command names; the parser lets no command through that lacks one of its words.
@@ -207,8 +218,8 @@ enum Mistake {
     InputTwice,
     /// The pages are neither a number from 1 nor two with a hyphen between them, the lower first.
     NoPages,
-    /// A deck is named beside a chart of which every fault is to be told.
-    AllOfDeck,
+    /// A deck is named where a hint is to be told.
+    HintOfDeck,
     /// Memory ran out.
     Memory,
 }
@@ -225,7 +236,7 @@ impl Mistake {
         match self {
             Mistake::InputTwice => "error: - is standard input, and stands for one file at most\n",
             Mistake::NoPages => "error: --page takes the number of a page, or two as 3-5\n",
-            Mistake::AllOfDeck => "error: --all checks a planning chart alone, without a deck\n",
+            Mistake::HintOfDeck => "error: --hint and --deck can't be asked for together\n",
             Mistake::Memory => "error: out of memory\n",
         }
     }
@@ -281,14 +292,14 @@ fn run_wanted<'a>(alloc: Global, given: &ArgMatches<'a>) -> Result<Wanted<'a>, M
 }
 
 // What is asked for by the words of a check, with a deck or without, or of every fault.
-fn check_wanted<'a>(given: &ArgMatches<'a>) -> Result<Wanted<'a>, Mistake> {
+fn check_wanted<'a>(given: &ArgMatches<'a>) -> Wanted<'a> {
     let chart = file_of(given, "CHART");
     let all = given.get_flag("ALL");
     match given.get_str("DECK") {
-        Some(_) if all => Err(Mistake::AllOfDeck),
-        Some(deck) => Ok(Wanted::CheckDeck { chart, deck }),
-        None if all => Ok(Wanted::ListFaults { chart }),
-        None => Ok(Wanted::Check { chart }),
+        Some(deck) if all => Wanted::ShowDeck { chart, deck },
+        Some(deck) => Wanted::CheckDeck { chart, deck },
+        None if all => Wanted::ListFaults { chart },
+        None => Wanted::Check { chart },
     }
 }
 
@@ -306,17 +317,23 @@ fn replay_wanted<'a>(given: &ArgMatches<'a>) -> Wanted<'a> {
     }
 }
 
-// What is asked for by the words of a match, with a deck or without.
-fn match_wanted<'a>(given: &ArgMatches<'a>) -> Wanted<'a> {
+// What is asked for by the words of a match, with a deck, as a hint or with neither.
+fn match_wanted<'a>(given: &ArgMatches<'a>) -> Result<Wanted<'a>, Mistake> {
     let chart = file_of(given, "CHART");
     let wiring = file_of(given, "WIRING");
+    let hints = given.get_flag("HINT");
     match given.get_str("DECK") {
-        Some(deck) => Wanted::MatchDeck {
+        Some(_) if hints => Err(Mistake::HintOfDeck),
+        Some(deck) => Ok(Wanted::MatchDeck {
             chart,
             wiring,
             deck,
-        },
-        None => Wanted::Match { chart, wiring },
+        }),
+        None => Ok(Wanted::Match {
+            chart,
+            wiring,
+            hints,
+        }),
     }
 }
 
@@ -328,7 +345,7 @@ fn command_wanted<'a>(
 ) -> Result<Wanted<'a>, Mistake> {
     Ok(match name {
         "run" => run_wanted(alloc, given)?,
-        "check" => check_wanted(given)?,
+        "check" => check_wanted(given),
         "layout" => Wanted::Layout {
             chart: file_of(given, "CHART"),
         },
@@ -344,7 +361,7 @@ fn command_wanted<'a>(
         "upgrade" => Wanted::Upgrade {
             wiring: file_of(given, "WIRING"),
         },
-        "match" => match_wanted(given),
+        "match" => match_wanted(given)?,
         "legend" => Wanted::Legend {
             chart: file_of(given, "CHART"),
         },
@@ -422,14 +439,18 @@ fn wanted_by<'a>(alloc: Global, matches: &ArgMatches<'a>) -> Result<Wanted<'a>, 
     }
 }
 
-/// What the words ask for, the program's name first.
+/// What the words ask for, the program's name first. `version` is what the program tells of itself if they ask for it.
 ///
 /// # Errors
 ///
 /// `Memory` if a growth was refused; `Mistaken` if the words are no command, or name standard input for two files, and `Answered` if they
 /// ask for the help or the version, with the text of that written; `Unwritten` if that could not be.
-pub fn read_words<'a>(rt: &HostRuntime, words: &'a [String]) -> Result<Wanted<'a>, Refused> {
-    match matches_of(rt.alloc(), words) {
+pub fn read_words<'a>(
+    rt: &HostRuntime,
+    version: &'a str,
+    words: &'a [String],
+) -> Result<Wanted<'a>, Refused> {
+    match matches_of(rt.alloc(), version, words) {
         Ok(matches) => wanted_by(rt.alloc(), &matches).map_err(|mistake| mistake.told(rt)),
         Err(error) => Err(told(rt, &error)),
     }

@@ -1,5 +1,5 @@
 //! The program `run407`: has what the words of the command line ask for done by `commands`, whose `serve` and `replay_by_orders` it offers
-//! too, by `whole_runs`, `panel_guides`, `browser_pages`, `trace_calls`, `ledger_calls`, `sheet_calls`, `check_calls`, `match_calls`, `chart_calls`, `fault_lists`, `fold_calls` and
+//! too, by `whole_runs`, `panel_guides`, `browser_pages`, `trace_calls`, `ledger_calls`, `sheet_calls`, `check_calls`, `match_calls`, `chart_calls`, `text_lists`, `fold_calls` and
 //! `guides`, on the files that they name. `command_line` reads the words.
 #![tactic(auto)]
 
@@ -7,11 +7,13 @@ mod files;
 mod folds;
 mod obeying;
 mod output;
+mod release;
 mod running;
 mod watched;
 mod words;
 
 use crate::obeying::obey;
+use crate::release::VERSION;
 use crate::words::{given_words, tell_refused, tell_wordless};
 use command_line::read_words;
 use commands::tell;
@@ -21,7 +23,7 @@ use std::process::ExitCode;
 // Reads the words, does what they ask for and answers the status: 2 if they can't be read, 5 wherever memory runs out.
 fn main(rt: HostRuntime) -> ExitCode {
     let status = match given_words(&rt) {
-        Ok(words) => match read_words(&rt, words.as_slice()) {
+        Ok(words) => match read_words(&rt, VERSION, words.as_slice()) {
             Ok(wanted) => match obey(&rt, wanted) {
                 Ok(done) => done.status,
                 Err(unread) => tell(&unread, &mut rt.stderr()).status,

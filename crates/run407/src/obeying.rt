@@ -5,20 +5,23 @@ use crate::folds::fold;
 use crate::output::Output;
 use crate::running::waiting_pages;
 use crate::watched::Watched;
+use crate::words::tell_waiting;
 use browser_pages::show_to_end;
 use chart_calls::chart_to_end;
-use check_calls::check_deck_to_end;
+use check_calls::{check_deck_to_end, show_deck_to_end};
 use command_line::Wanted;
 use commands::{
     Command, Ending, Fault, chart_and_deck, read_whole, replay_by_orders_to_end, run_to_end,
     serve_command,
 };
 use fault_guide::guides::fault_to_end;
-use fault_lists::list_chart_to_end;
-use ledger_calls::ledger_to_end;
+use ledger_calls::{Question, tell_to_end};
+use match_calls::match_texts::Telling;
 use match_calls::{match_deck_to_end, match_to_end};
-use panel_guides::{Place, explain_to_end, legend_to_end};
+use panel_guides::{Place, legend_to_end};
 use sheet_calls::{fields_to_end, layout_to_end};
+use std::alloc::Global;
+use text_lists::list_text_to_end;
 use trace_calls::trace_to_end;
 use whole_runs::run_whole_to_end;
 
@@ -45,6 +48,7 @@ pub fn obey<'a>(rt: &HostRuntime, wanted: Wanted<'a>) -> Result<Ending, Fault<'a
             pages.finish(rt, done)
         }
         Wanted::StandardInput => {
+            tell_waiting(rt);
             let text = read_whole(alloc, rt.stdin(), "-")?;
             let (chart, deck) = chart_and_deck(text.as_slice());
             run_to_end(alloc, chart, deck, out, faults)
@@ -52,12 +56,22 @@ pub fn obey<'a>(rt: &HostRuntime, wanted: Wanted<'a>) -> Result<Ending, Fault<'a
         Wanted::Check { chart } => serve_text(rt, Command::Check, chart)?,
         Wanted::ListFaults { chart } => {
             let text = read(rt, chart)?;
-            list_chart_to_end(alloc, text.as_slice(), out, faults)
+            list_text_to_end(alloc, text.as_slice(), out, faults)
         }
         Wanted::CheckDeck { chart, deck } => {
             let text = read(rt, chart)?;
             let cards = open(rt, deck)?;
             check_deck_to_end(alloc, text.as_slice(), cards, out, faults)
+        }
+        Wanted::ShowDeck { chart, deck } => {
+            let text = read(rt, chart)?;
+            let cards = open(rt, deck)?;
+            let text = text.as_slice();
+            if has_faults(alloc, text) {
+                list_text_to_end(alloc, text, out, faults)
+            } else {
+                show_deck_to_end(alloc, text, deck, cards, out, faults)
+            }
         }
         Wanted::Layout { chart } => {
             let text = read(rt, chart)?;
@@ -87,10 +101,26 @@ pub fn obey<'a>(rt: &HostRuntime, wanted: Wanted<'a>) -> Result<Ending, Fault<'a
             replay_by_orders_to_end(alloc, text, lists, deck, cards, out, faults)
         }
         Wanted::Upgrade { wiring } => serve_text(rt, Command::Upgrade, wiring)?,
-        Wanted::Match { chart, wiring } => {
+        Wanted::Match {
+            chart,
+            wiring,
+            hints,
+        } => {
             let text = read(rt, chart)?;
             let panel = read(rt, wiring)?;
-            match_to_end(alloc, text.as_slice(), panel.as_slice(), out, faults)
+            let telling = if hints {
+                Telling::Hints
+            } else {
+                Telling::Wires
+            };
+            match_to_end(
+                alloc,
+                telling,
+                text.as_slice(),
+                panel.as_slice(),
+                out,
+                faults,
+            )
         }
         Wanted::MatchDeck {
             chart,
@@ -118,10 +148,8 @@ pub fn obey<'a>(rt: &HostRuntime, wanted: Wanted<'a>) -> Result<Ending, Fault<'a
             line,
             wheel,
         } => {
-            let panel = read(rt, text)?;
-            let cards = open(rt, deck)?;
             let place = Place { page, line, wheel };
-            explain_to_end(alloc, panel.as_slice(), deck, cards, place, out, faults)
+            tell(rt, text, deck, place, Question::Explanation)?
         }
         Wanted::Ledger {
             text,
@@ -131,19 +159,8 @@ pub fn obey<'a>(rt: &HostRuntime, wanted: Wanted<'a>) -> Result<Ending, Fault<'a
             wheel,
             all,
         } => {
-            let panel = read(rt, text)?;
-            let cards = open(rt, deck)?;
             let place = Place { page, line, wheel };
-            ledger_to_end(
-                alloc,
-                panel.as_slice(),
-                deck,
-                cards,
-                place,
-                all,
-                out,
-                faults,
-            )
+            tell(rt, text, deck, place, Question::Ledger { all })?
         }
         Wanted::Trace { text, deck } => {
             let panel = read(rt, text)?;
@@ -163,6 +180,13 @@ pub fn obey<'a>(rt: &HostRuntime, wanted: Wanted<'a>) -> Result<Ending, Fault<'a
     Ok(done)
 }
 
+// Whether anything is told of a planning chart.
+fn has_faults(alloc: Global, chart: &[u8]) -> bool {
+    let mut listed = Vec::new(alloc);
+    let mut told = Vec::new(alloc);
+    list_text_to_end(alloc, chart, &mut listed, &mut told).status != 0
+}
+
 // Does a command that reads no deck.
 fn serve_text<'a>(rt: &HostRuntime, command: Command, path: &'a str) -> Result<Ending, Fault<'a>> {
     let text = read(rt, path)?;
@@ -175,6 +199,30 @@ fn serve_text<'a>(rt: &HostRuntime, command: Command, path: &'a str) -> Result<E
         text.as_slice(),
         "-",
         no_deck,
+        out,
+        faults,
+    ))
+}
+
+// Tells of a wheel of a line.
+fn tell<'a>(
+    rt: &HostRuntime,
+    text: &'a str,
+    deck: &'a str,
+    place: Place,
+    question: Question,
+) -> Result<Ending, Fault<'a>> {
+    let panel = read(rt, text)?;
+    let cards = open(rt, deck)?;
+    let out = &mut rt.stdout();
+    let faults = &mut rt.stderr();
+    Ok(tell_to_end(
+        rt.alloc(),
+        panel.as_slice(),
+        deck,
+        cards,
+        place,
+        question,
         out,
         faults,
     ))

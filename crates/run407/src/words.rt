@@ -6,7 +6,7 @@ ghost use Rattle.std.specs.IoError.{error_kind};
 use command_line::Refused;
 use commands::{Fault, tell, unprinted};
 use std::io;
-use std::io::{ErrorKind, Write};
+use std::io::{ErrorKind, IsTerminal, Write};
 
 /// The status of words that can't be read.
 const USAGE: u8 = 2;
@@ -36,6 +36,16 @@ pub fn tell_wordless(rt: &HostRuntime, error: &io::Error) -> u8
     // If even this can't be written, the status alone tells of it.
     let _ = faults.write_all(b"error: a word is no UTF-8 text\n");
     USAGE
+}
+
+/// Says what is waited for if a chart and its deck are to be typed at a terminal.
+pub fn tell_waiting(rt: &HostRuntime) {
+    if rt.stdin().is_terminal() {
+        // If it can't be written, nobody needs it.
+        let _ = rt.stderr().write_all(
+            b"run407: type a chart, and its deck behind the chart's line END; --help tells the commands\n",
+        );
+    }
 }
 
 /// Answers the status if the words ask for nothing that is still to be done. Want of memory, and that the help can't be written, are told
