@@ -1,66 +1,197 @@
 -- What a read leaves of decks in a row.
-use Rattle.std.proofs.Common.{◌≡◌, ◌∙◌, ℕ, ◌+◌, suc, zero, ap, sym, refl, arith, Bool, true, false, ◌==◌, List, [], ◌∷◌, ◌++◌, length, get_or, Option, Some, None, append_assoc, drop, set, subst, take}
-use Rattle.std.specs.Prelude.{◌<◌, if◌then◌else◌, option_map, option_to_list}
-use Rattle.std.specs.Io.KnownBytes.{Consumes, IsAtEnd, Keeps}
-use Rattle.decks_in_row.specs.InRow.{ended, known_behind, left_of}
-use Rattle.decks_in_row.specs.Rows.{left_behind}
+use Rattle.std.proofs.Common.{◌≡◌, ◌≢◌, ◌∙◌, ℕ, ◌-◌, suc, zero, ap, sym, refl, arith, Bool, true, false, ◌==◌, List, [], ◌∷◌, ◌++◌, length, get_or, Option, Some, None, append_assoc, set, subst, take}
+use Rattle.std.specs.Prelude.{◌<◌, ◌≤◌, option_map}
+use Rattle.std.specs.Io.KnownBytes.{Consumes, IsAtEnd, prepend_known}
+use Rattle.std.proofs.lemmas.Bool.{eqb-true, false≢true}
+use Rattle.std.proofs.lemmas.List.{take-take}
+use Rattle.decks_in_row.specs.InRow.{behind_byte, ended, known_behind}
+use Rattle.decks_in_row.specs.Rows.{begins_line, behind_read, given_of, lacks_end}
+use Rattle.decks_in_row.specs.declared.stand.Stand.{Stand}
+use Rattle.decks_in_row.specs.declared.stand.Stand.TheVariants.{HeldCr, InLine, LineStart}
 
--- bytes that were read stay as they are, and the last of them says whether a line begins behind them
-ended_behind : (stands_at_line : Bool) (bytes rest : List ℕ) (last : ℕ) → length bytes ≡ suc last
-    → ended stands_at_line (bytes ++ rest) ≡ bytes ++ ended (get_or bytes last 0 == 10) rest
-ended_behind stands_at_line [] rest last size = absurd (omega (arith, size))
-ended_behind stands_at_line (byte ∷ []) rest zero size = refl
-ended_behind stands_at_line (byte ∷ []) rest (suc last) size = absurd (omega (arith, size))
-ended_behind stands_at_line (byte ∷ next ∷ bytes) rest zero size = absurd (omega (arith, size))
-ended_behind stands_at_line (byte ∷ next ∷ bytes) rest (suc last) size =
-    ap (λ read. byte ∷ read) (ended_behind (byte == 10) (next ∷ bytes) rest last (omega (arith, size)))
+-- the CR that is held back there
+abbrev held : Stand → List ℕ
+held HeldCr = 13 ∷ []
+held LineStart = []
+held InLine = []
+
+-- one byte that was read: what is given of it, and what isn't given is held back
+record Step (stand : Stand) (byte : ℕ) (after : Stand) : Type 0 where
+  given : List ℕ
+  whole : given ++ held after ≡ byte ∷ []
+  is : (more : List ℕ) → ended stand (byte ∷ more) ≡ held stand ++ (given ++ ended after more)
+  begins : (bytes : List ℕ) → begins_line after bytes zero ≡ (byte == 10)
+  taken : take (given_of 1 after) (byte ∷ []) ≡ given
+
+step : (stand : Stand) (byte : ℕ) (is_cr is_end : Bool) → (byte == 13) ≡ is_cr → (byte == 10) ≡ is_end
+    → Step stand byte (behind_read (begins_line stand (byte ∷ []) 0) byte)
+step LineStart byte true true cr end = absurd (omega (arith, eqb-true byte 10 end, eqb-true byte 13 cr))
+step LineStart byte true false cr end = rw cr (record {
+  given = [];
+  whole = ap (λ b. b ∷ []) (sym (eqb-true byte 13 cr));
+  is = λ more. rw cr refl;
+  begins = λ bytes. sym end;
+  taken = refl;
+})
+step LineStart byte false true cr end = rw (cr, end) (record {
+  given = byte ∷ [];
+  whole = refl;
+  is = λ more. rw (cr, end) refl;
+  begins = λ bytes. sym end;
+  taken = refl;
+})
+step LineStart byte false false cr end = rw (cr, end) (record {
+  given = byte ∷ [];
+  whole = refl;
+  is = λ more. rw (cr, end) refl;
+  begins = λ bytes. sym end;
+  taken = refl;
+})
+step HeldCr byte is_cr true cr end = rw end (record {
+  given = byte ∷ [];
+  whole = refl;
+  is = λ more. rw end refl;
+  begins = λ bytes. sym end;
+  taken = refl;
+})
+step HeldCr byte is_cr false cr end = rw end (record {
+  given = byte ∷ [];
+  whole = refl;
+  is = λ more. rw end refl;
+  begins = λ bytes. sym end;
+  taken = refl;
+})
+step InLine byte is_cr true cr end = rw end (record {
+  given = byte ∷ [];
+  whole = refl;
+  is = λ more. rw end refl;
+  begins = λ bytes. sym end;
+  taken = refl;
+})
+step InLine byte is_cr false cr end = rw end (record {
+  given = byte ∷ [];
+  whole = refl;
+  is = λ more. rw end refl;
+  begins = λ bytes. sym end;
+  taken = refl;
+})
+
+taken_suc : (before count last : ℕ) (byte : ℕ) (bytes : List ℕ) → before ≡ last → count ≡ suc last
+    → byte ∷ take before bytes ≡ take count (byte ∷ bytes)
+taken_suc before count last byte bytes one more = rw (one, more) refl
+
+-- of one byte more one more is given
+taken_more : (last : ℕ) (stand : Stand) (byte : ℕ) (bytes : List ℕ)
+    → byte ∷ take (given_of (suc last) stand) bytes ≡ take (given_of (suc (suc last)) stand) (byte ∷ bytes)
+taken_more last LineStart byte bytes = refl
+taken_more last HeldCr byte bytes = taken_suc (suc last - 1) (suc (suc last) - 1) last byte bytes (omega arith) (omega arith)
+taken_more last InLine byte bytes = refl
+
+-- the same of a byte and those behind it
+more_read : (stand after end : Stand) (byte last : ℕ) (bytes rest : List ℕ) → Step stand byte after
+    → ended after (bytes ++ rest) ≡ held after ++ (take (given_of (suc last) end) bytes ++ ended end rest)
+    → ended stand (byte ∷ (bytes ++ rest)) ≡ held stand ++ (take (given_of (suc (suc last)) end) (byte ∷ bytes) ++ ended end rest)
+more_read stand after end byte last bytes rest step below =
+    step.is (bytes ++ rest)
+    ∙ ap (λ text. held stand ++ (step.given ++ text)) below
+    ∙ ap (λ text. held stand ++ text) (sym (append_assoc step.given (held after) (take (given_of (suc last) end) bytes ++ ended end rest))
+    ∙ ap (λ text. text ++ (take (given_of (suc last) end) bytes ++ ended end rest)) step.whole
+    ∙ ap (λ text. text ++ ended end rest) (taken_more last end byte bytes))
+
+-- bytes that were read stay as they are; the last two of them say where the next byte stands, and whether the last one is held back
+ended_read : (bytes : List ℕ) (last : ℕ) (stand : Stand) (rest : List ℕ) → length bytes ≡ suc last
+    → ended stand (bytes ++ rest) ≡ held stand
+    ++ (take (given_of (suc last) (behind_read (begins_line stand bytes last) (get_or bytes last 0))) bytes
+    ++ ended (behind_read (begins_line stand bytes last) (get_or bytes last 0)) rest)
+ended_read [] last stand rest size = absurd (omega (arith, size))
+ended_read (byte ∷ []) zero stand rest size =
+    (step stand byte (byte == 13) (byte == 10) refl refl).is rest
+    ∙ ap (λ given. held stand ++ (given ++ ended (behind_read (begins_line stand (byte ∷ []) 0) byte) rest))
+    (sym (step stand byte (byte == 13) (byte == 10) refl refl).taken)
+ended_read (byte ∷ []) (suc last) stand rest size = absurd (omega (arith, size))
+ended_read (byte ∷ next ∷ bytes) zero stand rest size = absurd (omega (arith, size))
+ended_read (byte ∷ next ∷ bytes) (suc zero) stand rest size =
+    more_read stand (behind_read (begins_line stand (byte ∷ []) 0) byte) (behind_read (byte == 10) next) byte 0 (next ∷ bytes) rest
+    (step stand byte (byte == 13) (byte == 10) refl refl)
+    (subst (λ (begins : Bool). ended (behind_read (begins_line stand (byte ∷ []) 0) byte) (next ∷ (bytes ++ rest))
+    ≡ held (behind_read (begins_line stand (byte ∷ []) 0) byte)
+    ++ (take (given_of 1 (behind_read begins next)) (next ∷ bytes) ++ ended (behind_read begins next) rest))
+    ((step stand byte (byte == 13) (byte == 10) refl refl).begins (next ∷ bytes))
+    (ended_read (next ∷ bytes) zero (behind_read (begins_line stand (byte ∷ []) 0) byte) rest (omega (arith, size))))
+ended_read (byte ∷ next ∷ bytes) (suc (suc last)) stand rest size =
+    more_read stand (behind_read (begins_line stand (byte ∷ []) 0) byte) _ byte (suc last) (next ∷ bytes) rest
+    (step stand byte (byte == 13) (byte == 10) refl refl)
+    (ended_read (next ∷ bytes) (suc last) (behind_read (begins_line stand (byte ∷ []) 0) byte) rest (omega (arith, size)))
+
+held_none : (stand : Stand) → stand ≢ HeldCr → held stand ≡ []
+held_none LineStart other = refl
+held_none HeldCr other = absurd (other refl)
+held_none InLine other = refl
 
 -- a read of a deck is a read of the row
-pub reads : (stands_at_line is_end : Bool) (old new behind : Option (List ℕ)) (bytes : List ℕ) (last : ℕ) → length bytes ≡ suc last
-    → (get_or bytes last 0 == 10) ≡ is_end → Consumes old new bytes
-    → Consumes (known_behind (option_map (ended stands_at_line) old) behind) (known_behind (option_map (ended is_end) new) behind) bytes
-reads stands_at_line is_end None new behind bytes last size ends consumes = tt
-reads stands_at_line is_end (Some old) None behind bytes last size ends consumes = absurd consumes
-reads stands_at_line is_end (Some old) (Some new) None bytes last size ends consumes = tt
-reads stands_at_line is_end (Some old) (Some new) (Some behind) bytes last size ends consumes =
-    ap (λ text. ended stands_at_line text ++ behind) consumes
-    ∙ ap (λ text. text ++ behind) (ended_behind stands_at_line bytes new last size)
-    ∙ append_assoc bytes (ended (get_or bytes last 0 == 10) new) behind
-    ∙ ap (λ (ends_line : Bool). bytes ++ (ended ends_line new ++ behind)) ends
+pub reads : (stand : Stand) (old new behind : Option (List ℕ)) (bytes : List ℕ) (count last : ℕ) → stand ≢ HeldCr → length bytes ≡ suc last
+    → count ≡ suc last → Consumes old new bytes
+    → Consumes (known_behind (option_map (ended stand) old) behind)
+    (known_behind (option_map (ended (behind_read (begins_line stand bytes last) (get_or bytes last 0))) new) behind)
+    (take (given_of count (behind_read (begins_line stand bytes last) (get_or bytes last 0))) bytes)
+reads stand None new behind bytes count last other size all consumes = tt
+reads stand (Some old) None behind bytes count last other size all consumes = absurd consumes
+reads stand (Some old) (Some new) None bytes count last other size all consumes = tt
+reads stand (Some old) (Some new) (Some behind) bytes count last other size all consumes = rw all
+    (ap (λ text. ended stand text ++ behind) consumes
+    ∙ ap (λ text. text ++ behind) (ended_read bytes last stand new size)
+    ∙ ap (λ text. (text ++ (take (given_of (suc last) (behind_read (begins_line stand bytes last) (get_or bytes last 0))) bytes
+    ++ ended (behind_read (begins_line stand bytes last) (get_or bytes last 0)) new)) ++ behind) (held_none stand other)
+    ∙ append_assoc (take (given_of (suc last) (behind_read (begins_line stand bytes last) (get_or bytes last 0))) bytes)
+    (ended (behind_read (begins_line stand bytes last) (get_or bytes last 0)) new) behind)
 
 -- at the end of a deck its line end is left, if it has none
-pub passes : (stands_at_line : Bool) (old new behind : Option (List ℕ)) → Consumes old new [] → IsAtEnd new
-    → Consumes (known_behind (option_map (ended stands_at_line) old) behind) behind (if stands_at_line then [] else 10 ∷ [])
-passes stands_at_line None new behind consumes ends = tt
-passes stands_at_line (Some old) None behind consumes ends = absurd consumes
-passes stands_at_line (Some old) (Some new) None consumes ends = tt
-passes stands_at_line (Some old) (Some new) (Some behind) consumes ends =
-    ap (λ text. ended stands_at_line text ++ behind) (consumes ∙ ends)
+pub passes : (stand : Stand) (old new behind : Option (List ℕ)) → Consumes old new [] → IsAtEnd new
+    → Consumes (known_behind (option_map (ended stand) old) behind) behind (ended stand [])
+passes stand None new behind consumes ends = tt
+passes stand (Some old) None behind consumes ends = absurd consumes
+passes stand (Some old) (Some new) None consumes ends = tt
+passes stand (Some old) (Some new) (Some behind) consumes ends = ap (λ text. ended stand text ++ behind) (consumes ∙ ends)
 
--- a read that fails leaves the row as it was
-pub keeps : (stands_at_line : Bool) (old new behind : Option (List ℕ)) → Keeps old new
-    → Keeps (known_behind (option_map (ended stands_at_line) old) behind) (known_behind (option_map (ended stands_at_line) new) behind)
-keeps stands_at_line None new behind same = tt
-keeps stands_at_line (Some old) None behind same = absurd same
-keeps stands_at_line (Some old) (Some new) None same = tt
-keeps stands_at_line (Some old) (Some new) (Some behind) same = ap (λ text. ended stands_at_line text ++ behind) same
+-- at the end of a deck whose last line has no end that is given
+pub passes_line : (stand : Stand) (old new behind : Option (List ℕ)) (read bytes : List ℕ) → lacks_end stand ≡ true → read ≡ [] → bytes ≡ 10 ∷ []
+    → Consumes old new read → IsAtEnd new → Consumes (known_behind (option_map (ended stand) old) behind) behind bytes
+passes_line LineStart old new behind read bytes lacks none is consumes ends = absurd (false≢true lacks)
+passes_line HeldCr old new behind read bytes lacks none is consumes ends = absurd (false≢true lacks)
+passes_line InLine old new behind read bytes lacks none is consumes ends =
+    rw is (passes InLine old new behind (subst (Consumes old new) none consumes) ends)
 
--- a line end that is missing is given in one byte
-pub gives_line_end : (stands_at_line : Bool) (old new behind : Option (List ℕ)) (read bytes : List ℕ) → stands_at_line ≡ false → read ≡ []
-    → bytes ≡ 10 ∷ [] → Consumes old new read → IsAtEnd new
-    → Consumes (known_behind (option_map (ended stands_at_line) old) behind) behind bytes
-gives_line_end stands_at_line old new behind read bytes within none is consumes ends =
-    subst (Consumes (known_behind (option_map (ended stands_at_line) old) behind) behind)
-    (ap (λ (at_line : Bool). if at_line then [] else 10 ∷ []) within ∙ sym is)
-    (passes stands_at_line old new behind (subst (Consumes old new) none consumes) ends)
+-- a CR that was held back comes before the byte that follows it
+pub gives_cr : (byte : ℕ) (old new behind : Option (List ℕ)) → Consumes old new (byte ∷ [])
+    → Consumes (known_behind (option_map (ended HeldCr) old) behind)
+    (prepend_known (byte ∷ []) (known_behind (option_map (ended (behind_byte byte)) new) behind)) (13 ∷ [])
+gives_cr byte None new behind consumes = tt
+gives_cr byte (Some old) None behind consumes = absurd consumes
+gives_cr byte (Some old) (Some new) None consumes = tt
+gives_cr byte (Some old) (Some new) (Some behind) consumes = ap (λ text. ended HeldCr text ++ behind) consumes
 
 pub first_is_set : (bytes : List ℕ) (byte : ℕ) → 0 < length bytes → take 1 (set bytes 0 byte) ≡ byte ∷ []
 first_is_set [] byte some = absurd (omega (arith, some))
 first_is_set (old ∷ bytes) byte some = refl
 
--- the first of the decks behind comes next
-pub popped_left : {R : Type 0} (left : R → Option (List ℕ)) (popped : Option R) (next decks : List R) → decks ≡ option_to_list popped ++ next
-    → next ≡ drop 1 decks → left_of left true decks ≡ left_behind left true popped next
-popped_left left (Some deck) next decks is rest = ap (left_of left true) is
-popped_left left None next [] is rest = refl
-popped_left left None next (deck ∷ decks) is rest = absurd (omega (arith, ap length (is ∙ rest)))
+pub given_le : (count : ℕ) (stand : Stand) → given_of count stand ≤ count
+given_le count LineStart = omega arith
+given_le count HeldCr = omega arith
+given_le count InLine = omega arith
+
+-- of the front of a buffer the front is given
+pub given_front : (count : ℕ) (stand : Stand) (buffer : List ℕ) → take (given_of count stand) (take count buffer) ≡ take (given_of count stand) buffer
+given_front count stand buffer = take-take (given_of count stand) count buffer (given_le count stand)
+
+-- a byte that was read is all that a buffer of one byte has
+pub one_read : (bytes : List ℕ) (count : ℕ) → length bytes ≡ 1 → count ≢ 0 → take count bytes ≡ get_or bytes 0 0 ∷ []
+one_read [] count size some = absurd (omega (arith, size))
+one_read (byte ∷ bytes) zero size some = absurd (some refl)
+one_read (byte ∷ []) (suc zero) size some = refl
+one_read (byte ∷ []) (suc (suc count)) size some = refl
+one_read (byte ∷ next ∷ bytes) (suc count) size some = absurd (omega (arith, size))
+
+-- a byte that is owed comes first
+pub gives_owed : (byte : ℕ) (left : Option (List ℕ)) → Consumes (prepend_known (byte ∷ []) left) left (byte ∷ [])
+gives_owed byte None = tt
+gives_owed byte (Some bytes) = refl

@@ -1,12 +1,12 @@
 -- Laws of decks in a row.
-use Rattle.std.specs.Prelude.{◌≡◌, ℕ, List, [], ◌∷◌, ◌++◌, true}
+use Rattle.std.specs.Prelude.{◌≡◌, ℕ, List, [], ◌∷◌, ◌++◌}
 use Rattle.card_code.specs.Lines.{lines_of}
-use Rattle.decks_in_row.specs.InRow.{ended, in_row}
+use Rattle.decks_in_row.specs.InRow.{in_row}
 
--- the lines of decks, one behind the other; the last line of each has an end
+-- the lines of decks, those of one deck behind those of the other
 abbrev pub lines_of_all : List (List ℕ) → List (List ℕ)
 lines_of_all [] = []
-lines_of_all (deck ∷ decks) = lines_of (ended true deck) ++ lines_of_all decks
+lines_of_all (deck ∷ decks) = lines_of deck ++ lines_of_all decks
 
 -- The cards of decks in a row are those of the first, then those of the second, and so on: no card is joined to the next, and none comes
 -- between.

@@ -1,10 +1,10 @@
 //! Readers in a row.
 
-ghost use Rattle.std.specs.Prelude.{◌≡◌, ◌<◌, ◌≤◌, ◌-◌, MatchResult, Ok, length, take, true};
-ghost use Rattle.std.specs.Io.KnownBytes.{Consumes, Keeps};
+ghost use Rattle.std.specs.Prelude.{◌≡◌, ◌≢◌, ◌<◌, ◌≤◌, ◌-◌, ◌*◌, None, Ok, length};
 ghost use Rattle.decks_in_row.specs.InRow.{left_of};
-ghost use Rattle.decks_in_row.specs.Rows.{decks_left, left_behind};
+ghost use Rattle.decks_in_row.specs.Rows.{Gives, left_behind, reads_left, row_left};
 
+use crate::stand::Stand;
 use std::collections::VecDeque;
 use std::io;
 use std::io::Read;
@@ -18,62 +18,113 @@ pub struct DecksInRow<R: Read + Drop> {
     deck: Option<R>,
     // Those behind it.
     next: VecDeque<R>,
-    // Whether the next byte begins a line.
-    stands_at_line: bool,
+    // Where in a line the next byte stands.
+    stand: Stand,
+    // A byte that was read and comes before the next one.
+    owed: Option<u8>,
 }
 
 impl<R: Read + Drop> DecksInRow<R> {
     /// The readers in their order, of which nothing was read yet.
     pub fn new(mut decks: VecDeque<R>) -> DecksInRow<R>
-        ensures { left_behind R.remaining result.stands_at_line result.deck result.next.items ≡ left_of R.remaining true decks.items }
+        ensures { row_left R.remaining result.owed result.stand result.deck result.next.items ≡ left_of R.remaining Stand.LineStart decks.items }
     {
         let deck = decks.pop_front();
         DecksInRow {
             deck,
             next: decks,
-            stands_at_line: true,
+            stand: Stand::LineStart,
+            owed: None,
         }
     }
 }
 
 impl<R: Read + Drop> DecksInRow<R> {
-    // Reads of the next deck, or passes over its end: then what it gives is its line end, or nothing. No deck is left behind the last one.
-    fn read_next(&mut self, buf: &mut [u8]) -> io::Result<usize>
-        requires { 0 < length buf.old }
-        ensures bytes { MatchResult result
-            (λ count. (count ≤ length buf.new) × Consumes
-            (left_behind R.remaining self.old.stands_at_line self.old.deck self.old.next.items) (left_behind R.remaining self.new.stands_at_line self.new.deck self.new.next.items) (take count buf.new))
-            (λ _. Keeps (left_behind R.remaining self.old.stands_at_line self.old.deck self.old.next.items) (left_behind R.remaining self.new.stands_at_line self.new.deck self.new.next.items)) }
+    // Passes over the end of the deck.
+    fn pass_end(&mut self)
+        ensures deck { left_behind R.remaining self.new.stand self.new.deck self.new.next.items ≡ left_of R.remaining Stand.LineStart self.old.next.items }
+        ensures owed { self.new.owed ≡ self.old.owed }
+        ensures fewer { reads_left self.new.stand self.new.deck self.new.next.items ≤ 2 * length self.old.next.items }
+    {
+        self.deck = self.next.pop_front();
+        self.stand = Stand::LineStart;
+    }
+
+    // Reads of the deck, or passes over its end: then what it gives is its line end, or nothing.
+    fn read_deck(&mut self, buf: &mut [u8]) -> io::Result<usize>
+        requires room { 0 < length buf.old }
+        requires stand { self.old.stand ≢ Stand.HeldCr }
+        requires owed { self.old.owed ≡ None }
+        ensures bytes { Gives
+            (row_left R.remaining self.old.owed self.old.stand self.old.deck self.old.next.items)
+            (row_left R.remaining self.new.owed self.new.stand self.new.deck self.new.next.items)
+            result buf.new }
         ensures room { length buf.new ≡ length buf.old }
-        ensures fewer { result ≡ Ok 0 → decks_left self.new.deck self.new.next.items ≡ decks_left self.old.deck self.old.next.items - 1 }
+        ensures owed { self.new.owed ≡ None }
+        ensures fewer { result ≡ Ok 0 → reads_left self.new.stand self.new.deck self.new.next.items ≤ reads_left self.old.stand self.old.deck self.old.next.items - 1 }
     {
         let Some(deck) = &mut self.deck else {
             return Ok(0);
         };
         let count = deck.read(buf)?;
         if count > 0 {
-            self.stands_at_line = buf[count - 1] == b'\n';
-            return Ok(count);
+            self.stand = self.stand.behind_read(&buf[..count]);
+            return Ok(self.stand.given_of(count));
         }
-        self.deck = self.next.pop_front();
-        if self.stands_at_line {
+        let lacks_end = self.stand.lacks_end();
+        self.pass_end();
+        if !lacks_end {
             return Ok(0);
         }
-        self.stands_at_line = true;
         buf[0] = b'\n';
+        Ok(1)
+    }
+
+    // Reads the byte behind a CR that is held back, and gives the CR, or passes over the end of the deck.
+    fn read_behind_cr(&mut self, buf: &mut [u8]) -> io::Result<usize>
+        requires room { 0 < length buf.old }
+        requires stand { self.old.stand ≡ Stand.HeldCr }
+        requires owed { self.old.owed ≡ None }
+        ensures bytes { Gives
+            (row_left R.remaining self.old.owed self.old.stand self.old.deck self.old.next.items)
+            (row_left R.remaining self.new.owed self.new.stand self.new.deck self.new.next.items)
+            result buf.new }
+        ensures room { length buf.new ≡ length buf.old }
+        ensures owed { result ≡ Ok 0 → self.new.owed ≡ None }
+        ensures fewer { result ≡ Ok 0 → reads_left self.new.stand self.new.deck self.new.next.items ≤ reads_left self.old.stand self.old.deck self.old.next.items - 1 }
+    {
+        let Some(deck) = &mut self.deck else {
+            return Ok(0);
+        };
+        let mut behind = [0];
+        if deck.read(&mut behind)? == 0 {
+            self.pass_end();
+            return Ok(0);
+        }
+        let [byte] = behind;
+        self.stand = Stand::behind_byte(byte);
+        self.owed = Some(byte);
+        buf[0] = b'\r';
         Ok(1)
     }
 }
 
 impl<R: Read + Drop> Read for DecksInRow<R> {
-    ghost remaining = { λ row. left_behind R.remaining row.stands_at_line row.deck row.next.items };
+    ghost remaining = { λ row. row_left R.remaining row.owed row.stand row.deck row.next.items };
 
     fn read(&mut self, buf: &mut [u8]) -> io::Result<usize> {
         if buf.is_empty() {
             return Ok(0);
         }
+        if let Some(byte) = self.owed.take() {
+            buf[0] = byte;
+            return Ok(1);
+        }
         while self.deck.is_some() {
-            let count = self.read_next(buf)?;
+            let count = match self.stand {
+                Stand::HeldCr => self.read_behind_cr(buf)?,
+                Stand::LineStart | Stand::InLine => self.read_deck(buf)?,
+            };
             if count > 0 {
                 return Ok(count);
             }
