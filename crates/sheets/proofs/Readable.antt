@@ -1,5 +1,5 @@
 -- The fields of a lawful chart can be read.
-use Rattle.std.proofs.Common.{◌≡◌, ◌∙◌, sym, ap, refl, ◌≤◌, ℕ, true, Contains, arith}
+use Rattle.std.proofs.Common.{◌≡◌, ap, refl, ◌≤◌, Contains, arith}
 use Rattle.charts.specs.Chart.{Chart}
 use Rattle.charts.specs.Field.{decimals_of, is_amount, sign_column}
 use Rattle.charts.specs.declared.statement.Field.{Field}

@@ -1,10 +1,9 @@
 -- Each item of a lawful chart shows its own characters on its wheels.
-use Rattle.std.proofs.Common.{◌≡◌, ◌∙◌, ◌⊎◌, inl, inr, refl, sym, ap, ap₂, subst, ℕ, ◌+◌, ◌-◌, ◌<◌, ◌≤◌, ◌&&◌, Bool, true, false, not, List, [], ◌∷◌, ◌++◌, Contains, Option, Some, None, option_map, length, get_or, slice_index_or, nat_le, nat_lt, if◌then◌else◌, cond, arith}
-use Rattle.std.specs.List.{cons_option, filter_map, list_any}
-use Rattle.std.proofs.lemmas.Bool.{and_parts, eqb-true, not-false}
+use Rattle.std.proofs.Common.{◌≡◌, ◌∙◌, refl, sym, ap, ap₂, ℕ, ◌+◌, ◌-◌, ◌<◌, ◌≤◌, ◌&&◌, Bool, true, false, not, List, [], ◌∷◌, ◌++◌, Contains, Option, Some, None, option_map, length, slice_index_or, nat_le, nat_lt, if◌then◌else◌, cond, arith}
+use Rattle.std.specs.List.{cons_option, filter_map}
+use Rattle.std.proofs.lemmas.Bool.{eqb-true}
 use Rattle.std.proofs.lemmas.Bool.Decides.{nat_tests}
 use Rattle.std.proofs.lemmas.Grind.{get_or_default_zero}
-use Rattle.chart_rules.specs.Below.charts.Chart.{Chart}
 use Rattle.chart_rules.specs.Below.charts.Headings.{heading_number}
 use Rattle.chart_rules.specs.Below.charts.Levels.{level_number}
 use Rattle.chart_rules.specs.Below.charts.Literals.{literal_in}
@@ -19,13 +18,12 @@ use Rattle.chart_rules.specs.Below.print_rules.Wheels.{is_off_wheels, meet, over
 use Rattle.chart_rules.specs.Below.print_rules.declared.items.Item.{Item}
 use Rattle.chart_rules.specs.Below.print_rules.declared.items.PrintedLine.{PrintedLine}
 use Rattle.chart_rules.specs.Below.print_rules.declared.items.PrintedLine.TheVariants.{Heading, Body}
-use Rattle.chart_rules.specs.Rules.{IsLawful}
 use Rattle.chart_rules.specs.declared.rule.Rule.TheVariants as rule
 use Rattle.chart_rules.proofs.Laws.{breaks-lawful}
 use Rattle.charts.proofs.Listed.{Place, listed-first, listed-after, listed-place}
-use Rattle.report.specs.BodyLines.{Piece, char_at, line_of, piece_at}
-use Rattle.sheets.specs.Laws.{ItemsStandOnTheirWheels, StandsOnWheels}
-use Rattle.sheets.specs.Layout.{drawn, drawn_line, drawn_piece, item_on, only_on}
+use Rattle.report.specs.BodyLines.{Piece, char_at, piece_at}
+use Rattle.sheets.specs.Laws.{ItemsStandOnTheirWheels}
+use Rattle.sheets.specs.Layout.{drawn, drawn_piece, item_on, only_on}
 use Rattle.sheets.proofs.Drawing.{at-wheel}
 use Rattle.sheets.proofs.Widths.{item-long}
 use Rattle.charts.proofs.Listed.{none-any}

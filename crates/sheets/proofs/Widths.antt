@@ -1,14 +1,12 @@
 -- An item is drawn with a character for each of its wheels.
-use Rattle.std.proofs.Common.{◌≡◌, ◌∙◌, refl, sym, ap, ℕ, ◌+◌, ◌-◌, ◌≤◌, List, [], ◌∷◌, ◌++◌, Option, Some, None, option_map, length, length-append, replicate, true, nat_lt, if◌then◌else◌, max, arith}
+use Rattle.std.proofs.Common.{◌≡◌, ◌∙◌, sym, ap, ℕ, ◌+◌, ◌-◌, ◌≤◌, List, ◌++◌, Option, Some, None, option_map, length, length-append, replicate, true, nat_lt, if◌then◌else◌, arith}
 use Rattle.std.proofs.lemmas.List.{length-replicate}
-use Rattle.chart_rules.specs.Below.charts.Field.{columns_of, decimals_of}
+use Rattle.chart_rules.specs.Below.charts.Field.{columns_of}
 use Rattle.chart_rules.specs.Below.charts.Literals.{literal_in}
-use Rattle.chart_rules.specs.Below.charts.declared.statement.BodyLine.TheVariants as body
 use Rattle.chart_rules.specs.Below.charts.declared.statement.DetailOption.{DetailOption}
 use Rattle.chart_rules.specs.Below.charts.declared.statement.Field.{Field}
 use Rattle.chart_rules.specs.Below.charts.declared.statement.FieldKind.{FieldKind}
 use Rattle.chart_rules.specs.Below.charts.declared.statement.FieldKind.TheVariants as holds
-use Rattle.chart_rules.specs.Below.charts.declared.statement.Mark.{Mark}
 use Rattle.chart_rules.specs.Below.charts.declared.statement.Statement.{Statement}
 use Rattle.chart_rules.specs.Below.charts.declared.statement.Statement.TheVariants as says
 use Rattle.chart_rules.specs.Below.field_rules.Fields.{first_named}

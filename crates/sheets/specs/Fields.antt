@@ -1,16 +1,18 @@
 -- What a chart's fields read on a card: under the card the marks of a field's columns, then its name, its columns, the characters in them,
 -- and of an amount its value.
-use Rattle.std.specs.Prelude.{ℕ, ◌+◌, ◌-◌, ◌/◌, ◌^◌, ◌==◌, zero, suc, Bool, true, List, [], ◌∷◌, ◌++◌, codes, decimal, map, replicate, unsigned_abs, if◌then◌else◌}
-use Rattle.std.specs.Prelude.{ℤ, Option, Some, None}
+use Rattle.std.specs.Prelude.{ℕ, ◌-◌, ◌/◌, ◌^◌, ◌==◌, zero, suc, Bool, true, List, [], ◌∷◌, ◌++◌, codes, decimal, map, replicate, unsigned_abs, if◌then◌else◌}
+use Rattle.std.specs.Prelude.{ℤ, Some}
 use Rattle.std.specs.Int.{is_negative}
 use Rattle.std.specs.List.{flat_map}
+use Rattle.std.specs.Option.{unwrap_or}
+use Rattle.chart_rules.specs.Below.card_code.CardCode.{deck_character}
 use Rattle.chart_rules.specs.Below.charts.Field.{columns_of, column_of_rule}
 use Rattle.chart_rules.specs.Below.charts.Name.{name_text}
 use Rattle.chart_rules.specs.Below.charts.declared.statement.Field.{Field}
 use Rattle.chart_rules.specs.Below.charts.declared.statement.FieldKind.{FieldKind}
 use Rattle.chart_rules.specs.Below.charts.declared.statement.FieldKind.TheVariants as holds
-use Rattle.report.specs.Amounts.{value_of}
-use Rattle.report.specs.BodyLines.{text_on}
+use Rattle.chart_rules.specs.ValidCard.{column_of}
+use Rattle.report.specs.Amounts.{columns_in, value_of}
 use Rattle.report.specs.Edits.{figure, last_digits}
 
 -- the marks under the columns of a field
@@ -51,10 +53,18 @@ value_part tells_values card field other = []
 abbrev pub place_told : Field → List ℕ
 place_told field = marks field ++ codes "\n" ++ name_text field.name ++ columns_told field ++ sign_told field.kind
 
+-- a set of rows as it stands in a deck: a blank stands for one that no character has
+abbrev pub character_of : ℕ → ℕ
+character_of set = unwrap_or (deck_character set) 32
+
+-- the deck's own characters in its columns
+abbrev pub characters_in : (card : List ℕ) → Field → List ℕ
+characters_in card field = map (λ column. character_of (column_of card column)) (columns_in field)
+
 -- what it reads on a card
 abbrev pub reading_told : (tells_values : Bool) → (card : List ℕ) → Field → List ℕ
 reading_told tells_values card field =
-    codes ": [" ++ text_on card field ++ codes "]" ++ value_part tells_values card field field.kind ++ codes "\n"
+    codes ": [" ++ characters_in card field ++ codes "]" ++ value_part tells_values card field field.kind ++ codes "\n"
 
 -- a field on a card
 abbrev pub field_told : (tells_values : Bool) → (card : List ℕ) → Field → List ℕ

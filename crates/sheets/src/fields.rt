@@ -12,7 +12,7 @@ ghost use Rattle.sheets.specs.Fields as told;
 ghost use Rattle.sheets.specs.Helper.{IsReadable};
 
 use crate::runs::write_run;
-use card_code::Card;
+use card_code::{Card, Column};
 use chart_rules::Chart;
 use charts::{Field, FieldKind};
 use misfits::value_of;
@@ -51,13 +51,39 @@ fn write_sign(text: &mut Vec<u8>, kind: FieldKind) -> io::Result<()>
     }
 }
 
-// The characters in the columns of a field.
-fn write_text(text: &mut Vec<u8>, card: &Card, field: &Field) -> io::Result<()>
+/// Writes the characters in the columns of a field, as the columns print.
+///
+/// # Errors
+///
+/// `OutOfMemory` alone. The text may then have gained some of them.
+pub fn write_text(text: &mut Vec<u8>, card: &Card, field: &Field) -> io::Result<()>
     requires { IsOnCard field.now }
     ensures { OnOk result (text.new.items ≡ text.old.items ++ text_on card.now field.now) }
 {
     for column in field.first..field.last + 1 {
         text.push(card.column(column as u8).print_character())?;
+    }
+    Ok(())
+}
+
+// A column as it stands in a deck: a wheel prints a blank for `!`, but the deck has it.
+#[tactic(auto, unfolding(card_code::specs::CardCode::print_character))]
+fn character_of(column: Column) -> u8
+    ensures { result ≡ told.character_of column }
+{
+    match column.to_char() {
+        Some('!') => b'!',
+        _ => column.print_character(),
+    }
+}
+
+// The deck's own characters in the columns of a field.
+fn write_characters(text: &mut Vec<u8>, card: &Card, field: &Field) -> io::Result<()>
+    requires { IsOnCard field.now }
+    ensures { OnOk result (text.new.items ≡ text.old.items ++ told.characters_in card.now field.now) }
+{
+    for column in field.first..field.last + 1 {
+        text.push(character_of(card.column(column as u8)))?;
     }
     Ok(())
 }
@@ -81,8 +107,12 @@ fn write_digits(text: &mut Vec<u8>, number: u64, count: u32) -> io::Result<()>
     Ok(())
 }
 
-// A whole number with its last digits as decimals.
-fn write_with_decimals(text: &mut Vec<u8>, number: u64, decimals: u32) -> io::Result<()>
+/// Writes a whole number with its last digits as decimals.
+///
+/// # Errors
+///
+/// `OutOfMemory` alone. The text may then have gained a part of this.
+pub fn write_with_decimals(text: &mut Vec<u8>, number: u64, decimals: u32) -> io::Result<()>
     requires { decimals ≤ 8 }
     ensures { OnOk result (text.new.items ≡ text.old.items ++ told.number_told number decimals) }
 {
@@ -94,8 +124,12 @@ fn write_with_decimals(text: &mut Vec<u8>, number: u64, decimals: u32) -> io::Re
     write_digits(text, number, decimals)
 }
 
-// A value with its last digits as decimals.
-fn write_value(text: &mut Vec<u8>, value: i64, decimals: u32) -> io::Result<()>
+/// Writes a value with its last digits as decimals, and `-` before it if it is negative.
+///
+/// # Errors
+///
+/// `OutOfMemory` alone. The text may then have gained a part of this.
+pub fn write_value(text: &mut Vec<u8>, value: i64, decimals: u32) -> io::Result<()>
     requires { decimals ≤ 8 }
     ensures { OnOk result (text.new.items ≡ text.old.items ++ told.value_told value decimals) }
 {
@@ -148,7 +182,7 @@ fn write_reading(
     ensures { OnOk result (text.new.items ≡ text.old.items ++ told.reading_told tells_values card.now field.now) }
 {
     text.write_all(b": [")?;
-    write_text(text, card, field)?;
+    write_characters(text, card, field)?;
     text.write_all(b"]")?;
     write_value_part(text, tells_values, card, field)?;
     text.write_all(b"\n")
@@ -165,7 +199,7 @@ fn write_field(text: &mut Vec<u8>, tells_values: bool, card: &Card, field: &Fiel
 
 #[tactic(auto, using(crate::proofs::Growing::piece_more))]
 /// Writes behind a text what the fields of a chart read on a card, in the order of the chart: marks under the field's columns, then its
-/// name, its columns, the characters in them and, if values are told, the value of an amount. What stands above it has to begin at column 1.
+/// name, its columns, the deck's characters in them and, if values are told, the value of an amount. What stands above it has to begin at column 1.
 ///
 /// # Errors
 ///

@@ -2,6 +2,7 @@
 //!
 //! [`write_layout`] draws each line of a chart's report with its items where they stand. [`write_fields`] tells what each field reads on
 //! a card, with marks under its columns, and [`write_marked_line`] shows a line that is no card; [`column_ruler`] is the ruler to stand above them.
+//! [`write_text`] and [`write_value`] write what one field reads, and [`write_with_decimals`] a number as its amount has them.
 #![tactic(auto)]
 
 mod fields;
@@ -13,7 +14,7 @@ mod marks;
 mod rulers;
 mod runs;
 
-pub use fields::write_fields;
+pub use fields::{write_fields, write_text, write_value, write_with_decimals};
 pub use laws::items_stand_on_their_wheels;
 pub use layout::write_layout;
 pub use marks::write_marked_line;

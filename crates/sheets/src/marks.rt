@@ -40,11 +40,23 @@ fn front_of(line: &[u8]) -> &[u8]
     }
 }
 
-// The name of a field that has a column.
+// Whether a field reads a column: one of its own, or that of its sign.
+fn reads_column(field: &Field, column: u32) -> bool
+    ensures { result ≡ marks.reads_column column field.now }
+{
+    let is_own = u32::from(field.first) <= column && column <= u32::from(field.last);
+    let is_sign = match field.kind.sign_column() {
+        Some(sign) => u32::from(sign) == column,
+        None => false,
+    };
+    is_own || is_sign
+}
+
+// The name of a field that reads a column.
 fn write_name_at(text: &mut Vec<u8>, column: u32, field: &Field) -> io::Result<()>
     ensures { OnOk result (text.new.items ≡ text.old.items ++ marks.name_at column field.now) }
 {
-    if u32::from(field.first) <= column && column <= u32::from(field.last) {
+    if reads_column(field, column) {
         text.write_all(b" ")?;
         text.write_all(field.name.as_bytes())?;
     }
@@ -52,7 +64,7 @@ fn write_name_at(text: &mut Vec<u8>, column: u32, field: &Field) -> io::Result<(
 }
 
 #[tactic(auto, using(crate::proofs::Growing::piece_more))]
-// The names of the fields that have a column.
+// The names of the fields that read a column.
 fn write_names_at(text: &mut Vec<u8>, column: u32, fields: &[Field]) -> io::Result<()>
     ensures { OnOk result (text.new.items ≡ text.old.items ++ flat_map (marks.name_at column) fields.now) }
 {
@@ -62,7 +74,7 @@ fn write_names_at(text: &mut Vec<u8>, column: u32, fields: &[Field]) -> io::Resu
     Ok(())
 }
 
-// The mark under a column, and the names of the fields that have it.
+// The mark under a column, and the names of the fields that read it.
 fn write_column_mark(text: &mut Vec<u8>, column: u32, fields: &[Field]) -> io::Result<()>
     ensures { OnOk result (text.new.items ≡ text.old.items ++ marks.column_mark column fields.now) }
 {
@@ -73,7 +85,7 @@ fn write_column_mark(text: &mut Vec<u8>, column: u32, fields: &[Field]) -> io::R
 }
 
 /// Writes behind a text a line of a deck as it stands, its first 80 bytes, and under it a mark at a column, from 1, with the names of the
-/// chart's fields that have the column. A question mark stands for a byte that doesn't print.
+/// chart's fields that read the column, as one of their own or for their sign. A question mark stands for a byte that doesn't print.
 ///
 /// # Errors
 ///

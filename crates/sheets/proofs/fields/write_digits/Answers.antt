@@ -1,4 +1,4 @@
-use Rattle.std.proofs.Common.{◌≡◌, ◌∙◌, ◌-◌, ◌++◌, [], ◌∷◌, ap, sym, arith, append-nil, List, ℕ, map}
+use Rattle.std.proofs.Common.{◌≡◌, ◌∙◌, ◌-◌, ◌++◌, [], ◌∷◌, ap, sym, arith, append-nil, ℕ, map}
 use Rattle.report.specs.Edits.{figure, last_digits}
 use Rattle.sheets.proofs.Digits.{digit-more}
 use Rattle.sheets.proofs.fields.write_digits.Goals as goal
