@@ -1,5 +1,5 @@
 -- What is wrong, in the words of the line that breaks a rule, and what helps.
-use Rattle.std.specs.Prelude.{ℕ, Bool, true, false, List, [], ◌++◌, Option, Some, None, codes, decimal}
+use Rattle.std.specs.Prelude.{ℕ, ◌&&◌, Bool, true, false, List, [], ◌++◌, Option, Some, None, codes, decimal, nat_le, if◌then◌else◌}
 use Rattle.charts.specs.Field.{columns_of, decimals_of, sign_column}
 use Rattle.charts.specs.Levels.{control_number, level_number}
 use Rattle.charts.specs.Name.{name_text}
@@ -47,10 +47,15 @@ unfoldable pub size_words : Statement → List ℕ
 size_words (says.Field field) = size_text field.name (columns_of field) (decimals_of field.kind)
 size_words other = []
 
--- which kind of field a name stands for
-unfoldable pub kind_words : Bool → List ℕ
-kind_words true = codes " is an amount, and a text belongs here"
-kind_words false = codes " is a text, and an amount belongs here"
+-- of an amount in the place of a text: on a total line it wants its digits
+abbrev pub amount_words : Statement → List ℕ
+amount_words (says.TotalText level wheel name) = codes " is an amount, and the digits of its total are missing"
+amount_words other = codes " is an amount, and a text belongs here"
+
+-- which kind of field a name stands for on a line
+unfoldable pub kind_words : Statement → Bool → List ℕ
+kind_words statement true = amount_words statement
+kind_words statement false = codes " is a text, and an amount belongs here"
 
 -- the word before the level that is wanted
 abbrev pub level_word : Statement → List ℕ
@@ -122,9 +127,18 @@ unfoldable pub form_words : Statement → List ℕ
 form_words (says.Form lines first overflow) = form_text lines first overflow
 form_words other = []
 
+-- a channel without a TAPE line
+unfoldable pub no_tape : ℕ → List ℕ
+no_tape channel = codes "channel " ++ decimal channel ++ codes " has no TAPE line"
+
+-- a skip to a channel that no TAPE line is of, or that can't have one
+unfoldable pub skip_words : ℕ → List ℕ
+skip_words channel =
+    if nat_le 2 channel && nat_le channel 11 then no_tape channel else codes "a skip goes to a channel from 2 to 11"
+
 -- a channel without a TAPE line, or with stops that the form doesn't have
 unfoldable pub tape_words : Statement → List ℕ
-tape_words (says.After line (after.Skip channel)) = codes "channel " ++ decimal channel ++ codes " has no TAPE line"
+tape_words (says.After line (after.Skip channel)) = skip_words channel
 tape_words other = codes "these are no rising stops of a channel 2 to 11 on the form"
 
 -- how many counter groups a total takes
@@ -161,11 +175,11 @@ unknown_words line other = undescribed_words line ++ meant_words other
 
 -- a name of the wrong kind of field
 unfoldable pub wrong_kind_words : Statement → Bool → List ℕ
-wrong_kind_words line is_amount = subject line ++ kind_words is_amount
+wrong_kind_words line is_amount = subject line ++ kind_words line is_amount
 
--- a line that another one says
+-- a line of which a chart has one
 unfoldable pub said_words : Option Line → List ℕ
-said_words other = number_words other ++ codes " says this already"
+said_words other = number_words other ++ codes " is such a line already"
 
 -- a text on a total line that is no control field
 unfoldable pub not_control_words : Statement → List ℕ
@@ -226,6 +240,6 @@ cure rule.WheelRange = codes "the machine has wheels 1 to 120: move the item"
 cure rule.WheelOverlap = codes "move one of them"
 cure rule.WheelClash = codes "an amount shares wheels only with amounts of the same last wheel, decimals and mark: move one of them"
 cure rule.PrintKind = codes "add what is missing, or take the line out"
-cure rule.Form = codes "FORM P T O: T is 1 or more, the headings from T on end above O, O is 2 or more above P, and P is 144 at most"
-cure rule.Tape = codes "write the TAPE line, its stops in rising order on the form"
+cure rule.Form = codes "FORM P T O: T is 1 or more, the headings from T on end above O, O is P - 2 at most, and P is 144 at most"
+cure rule.Tape = codes "write a TAPE line of a channel 2 to 11, its stops in rising order on the form"
 cure rule.CoupledMark = codes "write COUPLED where a total needs more than 8 positions, and only there"

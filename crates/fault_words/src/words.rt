@@ -108,13 +108,23 @@ fn names_amount(field: Option<Field>) -> bool
     }
 }
 
+/// What is told of an amount in the place of a text.
+fn amount_words(statement: &Statement) -> &'static str
+    ensures { result.now ≡ law.amount_words statement.now }
+{
+    match statement {
+        Statement::TotalText { .. } => " is an amount, and the digits of its total are missing",
+        _ => " is an amount, and a text belongs here",
+    }
+}
+
 /// Writes which kind of field a line's name stands for.
 #[tactic(auto, unfolding(crate::specs::Words::kind_words))]
-fn write_kind<W: Write>(out: &mut W, is_amount: bool) -> io::Result<()>
-    ensures { OnOk result (Appends (W.contents out.old) (W.contents out.new) (law.kind_words is_amount)) }
+fn write_kind<W: Write>(out: &mut W, statement: &Statement, is_amount: bool) -> io::Result<()>
+    ensures { OnOk result (Appends (W.contents out.old) (W.contents out.new) (law.kind_words statement.now is_amount)) }
 {
     if is_amount {
-        out.write_all(b" is an amount, and a text belongs here")
+        out.write_all(amount_words(statement).as_bytes())
     } else {
         out.write_all(b" is a text, and an amount belongs here")
     }
@@ -310,6 +320,26 @@ fn write_form<W: Write>(out: &mut W, statement: &Statement) -> io::Result<()>
     }
 }
 
+/// Writes that a channel has no TAPE line.
+#[tactic(auto, unfolding(crate::specs::Words::no_tape))]
+fn write_no_tape<W: Write>(out: &mut W, channel: u16) -> io::Result<()>
+    ensures { OnOk result (Appends (W.contents out.old) (W.contents out.new) (law.no_tape channel)) }
+{
+    write_between(out, "channel ", channel, " has no TAPE line")
+}
+
+/// Writes that no TAPE line is of the channel of a skip, or can be.
+#[tactic(auto, unfolding(crate::specs::Words::skip_words))]
+fn write_skip<W: Write>(out: &mut W, channel: u16) -> io::Result<()>
+    ensures { OnOk result (Appends (W.contents out.old) (W.contents out.new) (law.skip_words channel)) }
+{
+    if 2 <= channel && channel <= 11 {
+        write_no_tape(out, channel)
+    } else {
+        out.write_all(b"a skip goes to a channel from 2 to 11")
+    }
+}
+
 /// Writes that a channel has no TAPE line, or stops that the form doesn't have.
 #[tactic(auto, unfolding(crate::specs::Words::tape_words))]
 fn write_tape<W: Write>(out: &mut W, statement: &Statement) -> io::Result<()>
@@ -319,7 +349,7 @@ fn write_tape<W: Write>(out: &mut W, statement: &Statement) -> io::Result<()>
         Statement::After {
             action: After::Skip(channel),
             ..
-        } => write_between(out, "channel ", *channel, " has no TAPE line"),
+        } => write_skip(out, *channel),
         _ => out.write_all(b"these are no rising stops of a channel 2 to 11 on the form"),
     }
 }
@@ -440,16 +470,16 @@ fn write_wrong_kind<W: Write>(out: &mut W, statement: &Statement, is_amount: boo
     ensures { OnOk result (Appends (W.contents out.old) (W.contents out.new) (law.wrong_kind_words statement.now is_amount)) }
 {
     write_subject(out, statement)?;
-    write_kind(out, is_amount)
+    write_kind(out, statement, is_amount)
 }
 
-/// Writes the line that says the same.
+/// Writes the line of which a chart has one.
 #[tactic(auto, unfolding(crate::specs::Words::said_words))]
 fn write_said<W: Write>(out: &mut W, other: Option<&Line>) -> io::Result<()>
     ensures { OnOk result (Appends (W.contents out.old) (W.contents out.new) (law.said_words (option_map (λ line. line.now) other.entry))) }
 {
     write_other(out, other)?;
-    out.write_all(b" says this already")
+    out.write_all(b" is such a line already")
 }
 
 /// Writes a text on a total line that is no control field.
@@ -618,8 +648,9 @@ pub(crate) fn cure(rule: Rule) -> &'static str
             "an amount shares wheels only with amounts of the same last wheel, decimals and mark: move one of them",
         Rule::PrintKind => "add what is missing, or take the line out",
         Rule::Form =>
-            "FORM P T O: T is 1 or more, the headings from T on end above O, O is 2 or more above P, and P is 144 at most",
-        Rule::Tape => "write the TAPE line, its stops in rising order on the form",
+            "FORM P T O: T is 1 or more, the headings from T on end above O, O is P - 2 at most, and P is 144 at most",
+        Rule::Tape =>
+            "write a TAPE line of a channel 2 to 11, its stops in rising order on the form",
         Rule::CoupledMark =>
             "write COUPLED where a total needs more than 8 positions, and only there",
     }

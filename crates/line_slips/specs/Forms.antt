@@ -1,6 +1,7 @@
 -- The words that are told of a line that no form derives.
 use Rattle.std.specs.Prelude.{ℕ, Bool, List, codes, if◌then◌else◌}
 use Rattle.std.specs.Str.{str_eq_ignore_ascii_case}
+use Rattle.line_slips.specs.Near.{is_near}
 use Rattle.line_slips.specs.declared.slip.Slip.{Slip}
 use Rattle.line_slips.specs.declared.slip.Slip.TheVariants as slip
 
@@ -11,11 +12,28 @@ slip_words slip.Comment = codes "a chart has no comments"
 slip_words slip.Quotation = codes "literals stand in apostrophes, '..', and a chart has ASCII characters alone"
 slip_words slip.Unclosed = codes "an apostrophe is not closed"
 slip_words slip.Small = codes "a chart has capital letters alone"
+slip_words slip.Unprintable = codes "this character can't be printed: a chart has capital letters, digits, blanks and & - / . $ * , % # @"
 slip_words slip.Other = codes "the words of this line are those of no form of a chart"
 
 -- whether a word, in capital or small letters, is one in capital letters
 abbrev pub is_word : List ℕ → List ℕ → Bool
 is_word word capitals = str_eq_ignore_ascii_case word capitals
+
+-- the first word of a line that may be meant
+unfoldable pub near_word : List ℕ → List ℕ
+near_word word =
+    if is_near (codes "FIELD") word then codes "did you mean FIELD?"
+    else if is_near (codes "CONTROL") word then codes "did you mean CONTROL?"
+    else if is_near (codes "PRINT") word then codes "did you mean PRINT?"
+    else if is_near (codes "HEAD") word then codes "did you mean HEAD?"
+    else if is_near (codes "DETAIL") word then codes "did you mean DETAIL?"
+    else if is_near (codes "TOTAL") word then codes "did you mean TOTAL?"
+    else if is_near (codes "SPACE") word then codes "did you mean SPACE?"
+    else if is_near (codes "AFTER") word then codes "did you mean AFTER?"
+    else if is_near (codes "FORM") word then codes "did you mean FORM?"
+    else if is_near (codes "TAPE") word then codes "did you mean TAPE?"
+    else if is_near (codes "END") word then codes "did you mean END?"
+    else codes "a line begins with FIELD, CONTROL, PRINT, HEAD, DETAIL, TOTAL, SPACE, AFTER, FORM, TAPE or END"
 
 -- the form of a word, in capital or small letters
 unfoldable pub form_words : List ℕ → List ℕ
@@ -25,10 +43,10 @@ form_words word =
     else if is_word word (codes "PRINT") then codes "PRINT takes one word: PRINT DETAIL or PRINT GROUP"
     else if is_word word (codes "HEAD") then codes "HEAD takes a heading line 1 to 3, a wheel and a literal: HEAD 1 40 'SALES'"
     else if is_word word (codes "DETAIL") then codes "DETAIL takes a wheel first: DETAIL 9 ITEM, DETAIL 9 'TEXT', and INDICATE 1 or MARK CR behind a name"
-    else if is_word word (codes "TOTAL") then codes "TOTAL takes a level 1 to 4 and a wheel first: TOTAL 1 40 AMT 8, and MARK CR behind the digits, or TOTAL 1 9 'TEXT', or TOTAL 1 9 DEPT"
+    else if is_word word (codes "TOTAL") then codes "TOTAL takes a level 1 to 4 and a wheel first: TOTAL 1 40 AMT 7, with MARK CR and in version 2 COUPLED behind the digits, or TOTAL 1 9 'TEXT', or TOTAL 1 9 DEPT"
     else if is_word word (codes "SPACE") then codes "SPACE takes a kind of line and 1 to 3: SPACE DETAIL 2 or SPACE TOTAL 1 2"
     else if is_word word (codes "AFTER") then codes "AFTER takes a kind of line: AFTER TOTAL 1 PAGE or AFTER DETAIL SKIP 3"
     else if is_word word (codes "FORM") then codes "FORM takes three numbers, lines, first line and overflow line: FORM 66 6 60"
     else if is_word word (codes "TAPE") then codes "TAPE takes a channel and 1 to 10 stops: TAPE 3 10 20"
     else if is_word word (codes "END") then codes "END stands alone, and nothing behind it"
-    else codes "a line begins with FIELD, CONTROL, PRINT, HEAD, DETAIL, TOTAL, SPACE, AFTER, FORM, TAPE or END"
+    else near_word word

@@ -1,7 +1,7 @@
 -- The entry of a line that no form derives: its number and that of the fault, the line as it stands, a mark, the slip, and the nearest form.
-use Rattle.std.specs.Prelude.{ℕ, List, ◌++◌, codes}
+use Rattle.std.specs.Prelude.{ℕ, List, ◌++◌, codes, decimal}
 use Rattle.line_marks.specs.Entries.{below, head_line, shown}
-use Rattle.line_marks.specs.Spans.{word}
+use Rattle.line_marks.specs.Spans.{span_of, word}
 use Rattle.line_slips.specs.Forms.{form_words, slip_words}
 use Rattle.line_slips.specs.Slips.{slip_of, slip_span}
 
@@ -12,3 +12,17 @@ help_lines line = below (slip_words (slip_of line)) ++ below (form_words (word 0
 -- the entry of a line with a number
 unfoldable pub line_entry : ℕ → List ℕ → List ℕ
 line_entry number line = head_line number 13 (codes "NotALine") ++ shown line (slip_span line) ++ help_lines line
+
+-- what is wrong with a line behind END, which stands on this line
+unfoldable pub behind_wrong : ℕ → List ℕ
+behind_wrong end = codes "END stands on line " ++ decimal end ++ codes ", and ends the chart"
+
+-- what is told of it, of a chart and of a wiring chart
+unfoldable pub behind_told : ℕ → List ℕ → List ℕ
+behind_told end line =
+    shown line (span_of 0 line) ++ below (behind_wrong end)
+    ++ codes "  take out what stands behind END, or write END behind it\n"
+
+-- the entry of a line with a number that stands behind END
+unfoldable pub behind_entry : ℕ → ℕ → List ℕ → List ℕ
+behind_entry number end line = head_line number 13 (codes "NotALine") ++ behind_told end line

@@ -1,6 +1,7 @@
--- The slips of a line that no form derives: bytes that no line of a chart has, but in a literal.
-use Rattle.std.specs.Prelude.{ℕ, ◌+◌, ◌==◌, ◌&&◌, ◌||◌, Bool, false, List, Option, Some, None, position, fold, nat_le, not, if◌then◌else◌}
+-- The slips of a line that no form derives: bytes that no line of a chart has, or none outside of its literals.
+use Rattle.std.specs.Prelude.{ℕ, ◌+◌, ◌==◌, ◌&&◌, ◌||◌, Bool, false, List, [], ◌∷◌, Option, Some, None, position, fold, is_some, nat_le, not, if◌then◌else◌}
 use Rattle.std.specs.List.{list_any}
+use Rattle.charts.specs.Literal.{is_printable}
 use Rattle.line_marks.specs.Spans.{span_of}
 use Rattle.line_marks.specs.declared.span.Span.{Span}
 use Rattle.line_slips.specs.declared.slip.Slip.{Slip}
@@ -26,18 +27,33 @@ is_small byte = nat_le 97 byte && nat_le byte 122
 abbrev pub is_apostrophe : ℕ → Bool
 is_apostrophe byte = byte == 39
 
--- whether an odd number of bytes are apostrophes: each one closes what the one before it opened
+-- a byte that is neither printed nor an apostrophe
+abbrev pub is_unprintable : ℕ → Bool
+is_unprintable byte = not (is_printable byte) && not (is_apostrophe byte)
+
+-- whether an apostrophe is open behind a byte: each one closes what the one before it opened
+abbrev pub is_open : Bool → ℕ → Bool
+is_open before byte = if is_apostrophe byte then not before else before
+
+-- whether an odd number of bytes are apostrophes
 abbrev pub is_unclosed : List ℕ → Bool
-is_unclosed line = fold (λ unclosed byte. if is_apostrophe byte then not unclosed else unclosed) false line
+is_unclosed line = fold is_open false line
+
+-- where the first sign of a comment stands outside of literals, in bytes that begin at a place, behind an apostrophe that is open or none
+unfoldable pub comment_from : Bool → ℕ → List ℕ → Option ℕ
+comment_from before place [] = None
+comment_from before place (byte ∷ bytes) =
+    if not before && is_comment byte then Some place else comment_from (is_open before byte) (place + 1) bytes
 
 -- the slip of a line: the first of these that it has
 unfoldable pub slip_of : List ℕ → Slip
 slip_of line =
     if list_any is_tab line then slip.Tab
-    else if list_any is_comment line then slip.Comment
+    else if is_some (comment_from false 0 line) then slip.Comment
     else if list_any is_quotation line then slip.Quotation
     else if is_unclosed line then slip.Unclosed
     else if list_any is_small line then slip.Small
+    else if list_any is_unprintable line then slip.Unprintable
     else slip.Other
 
 -- the byte by which a slip is known
@@ -47,7 +63,13 @@ is_sign slip.Comment byte = is_comment byte
 is_sign slip.Quotation byte = is_quotation byte
 is_sign slip.Unclosed byte = is_apostrophe byte
 is_sign slip.Small byte = is_small byte
+is_sign slip.Unprintable byte = is_unprintable byte
 is_sign slip.Other byte = false
+
+-- where the first byte stands by which a slip is known: that of a comment outside of literals
+unfoldable pub sign_place : Slip → List ℕ → Option ℕ
+sign_place slip.Comment line = comment_from false 0 line
+sign_place other line = position (is_sign other) line
 
 -- one byte of a line
 abbrev pub byte_span : ℕ → Span
@@ -59,4 +81,4 @@ marked_span line (Some place) = byte_span place
 marked_span line None = span_of 0 line
 
 abbrev pub slip_span : List ℕ → Span
-slip_span line = marked_span line (position (is_sign (slip_of line)) line)
+slip_span line = marked_span line (sign_place (slip_of line) line)

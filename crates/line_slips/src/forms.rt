@@ -3,6 +3,7 @@
 ghost use Rattle.std.specs.Prelude.{◌≡◌};
 ghost use Rattle.line_slips.specs.Forms as law;
 
+use crate::near::is_near;
 use crate::slip::Slip;
 
 /// What is wrong by a slip.
@@ -17,6 +18,8 @@ pub(crate) fn slip_words(slip: Slip) -> &'static str
             "literals stand in apostrophes, '..', and a chart has ASCII characters alone",
         Slip::Unclosed => "an apostrophe is not closed",
         Slip::Small => "a chart has capital letters alone",
+        Slip::Unprintable =>
+            "this character can't be printed: a chart has capital letters, digits, blanks and & - / . $ * , % # @",
         Slip::Other => "the words of this line are those of no form of a chart",
     }
 }
@@ -26,6 +29,38 @@ pub fn is_word(word: &[u8], capitals: &[u8]) -> bool
     ensures { result ≡ law.is_word word.now capitals.now }
 {
     word.eq_ignore_ascii_case(capitals)
+}
+
+/// The first word of a line that may be meant.
+#[tactic(auto, unfolding(crate::specs::Forms::near_word))]
+fn near_word(word: &[u8]) -> &'static str
+    ensures { result.now ≡ law.near_word word.now }
+{
+    if is_near(b"FIELD", word) {
+        "did you mean FIELD?"
+    } else if is_near(b"CONTROL", word) {
+        "did you mean CONTROL?"
+    } else if is_near(b"PRINT", word) {
+        "did you mean PRINT?"
+    } else if is_near(b"HEAD", word) {
+        "did you mean HEAD?"
+    } else if is_near(b"DETAIL", word) {
+        "did you mean DETAIL?"
+    } else if is_near(b"TOTAL", word) {
+        "did you mean TOTAL?"
+    } else if is_near(b"SPACE", word) {
+        "did you mean SPACE?"
+    } else if is_near(b"AFTER", word) {
+        "did you mean AFTER?"
+    } else if is_near(b"FORM", word) {
+        "did you mean FORM?"
+    } else if is_near(b"TAPE", word) {
+        "did you mean TAPE?"
+    } else if is_near(b"END", word) {
+        "did you mean END?"
+    } else {
+        "a line begins with FIELD, CONTROL, PRINT, HEAD, DETAIL, TOTAL, SPACE, AFTER, FORM, TAPE or END"
+    }
 }
 
 /// The form of a word, in capital or small letters.
@@ -44,7 +79,7 @@ pub(crate) fn form_words(word: &[u8]) -> &'static str
     } else if is_word(word, b"DETAIL") {
         "DETAIL takes a wheel first: DETAIL 9 ITEM, DETAIL 9 'TEXT', and INDICATE 1 or MARK CR behind a name"
     } else if is_word(word, b"TOTAL") {
-        "TOTAL takes a level 1 to 4 and a wheel first: TOTAL 1 40 AMT 8, and MARK CR behind the digits, or TOTAL 1 9 'TEXT', or TOTAL 1 9 DEPT"
+        "TOTAL takes a level 1 to 4 and a wheel first: TOTAL 1 40 AMT 7, with MARK CR and in version 2 COUPLED behind the digits, or TOTAL 1 9 'TEXT', or TOTAL 1 9 DEPT"
     } else if is_word(word, b"SPACE") {
         "SPACE takes a kind of line and 1 to 3: SPACE DETAIL 2 or SPACE TOTAL 1 2"
     } else if is_word(word, b"AFTER") {
@@ -56,6 +91,6 @@ pub(crate) fn form_words(word: &[u8]) -> &'static str
     } else if is_word(word, b"END") {
         "END stands alone, and nothing behind it"
     } else {
-        "a line begins with FIELD, CONTROL, PRINT, HEAD, DETAIL, TOTAL, SPACE, AFTER, FORM, TAPE or END"
+        near_word(word)
     }
 }

@@ -1,9 +1,10 @@
 //! The slips of a line that no form derives.
 
-ghost use Rattle.std.specs.Prelude.{◌≡◌, ◌<◌, ◌≤◌, length, IfSome, position};
+ghost use Rattle.std.specs.Prelude.{◌≡◌, ◌<◌, ◌≤◌, false, length, position, IfSome};
 ghost use Rattle.std.specs.List.{list_any};
 ghost use Rattle.line_slips.specs.Slips as law;
 
+use card_code::Column;
 use line_marks::{Span, token_span};
 
 /// What is wrong with a line that no form derives, as far as its bytes tell it.
@@ -11,7 +12,7 @@ use line_marks::{Span, token_span};
 pub enum Slip {
     /// It has a tab.
     Tab,
-    /// It has a sign with which comments begin elsewhere, `#` or `;`.
+    /// It has a sign with which comments begin elsewhere, `#` or `;`, outside of literals.
     Comment,
     /// It has a quotation mark, or a byte that is no ASCII.
     Quotation,
@@ -19,6 +20,8 @@ pub enum Slip {
     Unclosed,
     /// It has a small letter.
     Small,
+    /// It has another character that no line can print.
+    Unprintable,
     /// None of these.
     Other,
 }
@@ -44,17 +47,39 @@ fn is_small(byte: u8) -> bool
     byte.is_ascii_lowercase()
 }
 
+/// Whether a byte is neither printed nor an apostrophe.
+fn is_unprintable(byte: u8) -> bool
+    ensures { result ≡ law.is_unprintable byte }
+{
+    let is_printable = Column::of_char(char::from(byte)).is_some() && byte != b'!';
+    !is_printable && byte != b'\''
+}
+
 /// Whether an odd number of bytes are apostrophes.
 fn is_unclosed(line: &[u8]) -> bool
     ensures { result ≡ law.is_unclosed line.now }
 {
     let mut unclosed = false;
     for byte in line {
-        if *byte == b'\'' {
-            unclosed = !unclosed;
-        }
+        unclosed ^= *byte == b'\'';
     }
     unclosed
+}
+
+/// Where the first sign of a comment stands outside of literals.
+#[tactic(auto, unfolding(crate::specs::Slips::comment_from))]
+fn comment_place(line: &[u8]) -> Option<usize>
+    ensures value { result ≡ law.comment_from false 0 line.now }
+    ensures within { IfSome result (λ place. place < length line.now) }
+{
+    let mut is_open = false;
+    for (place, byte) in line.iter().enumerate() {
+        if !is_open && is_comment(*byte) {
+            return Some(place);
+        }
+        is_open ^= *byte == b'\'';
+    }
+    None
 }
 
 /// Whether a line has a tab.
@@ -62,13 +87,6 @@ fn has_tab(line: &[u8]) -> bool
     ensures { result ≡ list_any law.is_tab line.now }
 {
     line.iter().any(|byte| *byte == b'\t')
-}
-
-/// Whether a line has a sign with which comments begin elsewhere.
-fn has_comment(line: &[u8]) -> bool
-    ensures { result ≡ list_any law.is_comment line.now }
-{
-    line.iter().any(|byte| is_comment(*byte))
 }
 
 /// Whether a line has a quotation mark or a byte that is no ASCII.
@@ -85,14 +103,21 @@ fn has_small(line: &[u8]) -> bool
     line.iter().any(|byte| is_small(*byte))
 }
 
-/// The slip of a line: the first of `Tab`, `Comment`, `Quotation`, `Unclosed` and `Small` that it has.
+/// Whether a line has a byte that is neither printed nor an apostrophe.
+fn has_unprintable(line: &[u8]) -> bool
+    ensures { result ≡ list_any law.is_unprintable line.now }
+{
+    line.iter().any(|byte| is_unprintable(*byte))
+}
+
+/// The slip of a line: the first of `Tab`, `Comment`, `Quotation`, `Unclosed`, `Small` and `Unprintable` that it has.
 #[tactic(auto, unfolding(crate::specs::Slips::slip_of))]
 pub fn slip_of(line: &[u8]) -> Slip
     ensures { result ≡ law.slip_of line.now }
 {
     if has_tab(line) {
         Slip::Tab
-    } else if has_comment(line) {
+    } else if comment_place(line).is_some() {
         Slip::Comment
     } else if has_quotation(line) {
         Slip::Quotation
@@ -100,6 +125,8 @@ pub fn slip_of(line: &[u8]) -> Slip
         Slip::Unclosed
     } else if has_small(line) {
         Slip::Small
+    } else if has_unprintable(line) {
+        Slip::Unprintable
     } else {
         Slip::Other
     }
@@ -115,16 +142,30 @@ fn is_sign(slip: Slip, byte: u8) -> bool
         Slip::Quotation => is_quotation(byte),
         Slip::Unclosed => byte == b'\'',
         Slip::Small => is_small(byte),
+        Slip::Unprintable => is_unprintable(byte),
         Slip::Other => false,
     }
 }
 
-/// Where the first byte stands by which a slip is known.
-fn sign_place(line: &[u8], slip: Slip) -> Option<usize>
+/// Where the first byte stands by which a slip is known, in a literal too.
+fn byte_place(line: &[u8], slip: Slip) -> Option<usize>
     ensures value { result ≡ position (law.is_sign slip) line.now }
     ensures within { IfSome result (λ place. place < length line.now) }
 {
     line.iter().position(|byte| is_sign(slip, *byte))
+}
+
+/// Where the first byte stands by which a slip is known.
+#[tactic(auto, unfolding(crate::specs::Slips::sign_place))]
+fn sign_place(line: &[u8], slip: Slip) -> Option<usize>
+    ensures value { result ≡ law.sign_place slip line.now }
+    ensures within { IfSome result (λ place. place < length line.now) }
+{
+    if slip == Slip::Comment {
+        comment_place(line)
+    } else {
+        byte_place(line, slip)
+    }
 }
 
 /// What is marked: the first byte by which the slip is known, or else the first word.

@@ -41,7 +41,6 @@ near_jack name =
 -- the number that a jack takes
 unfoldable pub jack_words : List ℕ → List ℕ
 jack_words name =
-    if bytes_eq name (codes "LIST") then codes "JACK LIST stands alone"
-    else if bytes_eq name (codes "TOTAL") then codes "JACK TOTAL takes a level 1 to 4"
+    if bytes_eq name (codes "TOTAL") then codes "JACK TOTAL takes a level 1 to 4"
     else if bytes_eq name (codes "HEAD") then codes "JACK HEAD takes a heading cycle 1 to 3"
     else codes "LINK, SUPPRESS and SYMBOL take a wheel 1 to 120"

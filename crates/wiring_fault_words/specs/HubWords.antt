@@ -1,5 +1,5 @@
 -- What is told of a word that stands where a hub is wanted.
-use Rattle.std.specs.Prelude.{ℕ, Bool, List, [], ◌++◌, codes, if◌then◌else◌}
+use Rattle.std.specs.Prelude.{ℕ, List, [], ◌++◌, codes, if◌then◌else◌}
 use Rattle.hub_table.specs.HubTable.{row_of}
 use Rattle.hub_table.specs.declared.letters.Letters.{Letters}
 use Rattle.hub_table.specs.declared.letters.Letters.TheVariants as kind
@@ -44,7 +44,7 @@ range_words kind.IE = codes "a level 1 to 3 and an indicate position 1 to 30"
 range_words kind.CSE = codes "column splits 1 to 16"
 range_words kind.W = codes "wheels 1 to 120"
 range_words kind.ST = codes "levels 1 to 3"
-range_words kind.SP = codes "2 or 3 lines"
+range_words kind.SP = codes "the hubs SP.2 and SP.3, for 2 and 3 lines"
 range_words kind.SK = codes "channels 1 to 12"
 range_words kind.RS = codes "no number"
 

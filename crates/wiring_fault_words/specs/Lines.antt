@@ -1,7 +1,8 @@
 -- What is told of a line that is none of a wiring chart.
-use Rattle.std.specs.Prelude.{ℕ, Bool, List, [], ◌++◌, Option, Some, None, codes, decimal, take, drop, nat_lt, if◌then◌else◌}
+use Rattle.std.specs.Prelude.{ℕ, Bool, List, [], ◌++◌, Option, Some, None, codes, take, drop, nat_lt, if◌then◌else◌}
 use Rattle.line_marks.specs.Entries.{below, shown}
-use Rattle.line_marks.specs.Spans.{span_of, word}
+use Rattle.line_marks.specs.Spans.{word}
+use Rattle.line_slips.specs.LineEntries.{behind_told}
 use Rattle.line_slips.specs.declared.slip.Slip.{Slip}
 use Rattle.line_slips.specs.declared.slip.Slip.TheVariants as slip
 use Rattle.wiring_slips.specs.HubWords.{second_place}
@@ -18,18 +19,23 @@ byte_words slip.Comment = codes "a wiring chart has no comments"
 byte_words slip.Quotation = codes "a wiring chart has no quotation marks, and ASCII characters alone"
 byte_words slip.Unclosed = codes "a wiring chart has no apostrophes"
 byte_words slip.Small = codes "a wiring chart has capital letters alone"
+byte_words slip.Unprintable = codes "this character stands on no line: a wiring chart has capital letters, digits, points and spaces"
 byte_words slip.Other = codes "this is no line of a wiring chart"
 
 -- a word with which no line begins
 unfoldable pub no_word : List ℕ → List ℕ
 no_word first = around (codes "no line begins with ") first []
 
+-- a word behind which others are wanting
+unfoldable pub alone_words : List ℕ → List ℕ
+alone_words first = around (codes "nothing stands behind ") first []
+
 -- what is wrong with a line
 unfoldable pub line_wrong : LineSlip → List ℕ → List ℕ
 line_wrong (line.Bytes bytes) text = byte_words bytes
 line_wrong line.TooFew text = codes "WIRE takes two hubs"
 line_wrong line.TwoInOne text = codes "two hubs stand in one word"
-line_wrong line.TooMany text = codes "a word too many stands here"
+line_wrong (line.TooMany place) text = codes "a word too many stands here"
 line_wrong (line.NoExit what) text = hub_wrong what (word 1 text)
 line_wrong (line.NoEntry what) text = hub_wrong what (word 2 text)
 line_wrong line.WiredCarry text = codes "in version 2 a carry has a line of its own"
@@ -37,6 +43,7 @@ line_wrong line.Channel text = codes "the channel of a stop is 2 to 11"
 line_wrong line.StopLine text = codes "a stop stands at a line of the form"
 line_wrong line.NoJack text = around (codes "the panel has no jack ") (word 1 text) []
 line_wrong line.JackNumber text = codes "the panel has no such jack"
+line_wrong line.Alone text = alone_words (word 0 text)
 line_wrong line.NewWord text = around [] (word 0 text) (codes " is a word of version 2")
 line_wrong line.Carry text = codes "these are not the numbers of a carry"
 line_wrong line.SecondForm text = codes "FORM stands on line 2 alone"
@@ -56,7 +63,7 @@ unfoldable pub line_cure : LineSlip → List ℕ → List ℕ
 line_cure (line.Bytes bytes) text = form_words (word 0 text)
 line_cure line.TooFew text = form_words (word 0 text)
 line_cure line.TwoInOne text = two_words (word 1 text)
-line_cure line.TooMany text = form_words (word 0 text)
+line_cure (line.TooMany place) text = form_words (word 0 text)
 line_cure (line.NoExit what) text = hub_cure what (word 1 text)
 line_cure (line.NoEntry what) text = hub_cure what (word 2 text)
 line_cure line.WiredCarry text =
@@ -65,6 +72,7 @@ line_cure line.Channel text = form_words (word 0 text)
 line_cure line.StopLine text = form_words (word 0 text)
 line_cure line.NoJack text = near_jack (word 1 text)
 line_cure line.JackNumber text = jack_words (word 1 text)
+line_cure line.Alone text = form_words (word 0 text)
 line_cure line.NewWord text = codes "write WIRING407 2 on line 1, or the carry as WIRE CO.3.1 CI.3.1"
 line_cure line.Carry text = form_words (word 0 text)
 line_cure line.SecondForm text = codes "take it out, or correct line 2"
@@ -74,16 +82,6 @@ line_cure line.NoWord text = near_word (word 0 text)
 -- what is told of a line by its slip
 unfoldable pub slip_told : LineSlip → List ℕ → List ℕ
 slip_told what text = shown text (line_span what text) ++ below (line_wrong what text) ++ below (line_cure what text)
-
--- what is wrong with a line behind END, which stands on this line
-unfoldable pub behind_wrong : ℕ → List ℕ
-behind_wrong end = codes "END stands on line " ++ decimal end ++ codes ", and ends the chart"
-
--- what is told of it
-unfoldable pub behind_told : ℕ → List ℕ → List ℕ
-behind_told end text =
-    shown text (span_of 0 text) ++ below (behind_wrong end)
-    ++ codes "  take out what stands behind END, or write END behind it\n"
 
 -- what is told of a line with a number, in version 2 of the language or not
 unfoldable pub misplaced_told : Bool → Option ℕ → ℕ → List ℕ → List ℕ

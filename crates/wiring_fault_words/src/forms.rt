@@ -80,9 +80,7 @@ pub(crate) fn near_jack(name: &[u8]) -> &'static str
 pub(crate) fn jack_words(name: &[u8]) -> &'static str
     ensures { result.now ≡ law.jack_words name.now }
 {
-    if is(name, b"LIST") {
-        "JACK LIST stands alone"
-    } else if is(name, b"TOTAL") {
+    if is(name, b"TOTAL") {
         "JACK TOTAL takes a level 1 to 4"
     } else if is(name, b"HEAD") {
         "JACK HEAD takes a heading cycle 1 to 3"

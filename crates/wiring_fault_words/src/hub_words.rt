@@ -34,7 +34,7 @@ fn range_words(letters: Letters) -> &'static str
         Letters::HX => "heading cycles 1 to 3",
         Letters::W => "wheels 1 to 120",
         Letters::ST => "levels 1 to 3",
-        Letters::SP => "2 or 3 lines",
+        Letters::SP => "the hubs SP.2 and SP.3, for 2 and 3 lines",
         Letters::SK => "channels 1 to 12",
     }
 }

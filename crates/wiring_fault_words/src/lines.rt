@@ -6,9 +6,8 @@ ghost use Rattle.wiring_fault_words.specs.Lines as law;
 
 use crate::forms::{form_words, jack_words, near_jack, near_word};
 use crate::hub_words::{write_around, write_hub_cure, write_hub_wrong, write_six};
-use line_marks::{token_span, word, write_shown};
-use line_slips::Slip;
-use numerals::write_between;
+use line_marks::{word, write_shown};
+use line_slips::{Slip, write_behind};
 use std::io;
 use std::io::Write;
 use wiring_slips::{LineSlip, line_slip, line_span, second_place};
@@ -23,6 +22,8 @@ fn byte_words(slip: Slip) -> &'static str
         Slip::Quotation => "a wiring chart has no quotation marks, and ASCII characters alone",
         Slip::Unclosed => "a wiring chart has no apostrophes",
         Slip::Small => "a wiring chart has capital letters alone",
+        Slip::Unprintable =>
+            "this character stands on no line: a wiring chart has capital letters, digits, points and spaces",
         Slip::Other => "this is no line of a wiring chart",
     }
 }
@@ -35,6 +36,14 @@ fn write_no_word<W: Write>(out: &mut W, first: &[u8]) -> io::Result<()>
     write_around(out, b"no line begins with ", first, b"")
 }
 
+/// Writes a word behind which others are wanting.
+#[tactic(auto, unfolding(crate::specs::Lines::alone_words))]
+fn write_alone<W: Write>(out: &mut W, first: &[u8]) -> io::Result<()>
+    ensures { OnOk result (Appends (W.contents out.old) (W.contents out.new) (law.alone_words first.now)) }
+{
+    write_around(out, b"nothing stands behind ", first, b"")
+}
+
 /// Writes what is wrong with a line.
 #[tactic(auto, unfolding(crate::specs::Lines::line_wrong))]
 fn write_wrong<W: Write>(out: &mut W, slip: LineSlip, line: &[u8]) -> io::Result<()>
@@ -44,7 +53,7 @@ fn write_wrong<W: Write>(out: &mut W, slip: LineSlip, line: &[u8]) -> io::Result
         LineSlip::Bytes(bytes) => out.write_all(byte_words(bytes).as_bytes()),
         LineSlip::TooFew => out.write_all(b"WIRE takes two hubs"),
         LineSlip::TwoInOne => out.write_all(b"two hubs stand in one word"),
-        LineSlip::TooMany => out.write_all(b"a word too many stands here"),
+        LineSlip::TooMany(_) => out.write_all(b"a word too many stands here"),
         LineSlip::NoExit(what) => write_hub_wrong(out, what, word(line, 1)),
         LineSlip::NoEntry(what) => write_hub_wrong(out, what, word(line, 2)),
         LineSlip::WiredCarry => out.write_all(b"in version 2 a carry has a line of its own"),
@@ -52,6 +61,7 @@ fn write_wrong<W: Write>(out: &mut W, slip: LineSlip, line: &[u8]) -> io::Result
         LineSlip::StopLine => out.write_all(b"a stop stands at a line of the form"),
         LineSlip::NoJack => write_around(out, b"the panel has no jack ", word(line, 1), b""),
         LineSlip::JackNumber => out.write_all(b"the panel has no such jack"),
+        LineSlip::Alone => write_alone(out, word(line, 0)),
         LineSlip::NewWord => write_around(out, b"", word(line, 0), b" is a word of version 2"),
         LineSlip::Carry => out.write_all(b"these are not the numbers of a carry"),
         LineSlip::SecondForm => out.write_all(b"FORM stands on line 2 alone"),
@@ -85,9 +95,10 @@ fn write_cure<W: Write>(out: &mut W, slip: LineSlip, line: &[u8]) -> io::Result<
     match slip {
         LineSlip::Bytes(_)
         | LineSlip::TooFew
-        | LineSlip::TooMany
+        | LineSlip::TooMany(_)
         | LineSlip::Channel
         | LineSlip::StopLine
+        | LineSlip::Alone
         | LineSlip::Carry
         | LineSlip::EndMore => out.write_all(form_words(word(line, 0)).as_bytes()),
         LineSlip::TwoInOne => write_two(out, word(line, 1)),
@@ -118,26 +129,6 @@ fn write_slip<W: Write>(out: &mut W, slip: LineSlip, line: &[u8]) -> io::Result<
     out.write_all(b"  ")?;
     write_cure(out, slip, line)?;
     out.write_all(b"\n")
-}
-
-/// Writes what is wrong with a line behind END, which stands on line `end`.
-#[tactic(auto, unfolding(crate::specs::Lines::behind_wrong))]
-fn write_behind_wrong<W: Write>(out: &mut W, end: u64) -> io::Result<()>
-    ensures { OnOk result (Appends (W.contents out.old) (W.contents out.new) (law.behind_wrong end)) }
-{
-    write_between(out, "END stands on line ", end, ", and ends the chart")
-}
-
-/// Writes what is told of a line behind END, which stands on line `end`.
-#[tactic(auto, unfolding(crate::specs::Lines::behind_told))]
-fn write_behind<W: Write>(out: &mut W, end: u64, line: &[u8]) -> io::Result<()>
-    ensures { OnOk result (Appends (W.contents out.old) (W.contents out.new) (law.behind_told end line.now)) }
-{
-    write_shown(out, line, token_span(line, 0))?;
-    out.write_all(b"  ")?;
-    write_behind_wrong(out, end)?;
-    out.write_all(b"\n")?;
-    out.write_all(b"  take out what stands behind END, or write END behind it\n")
 }
 
 /// Writes what is told of a line with a number, in version 2 of the language or not. `end` is the number of the first line that is END.

@@ -97,9 +97,22 @@ lettered letters tail = if is_unpointed tail then hub.Misnumbered letters else n
 unfoldable pub near_kind : List ℕ → Option Letters
 near_kind word = find (λ letters. is_near (row_of letters).spelled word) (exit_kinds ++ entry_kinds)
 
+-- whether letters are a letter away, and the panel has their hub of the numbers that stand behind
+abbrev pub is_meant : List ℕ → List ℕ → Letters → Bool
+is_meant word tail letters = is_near (row_of letters).spelled word && is_there letters (numbers_in tail)
+
+-- the first such letters
+unfoldable pub meant_kind : List ℕ → List ℕ → Option Letters
+meant_kind word tail = find (is_meant word tail) (exit_kinds ++ entry_kinds)
+
+-- these, or else letters that are a letter away
+abbrev pub nearest_kind : Option Letters → List ℕ → Option Letters
+nearest_kind (Some letters) word = Some letters
+nearest_kind None word = near_kind word
+
 -- such letters of a word of two letters or more; of a single letter nothing is left to know it by
-abbrev pub near_letters : List ℕ → Option Letters
-near_letters word = if nat_lt (length word) 2 then None else near_kind word
+unfoldable pub near_letters : List ℕ → List ℕ → Option Letters
+near_letters word tail = if nat_lt (length word) 2 then None else nearest_kind (meant_kind word tail) word
 
 -- a word of letters that no hub has
 abbrev pub misspelt : Option Letters → HubWord
@@ -108,7 +121,7 @@ misspelt None = hub.Unknown
 
 abbrev pub spelled_by : Option Letters → List ℕ → HubWord
 spelled_by (Some letters) word = lettered letters (tail_of word)
-spelled_by None word = misspelt (near_letters (letters_in word))
+spelled_by None word = misspelt (near_letters (letters_in word) (tail_of word))
 
 -- what a word is
 unfoldable pub hub_word : List ℕ → HubWord

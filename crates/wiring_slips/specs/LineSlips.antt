@@ -1,13 +1,15 @@
 -- What is wrong with a line that is none of a wiring chart, as far as the line tells it. Words are counted from 0.
-use Rattle.std.specs.Prelude.{◌≡◌, ℕ, ◌&&◌, ◌||◌, Bool, true, false, not, List, [], Option, Some, None, is_some, codes, nat_le, if◌then◌else◌}
+use Rattle.std.specs.Prelude.{◌≡◌, ℕ, ◌==◌, ◌&&◌, ◌||◌, Bool, true, false, not, List, [], Option, Some, None, is_some, codes, nat_le, if◌then◌else◌}
 use Rattle.std.specs.Str.{bytes_eq}
+use Rattle.hub_table.specs.declared.shape.Numbers.{Numbers}
+use Rattle.hub_table.specs.declared.shape.Numbers.TheVariants.{Two}
 use Rattle.line_marks.specs.Spans.{span_of, word}
 use Rattle.line_marks.specs.declared.span.Span.{Span}
 use Rattle.line_slips.specs.Slips.{slip_of, slip_span}
 use Rattle.line_slips.specs.declared.slip.Slip.{Slip}
 use Rattle.line_slips.specs.declared.slip.Slip.TheVariants as slip
 use Rattle.tokens.specs.NumberReading.{number_of, number_to}
-use Rattle.wiring_slips.specs.HubWords.{hub_word, is_name, is_two}
+use Rattle.wiring_slips.specs.HubWords.{from_one, hub_word, is_name, is_two}
 use Rattle.wiring_slips.specs.declared.hub.HubWord.{HubWord}
 use Rattle.wiring_slips.specs.declared.line.LineSlip.{LineSlip}
 use Rattle.wiring_slips.specs.declared.line.LineSlip.TheVariants as line
@@ -30,7 +32,7 @@ hubs_slip exit entry is_whole =
     if not (is_name exit) then line.NoExit exit
     else if not (is_name entry) then line.NoEntry entry
     else if is_whole then line.WiredCarry
-    else line.TooMany
+    else line.TooMany 3
 
 unfoldable pub wire_slip : List ℕ → LineSlip
 wire_slip text =
@@ -45,7 +47,7 @@ unfoldable pub stop_slip : List ℕ → LineSlip
 stop_slip text =
     if not (is_stop_channel (number_to 11 (word 1 text))) then line.Channel
     else if not (is_some (number_of (word 2 text))) then line.StopLine
-    else line.TooMany
+    else line.TooMany 3
 
 -- whether a word is the name of jacks
 unfoldable pub is_jack : List ℕ → Bool
@@ -53,8 +55,49 @@ is_jack name =
     bytes_eq name (codes "LIST") || (bytes_eq name (codes "TOTAL") || (bytes_eq name (codes "HEAD") || (bytes_eq name (codes "LINK")
     || (bytes_eq name (codes "SUPPRESS") || bytes_eq name (codes "SYMBOL")))))
 
+-- the greatest number of the jacks of a name
+unfoldable pub last_jack : List ℕ → ℕ
+last_jack name = if bytes_eq name (codes "TOTAL") then 4 else if bytes_eq name (codes "HEAD") then 3 else 120
+
+-- of a name of jacks: a word behind the jack, or its number
+unfoldable pub numbered_slip : List ℕ → List ℕ → LineSlip
+numbered_slip name number =
+    if bytes_eq name (codes "LIST") then line.TooMany 2
+    else if is_some (number_to (last_jack name) number) then line.TooMany 3
+    else line.JackNumber
+
 unfoldable pub jack_slip : List ℕ → LineSlip
-jack_slip text = if is_jack (word 1 text) then line.JackNumber else line.NoJack
+jack_slip text =
+    if lacks 1 text then line.Alone
+    else if is_jack (word 1 text) then numbered_slip (word 1 text) (word 2 text)
+    else line.NoJack
+
+-- whether numbers are two, as those of a counter group
+abbrev pub are_two : Option Numbers → Bool
+are_two (Some (Two width number)) = true
+are_two other = false
+
+-- whether two numbers are different
+abbrev pub are_different : Option ℕ → Option ℕ → Bool
+are_different (Some one) (Some other) = not (one == other)
+are_different one other = false
+
+-- whether the words behind RING or COUPLE begin as those of a carry
+abbrev pub is_ring : List ℕ → Bool
+is_ring text = are_two (from_one (word 1 text))
+
+abbrev pub is_couple : List ℕ → Bool
+is_couple text = are_different (number_of (word 1 text)) (number_of (word 2 text))
+
+-- a word behind the carry, or its numbers
+abbrev pub behind_slip : Bool → ℕ → LineSlip
+behind_slip is_carry place = if is_carry then line.TooMany place else line.Carry
+
+unfoldable pub carry_words_slip : List ℕ → LineSlip
+carry_words_slip text =
+    if lacks 1 text then line.Alone
+    else if begins_with text (codes "RING") then behind_slip (is_ring text) 2
+    else behind_slip (is_couple text) 3
 
 -- what is wrong with the words of a line, in version 2 of the language or not
 unfoldable pub word_slip : Bool → List ℕ → LineSlip
@@ -62,7 +105,7 @@ word_slip is_second text =
     if begins_with text (codes "WIRE") then wire_slip text
     else if begins_with text (codes "STOP") then stop_slip text
     else if begins_with text (codes "JACK") then jack_slip text
-    else if begins_with text (codes "RING") || begins_with text (codes "COUPLE") then (if is_second then line.Carry else line.NewWord)
+    else if begins_with text (codes "RING") || begins_with text (codes "COUPLE") then (if is_second then carry_words_slip text else line.NewWord)
     else if begins_with text (codes "FORM") then line.SecondForm
     else if begins_with text (codes "END") then line.EndMore
     else line.NoWord
@@ -81,7 +124,7 @@ abbrev pub slip_place : LineSlip → ℕ
 slip_place (line.Bytes bytes) = 0
 slip_place line.TooFew = 0
 slip_place line.TwoInOne = 1
-slip_place line.TooMany = 3
+slip_place (line.TooMany place) = place
 slip_place (line.NoExit hub) = 1
 slip_place (line.NoEntry hub) = 2
 slip_place line.WiredCarry = 1
@@ -89,6 +132,7 @@ slip_place line.Channel = 1
 slip_place line.StopLine = 2
 slip_place line.NoJack = 1
 slip_place line.JackNumber = 2
+slip_place line.Alone = 0
 slip_place line.NewWord = 0
 slip_place line.Carry = 1
 slip_place line.SecondForm = 0

@@ -104,7 +104,7 @@ fn from_two(first: u16, text: &[u8]) -> Option<Numbers>
 }
 
 /// Numbers with points between them.
-fn from_one(text: &[u8]) -> Option<Numbers>
+pub(crate) fn from_one(text: &[u8]) -> Option<Numbers>
     ensures { result ≡ law.from_one text.now }
 {
     let end = bytes_before_point(text);
@@ -207,14 +207,41 @@ fn near_kind(word: &[u8]) -> Option<Letters>
     first_near(&KINDS, word)
 }
 
-/// The first letters of the hub table that are a letter away from a word of two letters or more.
-fn near_letters(word: &[u8]) -> Option<Letters>
-    ensures { result ≡ law.near_letters word.now }
+/// Whether letters are a letter away from a word, and the panel has their hub of the numbers that stand behind it.
+fn is_meant(letters: Letters, word: &[u8], tail: &[u8]) -> bool
+    ensures { result ≡ law.is_meant word.now tail.now letters }
+{
+    is_near(letters.spelled().as_bytes(), word) && is_there(letters, tail)
+}
+
+/// The first of some letters that may be meant.
+fn first_meant(kinds: &[Letters], word: &[u8], tail: &[u8]) -> Option<Letters>
+    ensures { result ≡ find (law.is_meant word.now tail.now) kinds.now }
+{
+    kinds
+        .iter()
+        .copied()
+        .find(|letters| is_meant(*letters, word, tail))
+}
+
+/// The first letters of the hub table that are a letter away from a word, and whose hub of the numbers behind it the panel has.
+fn meant_kind(word: &[u8], tail: &[u8]) -> Option<Letters>
+    ensures { result ≡ law.meant_kind word.now tail.now }
+{
+    first_meant(&KINDS, word, tail)
+}
+
+/// The first letters of the hub table that are a letter away from a word of two letters or more: of those whose hub the panel has, or else of all.
+#[tactic(auto, unfolding(crate::specs::HubWords::near_letters))]
+fn near_letters(word: &[u8], tail: &[u8]) -> Option<Letters>
+    ensures { result ≡ law.near_letters word.now tail.now }
 {
     if word.len() < 2 {
-        None
-    } else {
-        near_kind(word)
+        return None;
+    }
+    match meant_kind(word, tail) {
+        Some(letters) => Some(letters),
+        None => near_kind(word),
     }
 }
 
@@ -226,7 +253,7 @@ pub fn hub_word(word: &[u8]) -> HubWord
     let spelled = letters_in(word);
     match letters_of(spelled) {
         Some(letters) => lettered(letters, tail_of(word)),
-        None => match near_letters(spelled) {
+        None => match near_letters(spelled, tail_of(word)) {
             Some(letters) => HubWord::Misspelt(letters),
             None => HubWord::Unknown,
         },

@@ -4,7 +4,8 @@ ghost use Rattle.std.specs.Prelude.{◌≡◌, ◌≤◌, length};
 ghost use Rattle.tokens.specs.NumberReading.{number_to};
 ghost use Rattle.wiring_slips.specs.LineSlips as law;
 
-use crate::hub::{HubWord, hub_word, is_two};
+use crate::hub::{HubWord, from_one, hub_word, is_two};
+use hub_table::Numbers;
 use line_marks::{Span, token_span, word};
 use line_slips::{Slip, slip_of, slip_span};
 use tokens::{is, read_number, read_number_to};
@@ -18,8 +19,8 @@ pub enum LineSlip {
     TooFew,
     /// `WIRE` with one word, in which two hubs stand.
     TwoInOne,
-    /// A word stands behind the last one of the form.
-    TooMany,
+    /// A word stands behind the last one of the form: at this place among the words.
+    TooMany(usize),
     /// The first word behind `WIRE` is no hub as it is written.
     NoExit(HubWord),
     /// The second word behind `WIRE` is no hub as it is written.
@@ -32,8 +33,10 @@ pub enum LineSlip {
     StopLine,
     /// The word behind `JACK` is the name of no jack.
     NoJack,
-    /// The number of `JACK` is wanting or out of range, or it is there and not wanted.
+    /// The number of `JACK` is wanting or out of range.
     JackNumber,
+    /// Nothing stands behind `JACK`, `RING` or `COUPLE`.
+    Alone,
     /// `RING` or `COUPLE` in version 1.
     NewWord,
     /// `RING` or `COUPLE` without the numbers that it takes.
@@ -83,7 +86,7 @@ fn hubs_slip(exit: HubWord, entry: HubWord, is_whole: bool) -> LineSlip
     } else if is_whole {
         LineSlip::WiredCarry
     } else {
-        LineSlip::TooMany
+        LineSlip::TooMany(3)
     }
 }
 
@@ -123,7 +126,7 @@ fn stop_slip(line: &[u8]) -> LineSlip
     } else if read_number(word(line, 2)).is_none() {
         LineSlip::StopLine
     } else {
-        LineSlip::TooMany
+        LineSlip::TooMany(3)
     }
 }
 
@@ -140,15 +143,105 @@ fn is_jack(name: &[u8]) -> bool
         || is(name, b"SYMBOL")
 }
 
+/// The greatest number of the jacks of a name.
+#[tactic(auto, unfolding(crate::specs::LineSlips::last_jack))]
+fn last_jack(name: &[u8]) -> u8
+    ensures { result ≡ law.last_jack name.now }
+{
+    if is(name, b"TOTAL") {
+        4
+    } else if is(name, b"HEAD") {
+        3
+    } else {
+        120
+    }
+}
+
+/// What is wrong with a line that names jacks: a word behind the jack, or its number.
+#[tactic(auto, unfolding(crate::specs::LineSlips::numbered_slip))]
+fn numbered_slip(name: &[u8], number: &[u8]) -> LineSlip
+    ensures { result ≡ law.numbered_slip name.now number.now }
+{
+    if is(name, b"LIST") {
+        LineSlip::TooMany(2)
+    } else if read_number_to(last_jack(name), number).is_some() {
+        LineSlip::TooMany(3)
+    } else {
+        LineSlip::JackNumber
+    }
+}
+
 /// What is wrong with a line that begins with `JACK`.
 #[tactic(auto, unfolding(crate::specs::LineSlips::jack_slip))]
 fn jack_slip(line: &[u8]) -> LineSlip
     ensures { result ≡ law.jack_slip line.now }
 {
-    if is_jack(word(line, 1)) {
-        LineSlip::JackNumber
+    let name = word(line, 1);
+    if lacks(line, 1) {
+        LineSlip::Alone
+    } else if is_jack(name) {
+        numbered_slip(name, word(line, 2))
     } else {
         LineSlip::NoJack
+    }
+}
+
+/// Whether numbers are two, as those of a counter group.
+fn are_two(numbers: Option<Numbers>) -> bool
+    ensures { result ≡ law.are_two numbers }
+{
+    match numbers {
+        Some(Numbers::Two(..)) => true,
+        _ => false,
+    }
+}
+
+/// Whether two numbers are there and different.
+fn are_different(one: Option<u16>, other: Option<u16>) -> bool
+    ensures { result ≡ law.are_different one other }
+{
+    match (one, other) {
+        (Some(one), Some(other)) => one != other,
+        _ => false,
+    }
+}
+
+/// Whether the words behind `RING` begin as those of a carry.
+fn is_ring(line: &[u8]) -> bool
+    ensures { result ≡ law.is_ring line.now }
+{
+    are_two(from_one(word(line, 1)))
+}
+
+/// Whether the words behind `COUPLE` do.
+fn is_couple(line: &[u8]) -> bool
+    ensures { result ≡ law.is_couple line.now }
+{
+    are_different(read_number(word(line, 1)), read_number(word(line, 2)))
+}
+
+/// A word behind a carry, or the numbers of one.
+fn behind_slip(is_carry: bool, place: usize) -> LineSlip
+    ensures { result ≡ law.behind_slip is_carry place }
+{
+    if is_carry {
+        LineSlip::TooMany(place)
+    } else {
+        LineSlip::Carry
+    }
+}
+
+/// What is wrong with a line that begins with `RING` or `COUPLE`, in version 2.
+#[tactic(auto, unfolding(crate::specs::LineSlips::carry_words_slip))]
+fn carry_words_slip(line: &[u8]) -> LineSlip
+    ensures { result ≡ law.carry_words_slip line.now }
+{
+    if lacks(line, 1) {
+        LineSlip::Alone
+    } else if begins_with(line, b"RING") {
+        behind_slip(is_ring(line), 2)
+    } else {
+        behind_slip(is_couple(line), 3)
     }
 }
 
@@ -165,7 +258,7 @@ fn word_slip(is_second: bool, line: &[u8]) -> LineSlip
         jack_slip(line)
     } else if begins_with(line, b"RING") || begins_with(line, b"COUPLE") {
         if is_second {
-            LineSlip::Carry
+            carry_words_slip(line)
         } else {
             LineSlip::NewWord
         }
@@ -196,6 +289,7 @@ fn slip_place(slip: LineSlip) -> usize
     match slip {
         LineSlip::Bytes(_)
         | LineSlip::TooFew
+        | LineSlip::Alone
         | LineSlip::NewWord
         | LineSlip::SecondForm
         | LineSlip::NoWord => 0,
@@ -207,7 +301,7 @@ fn slip_place(slip: LineSlip) -> usize
         | LineSlip::Carry
         | LineSlip::EndMore => 1,
         LineSlip::NoEntry(_) | LineSlip::StopLine | LineSlip::JackNumber => 2,
-        LineSlip::TooMany => 3,
+        LineSlip::TooMany(place) => place,
     }
 }
 
