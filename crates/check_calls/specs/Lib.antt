@@ -1,3 +1,5 @@
+pub mod Grouped
+pub mod Large
 pub mod Laws
 pub mod Served
 pub mod Showing

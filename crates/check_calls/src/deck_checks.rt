@@ -23,4 +23,5 @@ mod standing;
 
 pub use checking::check_cards;
 pub use laws::decks_without_faults_fit;
+pub(crate) use listing::put;
 pub use shown::{Shown, show_cards};

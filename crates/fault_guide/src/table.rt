@@ -36,7 +36,7 @@ static DECK_TEXTS: [Words; 4] = [
     Words {
         name: "NoSuchCharacter",
         cause: "the byte at column C of card K is no deck character",
-        cure: "decks have capital letters, digits, blanks and & - / . $ * , % # @ !; small letters, tabs and accents have no card code. Row 11 over 0 is typed !, and a plus of row 12 &; cut off a ctrl-Z behind the last card, and a byte order mark in front of the first",
+        cure: "decks have capital letters, digits, blanks and & - / . $ * , % # @ !; small letters, tabs and accents have no card code. run407 fold prints a text as a deck, with capitals for small letters and blanks for tabs and for what no card has. Row 11 over 0 is typed !, and a plus of row 12 &; cut off a ctrl-Z behind the last card, and a byte order mark in front of the first",
         example: "bolt",
     },
     Words {
@@ -370,7 +370,7 @@ static MATCHES: [Words; 2] = [
     Words {
         name: "Unwired",
         cause: "no plan is found by which the panel is wired for the chart: A wires, jacks and stops are missing and B are too much, by the plan that is printed; another form counts once as missing and once as too much",
-        cure: "wire what stands under missing, by the line of the chart that asks for it, and take out what stands under too much. Where all wires of a total seem wrong, the group that they name is too narrow for it, or of two coupled ones the lower digits stand in the one with the higher number. Where those of another part do, look whether its first wires name a part that another thing has too",
+        cure: "wire what stands under missing, by the line of the chart that asks for it, and take out what stands under too much. Where all wires of a total seem wrong, the group that they name is too narrow for it, and match says so, as line 8: group 3.1 is too narrow: 4 positions are needed; or of two coupled ones the lower digits stand in the one with the higher number. Where those of another part do, look whether its first wires name a part that another thing has too",
         example: "run407 match my.chart my.wiring where the wiring chart lacks a wire",
     },
     Words {

@@ -1,12 +1,14 @@
 -- What a list of faults comes to.
-use Rattle.std.proofs.Common.{◌≡◌, ◌≢◌, ℕ, List, [], ◌∷◌, Option, Result, Ok, Err, IfErr, OnOk, refl, ap, arith, inl, inr, codes, subst}
+use Rattle.std.proofs.Common.{◌≡◌, ◌≢◌, ◌⊎◌, ◌∙◌, ℕ, List, [], ◌∷◌, Option, Result, Ok, Err, IfErr, OnOk, refl, ap, arith, inl, inr, codes, subst, AllPairs}
 use Rattle.std.proofs.KnownBytes.{Appends-trans}
 use Rattle.std.specs.Io.KnownBytes.{Appends}
-use Rattle.allocate.specs.Exceeded.{FitsMachine, HasCapacityFault}
+use Rattle.allocate.specs.Exceeded.{FitsMachine, HasCapacityFault, in_order}
 use Rattle.capacity.specs.Capacities.{standard}
 use Rattle.plans.specs.Below.wanted.Wanted.{wanted_of}
+use Rattle.capacity_faults.specs.AllOver.{AreAllOver}
+use Rattle.capacity_faults.proofs.First.{first_is}
 use Rattle.charts.specs.Chart.{Chart}
-use Rattle.chart_faults.specs.Listed.{HasAllListed}
+use Rattle.chart_faults.specs.Listed.{BeginsAsChecked, ComesBefore, HasAllListed}
 use Rattle.chart_faults.specs.declared.listing.BrokenRule.{BrokenRule}
 use Rattle.chart_faults.proofs.Exact.{broken_of}
 use Rattle.chart_rules.specs.RuleFaults.{IsTold}
@@ -21,23 +23,55 @@ use Rattle.fault_words.specs.Entries.{entries_text}
 use Rattle.faults.specs.ChartCauses.{of_rule, of_text}
 use Rattle.faults.specs.Told.{chart_told}
 use Rattle.faults.specs.declared.fault.Fault.{Fault}
-use Rattle.fault_lists.specs.Endings.{AnswersOk, EndsCapacity, EndsListing, HasListed, by_capacity, by_rules, by_text, broken_off}
-use Rattle.fault_lists.specs.TextEntries.{text_entry}
+use Rattle.fault_lists.specs.Endings.{AnswersOk, EndsCapacity, EndsListing, HasListed, WritesBehind, WritesText, by_capacity, by_rules, by_text, broken_off}
+use Rattle.fault_lists.specs.TextEntries.{capacities_text, text_entry}
 use Rattle.misread_lines.specs.Misread.{AreMisread}
 
 -- a fault of a text
 pub text_lists : (source lines : List ℕ) (old new : Option (List ℕ)) (cause : TextFault) (fault : Fault)
     → (cause ≢ text.Memory → HasTextFault source cause) → AreMisread 500 source lines → fault ≡ chart_told (of_text cause)
-    → Appends old new (text_entry source lines cause) → EndsListing source old new fault
-text_lists source lines old new text.TooLarge fault has misread is written =
-    by_text (record { cause = text.TooLarge; at_fault = has (λ same. cc); lines = lines; misread = misread; is_told = is; written = written })
-text_lists source lines old new text.NoFirstLine fault has misread is written =
-    by_text (record { cause = text.NoFirstLine; at_fault = has (λ same. cc); lines = lines; misread = misread; is_told = is; written = written })
-text_lists source lines old new (text.NotALine line) fault has misread is written =
-    by_text (record { cause = text.NotALine line; at_fault = has (λ same. cc); lines = lines; misread = misread; is_told = is; written = written })
-text_lists source lines old new text.NoEnd fault has misread is written =
-    by_text (record { cause = text.NoEnd; at_fault = has (λ same. cc); lines = lines; misread = misread; is_told = is; written = written })
-text_lists source lines old new text.Memory fault has misread is written = broken_off (inl is)
+    → WritesText source lines cause old new → EndsListing source old new fault
+text_lists source lines old new cause fault has misread is writes = by (memory_or_not cause)
+  where
+    memory_or_not : (cause : TextFault) → (cause ≡ text.Memory) ⊎ (cause ≢ text.Memory)
+    memory_or_not text.TooLarge = inr (λ same. cc)
+    memory_or_not text.NoFirstLine = inr (λ same. cc)
+    memory_or_not (text.NotALine line) = inr (λ same. cc)
+    memory_or_not text.NoEnd = inr (λ same. cc)
+    memory_or_not text.Memory = inl refl
+
+    by : (cause ≡ text.Memory) ⊎ (cause ≢ text.Memory) → EndsListing source old new fault
+    by (inl none) = broken_off (inl (is ∙ ap (λ c. chart_told (of_text c)) none))
+    by (inr some) =
+        by_text (record {
+          cause = cause;
+          at_fault = has some;
+          lines = lines;
+          misread = misread;
+          is_told = is;
+          rest = writes.rest;
+          behind = writes.tells;
+          written = writes.written;
+        })
+
+-- the entry was written, and what is behind it
+pub text_written : {U E : Type 0} (result : Result U E) (source lines : List ℕ) (cause : TextFault) (old middle new : Option (List ℕ))
+    → Appends old middle (text_entry source lines cause) → OnOk result (WritesBehind source lines cause middle new)
+    → OnOk result (WritesText source lines cause old new)
+text_written (Ok x) source lines cause old middle new entry behind = record {
+  rest = behind.rest;
+  tells = behind.tells;
+  written = Appends-trans old middle new (text_entry source lines cause) behind.rest entry behind.written;
+}
+text_written (Err e) source lines cause old middle new entry behind = tt
+
+-- the rules that a chart breaks were written
+pub rules_written : {U E : Type 0} (result : Result U E) (source : List ℕ) (chart : Chart) (list : List BrokenRule) (old new : Option (List ℕ))
+    → HasAllListed chart list → AllPairs ComesBefore list → BeginsAsChecked chart list → OnOk result (Appends old new (entries_text source chart list))
+    → OnOk result (HasListed source chart old new)
+rules_written (Ok x) source chart list old new all ordered begins written =
+    record { list = list; all = all; ordered = ordered; begins = begins; written = written }
+rules_written (Err e) source chart list old new all ordered begins written = tt
 
 -- nothing is listed of a lawful chart
 pub nothing_listed : (chart : Chart) (list : List BrokenRule) → HasAllListed chart list → IsLawful chart → list ≡ []
@@ -77,15 +111,19 @@ ok_answered (Err fault) source raw chart old middle new reads same lawful listed
 ends_by : (source : List ℕ) (raw chart : Chart) (old middle new : Option (List ℕ)) (fault : Fault) → Reads source raw → chart ≡ raw
     → IsLawful raw → HasListed source raw old middle → EndsCapacity chart middle new fault → EndsListing source old new fault
 ends_by source raw chart old middle new fault reads same lawful listed (inl off) = broken_off off
-ends_by source raw chart old middle new fault reads same lawful listed (inr (cause, has, is, written)) =
+ends_by source raw chart old middle new fault reads same lawful listed (inr (cause, has, is, (all, are, written))) =
     by_capacity (record {
       chart = raw;
       reads = reads;
       lawful = lawful;
       cause = cause;
       exceeds = subst (λ (c : Chart). HasCapacityFault (wanted_of c.lines) standard cause) same has;
+      all = all;
+      are_all = subst (λ (c : Chart). AreAllOver (wanted_of c.lines) standard in_order all) same are;
+      first = first_is (wanted_of chart.lines) standard cause has all are;
       is_told = is;
-      written = unwritten source raw old middle new _ listed lawful written;
+      written = unwritten source raw old middle new (capacities_text (wanted_of raw.lines).totals all) listed lawful
+          (subst (λ (c : Chart). Appends middle new (capacities_text (wanted_of c.lines).totals all)) same written);
     })
 
 pub capacity_listed : {U : Type 0} (answer : Result U Fault) (source : List ℕ) (raw chart : Chart) (old middle new : Option (List ℕ)) → Reads source raw → chart ≡ raw

@@ -1,1 +1,4 @@
-pub mod Ends
+mod Ends
+mod Lefts
+mod Reading
+mod Rests

@@ -1,9 +1,10 @@
 -- What is listed of a chart, and what is told. What is written is known where the writer tells what it holds.
-use Rattle.std.specs.Prelude.{◌≡◌, ℕ, List, Option, ◌⊎◌, codes, AllPairs}
+use Rattle.std.specs.Prelude.{◌≡◌, ℕ, List, [], ◌++◌, Option, Some, ◌⊎◌, codes, slice_get, AllPairs}
 use Rattle.std.specs.Io.KnownBytes.{Appends}
-use Rattle.allocate.specs.Exceeded.{FitsMachine, HasCapacityFault}
+use Rattle.allocate.specs.Exceeded.{FitsMachine, HasCapacityFault, in_order}
 use Rattle.allocate.specs.declared.fault.CapacityFault.{CapacityFault}
 use Rattle.capacity.specs.Capacities.{standard}
+use Rattle.capacity_faults.specs.AllOver.{AreAllOver}
 use Rattle.charts.specs.Chart.{Chart}
 use Rattle.plans.specs.Below.wanted.Wanted.{wanted_of}
 use Rattle.chart_faults.specs.Listed.{BeginsAsChecked, ComesBefore, HasAllListed, IsFirstByRule}
@@ -13,13 +14,15 @@ use Rattle.chart_rules.specs.declared.rule.Rule.{Rule}
 use Rattle.chart_text.specs.ChartText.{Reads}
 use Rattle.chart_text.specs.TextFaults.{HasTextFault}
 use Rattle.chart_text.specs.declared.fault.TextFault.{TextFault}
+use Rattle.chart_text.specs.declared.fault.TextFault.TheVariants as text
 use Rattle.fault_words.specs.Entries.{entries_text}
 use Rattle.misread_lines.specs.Misread.{AreMisread}
 use Rattle.faults.specs.ChartCauses.{of_text}
 use Rattle.faults.specs.Told.{capacity_told, chart_told}
 use Rattle.faults.specs.declared.fault.Fault.{Fault}
 use Rattle.faults.specs.declared.fault.Fault.TheVariants as told
-use Rattle.fault_lists.specs.TextEntries.{capacity_entry, text_entry}
+use Rattle.fault_lists.specs.Behind.{TellsRest}
+use Rattle.fault_lists.specs.TextEntries.{capacities_text, text_entry}
 
 -- the text is a chart that breaks no rule and fits the standard machine
 pub record HasGoodChart (text : List ℕ) : Type 0 where
@@ -48,24 +51,47 @@ pub record ListsRules (text : List ℕ) (old new : Option (List ℕ)) (fault : F
   pub is_told : fault ≡ told.Line (rule_number rule) line
   pub written : Appends old new (entries_text text chart list)
 
--- the fault of a text is listed and told; where a line is none of a chart, all lines that are none are listed
+-- what is listed behind the entry of a fault of a text: behind lines that are none of a chart, what is wrong besides
+abbrev pub TellsBehind : (source lines : List ℕ) → TextFault → List ℕ → Type 0
+TellsBehind source lines (text.NotALine line) rest = TellsRest source lines rest
+TellsBehind source lines other rest = rest ≡ []
+
+-- so it was written
+pub record WritesBehind (source lines : List ℕ) (cause : TextFault) (old new : Option (List ℕ)) : Type 0 where
+  pub rest : List ℕ
+  pub tells : TellsBehind source lines cause rest
+  pub written : Appends old new rest
+
+-- behind the entry itself
+pub record WritesText (source lines : List ℕ) (cause : TextFault) (old new : Option (List ℕ)) : Type 0 where
+  pub rest : List ℕ
+  pub tells : TellsBehind source lines cause rest
+  pub written : Appends old new (text_entry source lines cause ++ rest)
+
+-- the fault of a text is listed and told; where a line is none of a chart, all lines that are none are listed, and behind them what is wrong
+-- besides
 pub record ListsText (text : List ℕ) (old new : Option (List ℕ)) (fault : Fault) : Type 0 where
   pub cause : TextFault
   pub at_fault : HasTextFault text cause
   pub lines : List ℕ
   pub misread : AreMisread 500 text lines
   pub is_told : fault ≡ chart_told (of_text cause)
-  pub written : Appends old new (text_entry text lines cause)
+  pub rest : List ℕ
+  pub behind : TellsBehind text lines cause rest
+  pub written : Appends old new (text_entry text lines cause ++ rest)
 
--- the first capacity that the chart of a text exceeds is listed and told
+-- the capacities that the chart of a text exceeds are listed, all of them and in order, and the first is told
 pub record ListsCapacity (text : List ℕ) (old new : Option (List ℕ)) (fault : Fault) : Type 0 where
   pub chart : Chart
   pub reads : Reads text chart
   pub lawful : IsLawful chart
   pub cause : CapacityFault
   pub exceeds : HasCapacityFault (wanted_of chart.lines) standard cause
+  pub all : List CapacityFault
+  pub are_all : AreAllOver (wanted_of chart.lines) standard in_order all
+  pub first : slice_get all 0 ≡ Some cause
   pub is_told : fault ≡ capacity_told cause
-  pub written : Appends old new (capacity_entry cause)
+  pub written : Appends old new (capacities_text (wanted_of chart.lines).totals all)
 
 -- memory was wanting, or the output can't be written
 abbrev pub IsBrokenOff : Fault → Type 0
@@ -86,13 +112,10 @@ pub record HasListed (text : List ℕ) (chart : Chart) (old new : Option (List �
   pub begins : BeginsAsChecked chart list
   pub written : Appends old new (entries_text text chart list)
 
--- a capacity was listed and is told, or the list broke off
-abbrev pub ListsOne : CapacityFault → (old new : Option (List ℕ)) → Fault → Type 0
-ListsOne cause old new fault = IsBrokenOff fault ⊎ ((fault ≡ capacity_told cause) × Appends old new (capacity_entry cause))
-
--- a capacity that a chart exceeds was listed and is told, or the list broke off
+-- the capacities that a chart exceeds were listed and the first is told, or the list broke off
 abbrev pub EndsCapacity : Chart → (old new : Option (List ℕ)) → Fault → Type 0
 EndsCapacity chart old new fault =
     IsBrokenOff fault
     ⊎ ((cause : CapacityFault) × HasCapacityFault (wanted_of chart.lines) standard cause × (fault ≡ capacity_told cause)
-    × Appends old new (capacity_entry cause))
+    × ((all : List CapacityFault) × AreAllOver (wanted_of chart.lines) standard in_order all
+    × Appends old new (capacities_text (wanted_of chart.lines).totals all)))

@@ -1,2 +1,3 @@
 pub mod TextEntries
+pub mod Behind
 pub mod Endings

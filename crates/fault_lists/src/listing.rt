@@ -2,7 +2,7 @@
 
 ghost use Rattle.std.specs.Prelude.{◌≡◌, ◌≢◌, ◌⊎◌, IfErr, OnOk, codes};
 ghost use Rattle.std.specs.Io.KnownBytes.{Appends};
-ghost use Rattle.allocate.specs.Exceeded.{FitsMachine};
+ghost use Rattle.allocate.specs.Exceeded.{FitsMachine, HasCapacityFault};
 ghost use Rattle.capacity.specs.Capacities.{standard};
 ghost use Rattle.plans.specs.Below.wanted.Wanted.{wanted_of};
 ghost use Rattle.chart_text.specs.ChartText.{Reads};
@@ -11,22 +11,24 @@ ghost use Rattle.faults.specs.ChartCauses.{of_rule, of_text};
 ghost use Rattle.faults.specs.Lines.{IsTold};
 ghost use Rattle.faults.specs.Status.{status_of};
 ghost use Rattle.faults.specs.Told.{chart_told};
-ghost use Rattle.fault_lists.specs.Endings.{AnswersOk, EndsCapacity, EndsListing, HasListed, IsBrokenOff, ListsOne};
+ghost use Rattle.fault_lists.specs.Endings.{AnswersOk, EndsCapacity, EndsListing, HasListed, IsBrokenOff, WritesBehind, WritesText};
 
-use crate::entries::{write_capacity_entry, write_text_entry};
+use crate::behind::list_behind;
+use crate::entries::{write_capacities, write_text_entry};
+use crate::rules::write_rules;
 use allocate::{CapacityFault, allocate};
 use capacity::Profile;
+use capacity_faults::capacity_faults;
 use chart_faults::broken_rules;
 use chart_rules::{Chart, RuleFault, check};
 use chart_text::{TextFault, read_chart};
 use charts::RawChart;
-use fault_words::write_entries;
 use faults::{ChartFault, Ending, Fault, tell, unprinted};
-use field_rules::Fields;
 use misread_lines::misread_lines;
 use program_io::put;
 use std::alloc::Global;
 use std::io::Write;
+use wanted::Wanted;
 
 // What is told of a text that is no chart.
 fn text_told<'a>(cause: TextFault) -> Fault<'a>
@@ -50,18 +52,64 @@ fn told_text<'a, W: Write>(alloc: Global, out: &mut W, text: &[u8], fault: TextF
     let Ok(lines) = misread_lines(alloc, text) else {
         return Fault::Memory;
     };
-    match write_text_entry(out, text, lines.as_slice(), fault) {
+    match list_text(alloc, out, text, lines.as_slice(), fault) {
         Ok(()) => text_told(fault),
-        Err(error) => unprinted(&error),
+        Err(broken) => broken,
     }
 }
 
-/// Lists a capacity that a chart exceeds, and answers what is told of it.
-fn told_capacity<'a, W: Write>(out: &mut W, fault: CapacityFault) -> Fault<'a>
-    ensures { ListsOne fault (W.contents out.old) (W.contents out.new) result }
+/// Lists a fault of a text, and behind it what is wrong besides its lines that no form derives.
+fn list_text<'a, W: Write>(
+    alloc: Global,
+    out: &mut W,
+    text: &[u8],
+    lines: &[u16],
+    fault: TextFault,
+) -> Result<(), Fault<'a>>
+    ensures listed { OnOk result (WritesText text.now lines.now fault (W.contents out.old) (W.contents out.new)) }
+    ensures broken_off { IfErr result IsBrokenOff }
 {
-    match write_capacity_entry(out, fault) {
-        Ok(()) => fault.into(),
+    match write_text_entry(out, text, lines, fault) {
+        Ok(()) => list_rest(alloc, out, text, lines, fault),
+        Err(error) => Err(unprinted(&error)),
+    }
+}
+
+/// Lists what is wrong with a text besides its lines that no form derives, if it has such lines.
+fn list_rest<'a, W: Write>(
+    alloc: Global,
+    out: &mut W,
+    text: &[u8],
+    lines: &[u16],
+    fault: TextFault,
+) -> Result<(), Fault<'a>>
+    ensures listed { OnOk result (WritesBehind text.now lines.now fault (W.contents out.old) (W.contents out.new)) }
+    ensures broken_off { IfErr result IsBrokenOff }
+{
+    match fault {
+        TextFault::NotALine { .. } => list_behind(alloc, out, text, lines),
+        _ => Ok(()),
+    }
+}
+
+/// Lists all capacities of the standard machine that a chart exceeds, and answers what is told of the first.
+fn told_capacities<'a, W: Write>(
+    alloc: Global,
+    out: &mut W,
+    chart: &Chart,
+    first: CapacityFault,
+) -> Fault<'a>
+    requires { HasCapacityFault (wanted_of chart.now.lines) standard first }
+    ensures { EndsCapacity chart.now (W.contents out.old) (W.contents out.new) result }
+{
+    let Ok(wanted) = Wanted::of(alloc, chart) else {
+        return Fault::Memory;
+    };
+    let Ok(list) = capacity_faults(alloc, &wanted, &Profile::standard()) else {
+        return Fault::Memory;
+    };
+    match write_capacities(out, wanted.totals(), list.as_slice()) {
+        Ok(()) => first.into(),
         Err(error) => unprinted(&error),
     }
 }
@@ -77,15 +125,10 @@ fn list_rules<'a, W: Write>(
     ensures broken_off { IfErr result IsBrokenOff }
 {
     let list = broken_rules(alloc, raw)?;
-    let index = Fields::of(alloc, raw.lines())?;
-    let fields = Fields::of(alloc, raw.lines())?.into_fields();
-    match write_entries(out, text, raw, &index, fields.as_slice(), list.as_slice()) {
-        Ok(()) => Ok(()),
-        Err(error) => Err(unprinted(&error)),
-    }
+    write_rules(alloc, out, text, raw, list.as_slice())
 }
 
-/// Answers `ok` where a chart fits the machine, or lists the capacity that it exceeds.
+/// Answers `ok` where a chart fits the machine, or lists the capacities that it exceeds.
 fn list_capacity<'a, W: Write>(alloc: Global, out: &mut W, chart: &Chart) -> Result<(), Fault<'a>>
     ensures fits { OnOk result (FitsMachine (wanted_of chart.now.lines) standard
         × Appends (W.contents out.old) (W.contents out.new) (codes "ok\n")) }
@@ -95,7 +138,7 @@ fn list_capacity<'a, W: Write>(alloc: Global, out: &mut W, chart: &Chart) -> Res
         Ok(_plan) => put(out, b"ok\n"),
         // Want of memory is no fault of the chart, so it isn't listed.
         Err(CapacityFault::Memory) => Err(Fault::Memory),
-        Err(fault) => Err(told_capacity(out, fault)),
+        Err(fault) => Err(told_capacities(alloc, out, chart, fault)),
     }
 }
 

@@ -1,0 +1,100 @@
+//! The command that checks a deck and tells the control keys that come back in it, over any reader and writers.
+
+ghost use Rattle.std.specs.Prelude.{◌≡◌, ◌≢◌, ◌≤◌, ◌⊎◌, List, ℕ, IfErr, IfOk, OnOk};
+ghost use Rattle.card_code.specs.Deck.{Deck, IsDeckText};
+ghost use Rattle.check_calls.specs.Grouped.{EndsGrouped, PrintsGrouped, StopsGrouped, WritesGrouped};
+ghost use Rattle.faults.specs.Lines.{IsTold};
+ghost use Rattle.faults.specs.Status.{status_of};
+ghost use Rattle.key_returns.specs.Words.{returns_told};
+
+use crate::deck_checks::{check_cards, put};
+use card_code::read_deck;
+use chart_rules::Chart;
+use compile407::compile;
+use faults::{Ending, Fault, tell, unprinted};
+use key_returns::{key_returns, write_returns};
+use program_io::read_whole;
+use std::alloc::Global;
+use std::io::{Read, Write};
+
+// What is told of the keys that come back in a deck.
+fn returns_text<'a>(alloc: Global, chart: &Chart, deck: &[u8]) -> Result<Vec<u8>, Fault<'a>>
+    requires { IsDeckText deck.now }
+    ensures returns { IfOk result (λ text. (cards : List (List ℕ)) → Deck deck.now cards → text.items ≡ returns_told chart.now.lines cards) }
+    ensures told { IfErr result (λ told. (told ≡ Fault.Memory) ⊎ (told ≡ Fault.Write)) }
+{
+    let cards = read_deck(alloc, deck)?;
+    let cards = cards.as_slice();
+    let list = key_returns(alloc, chart, cards)?;
+    let mut text = Vec::new(alloc);
+    match write_returns(&mut text, chart, cards, list.as_slice()) {
+        Ok(()) => Ok(text),
+        Err(error) => Err(unprinted(&error)),
+    }
+}
+
+// Lists what is told of a deck, and, if nothing is wrong with it, the keys that come back.
+fn list_grouped<'a, W: Write>(
+    alloc: Global,
+    chart: &Chart,
+    deck: &[u8],
+    out: &mut W,
+) -> Result<(), Fault<'a>>
+    ensures fine { OnOk result (WritesGrouped chart.now deck.now (W.contents out.old) (W.contents out.new)) }
+    ensures ends { IfErr result (λ told. EndsGrouped chart.now deck.now (W.contents out.old) (W.contents out.new) told) }
+{
+    check_cards(alloc, chart, deck, out)?;
+    let text = returns_text(alloc, chart, deck)?;
+    put(out, text.as_slice())
+}
+
+/// Compiles a chart, reads a deck whole, and prints what [`print_check`](crate::print_check) prints of it; and, if nothing is wrong with it, the control keys
+/// that come back. `path` names the deck in what is told of one that can't be read.
+///
+/// # Errors
+///
+/// The fault of the chart, else `File` of a deck that can't be read, and nothing is printed; else what `print_check` tells of the deck. `Memory` where
+/// a growth was refused and `Write` where the output can't be written: then the front of the answer may have been printed.
+pub fn print_grouped<'a, R: Read + Drop, W: Write>(
+    alloc: Global,
+    chart: &[u8],
+    path: &'a str,
+    deck: R,
+    out: &mut W,
+) -> Result<(), Fault<'a>>
+    ensures fine { OnOk result (PrintsGrouped chart.now (R.remaining deck) (W.contents out.old) (W.contents out.new)) }
+    ensures stops { IfErr result (λ told. StopsGrouped chart.now (R.remaining deck) (W.contents out.old) (W.contents out.new) told
+        (Fault.File path.entry) (out.new ≡ out.old)) }
+{
+    let compiled = compile(alloc, chart)?;
+    let bytes = read_whole(alloc, deck, path)?;
+    list_grouped(alloc, compiled.chart(), bytes.as_slice(), out)
+}
+
+/// Checks a deck and tells the control keys that come back, as [`print_grouped`] does, and tells on one line of `faults` why the deck is refused.
+///
+/// The statuses are 0 where it isn't, and then nothing is told, 3 where the chart or the deck is refused, 4 where the deck can't be read or the
+/// output can't be written, 5 for memory.
+pub fn check_groups_to_end<R: Read + Drop, W: Write, V: Write>(
+    alloc: Global,
+    chart: &[u8],
+    path: &str,
+    deck: R,
+    out: &mut W,
+    faults: &mut V,
+) -> Ending
+    ensures fine { result.status ≡ 0
+        → PrintsGrouped chart.now (R.remaining deck) (W.contents out.old) (W.contents out.new) × (faults.new ≡ faults.old) }
+    ensures stops { (result.status ≡ 0) ⊎ ((told : Fault) × (result.status ≡ status_of told)
+        × StopsGrouped chart.now (R.remaining deck) (W.contents out.old) (W.contents out.new) told (Fault.File path.entry) (out.new ≡ out.old)
+        × IsTold told result.is_told (V.contents faults.old) (V.contents faults.new)) }
+    ensures statuses { (result.status ≢ 1) × (result.status ≤ 5) }
+{
+    match print_grouped(alloc, chart, path, deck, out) {
+        Ok(()) => Ending {
+            status: 0,
+            is_told: true,
+        },
+        Err(fault) => tell(&fault, faults),
+    }
+}

@@ -1,0 +1,4 @@
+mod Kept
+mod Levels
+mod SameKeys
+mod Walked

@@ -1,0 +1,14 @@
+-- The keys of cards: the punches in the columns of control fields.
+use Rattle.std.specs.Prelude.{ℕ, List, map}
+use Rattle.std.specs.List.{flat_map}
+use Rattle.chart_rules.specs.Below.charts.declared.statement.Field.{Field}
+use Rattle.chart_rules.specs.ValidCard.{column_of}
+use Rattle.report.specs.Amounts.{columns_in}
+
+-- the punches in the columns of a field
+abbrev pub punches_on : List ℕ → Field → List ℕ
+punches_on card field = map (λ column. column_of card column) (columns_in field)
+
+-- those in the columns of some fields
+abbrev pub key_on : List Field → List ℕ → List ℕ
+key_on fields card = flat_map (punches_on card) fields

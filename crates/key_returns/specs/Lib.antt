@@ -1,0 +1,4 @@
+pub mod Keys
+pub mod Returns
+pub mod HelperKept
+pub mod Words

@@ -1,0 +1,4 @@
+mod Good
+mod Grouped
+mod Pieces
+mod Summed

@@ -1,0 +1,3 @@
+pub mod Large
+pub mod HelperGood
+pub mod HelperStarts
