@@ -1,13 +1,13 @@
 -- What is told of a wheel of a line that the run of a text and a deck prints, from the bytes of both.
 use Rattle.std.specs.Prelude.{ℕ, List}
-use Rattle.ledger_calls.specs.Explained.{IsExplainedWhole}
+use Rattle.ledger_calls.specs.Explained.{IsExplainedWithBasis}
 use Rattle.ledger_calls.specs.Ledgers.{IsLedgerText, ends_told}
 use Rattle.ledger_calls.specs.declared.telling.Question.{Question}
 use Rattle.ledger_calls.specs.declared.telling.Question.TheVariants.{Ledger, Explanation}
 use Rattle.panel_guides.specs.declared.place.Place.{Place}
 use Rattle.wheel_ledgers.specs.declared.scope.Scope.TheVariants.{Figure}
 
--- the text is what is asked for: the ledger of the figure on the wheel, or its explanation down to ledgers
+-- the text is what is asked for: the ledger of the figure on the wheel, or its explanation with all that it is printed of
 abbrev pub TellsWheel : Question → (text deck : List ℕ) → Place → List ℕ → Type 0
 TellsWheel (Ledger all) text deck place answer = IsLedgerText text deck Figure (ends_told all) place answer
-TellsWheel Explanation text deck place answer = IsExplainedWhole text deck place answer
+TellsWheel (Explanation whole) text deck place answer = IsExplainedWithBasis text deck whole place answer

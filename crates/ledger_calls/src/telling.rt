@@ -7,7 +7,7 @@ ghost use Rattle.panel_guides.specs.Explained.{IsUnexplained};
 ghost use Rattle.panel_guides.specs.declared.unexplained.Unexplained.TheVariants.{Failed};
 
 use crate::answers::told_ledger;
-use crate::explaining::explained_whole;
+use crate::explaining::explained_with_basis;
 use panel_guides::{Place, Unexplained};
 use std::alloc::Global;
 
@@ -16,15 +16,16 @@ use std::alloc::Global;
 pub enum Question {
     /// The ledger of the figure on it, as [`told_ledger`] tells it: all entries of a long one, or those at both ends.
     Ledger { all: bool },
-    /// Its explanation down to ledgers, as [`explained_whole`] tells it.
-    Explanation,
+    /// Its explanation with all that it is printed of, as [`explained_with_basis`] tells it: ledgers down to the holes of cards, or to their
+    /// entries.
+    Explanation { whole: bool },
 }
 
 /// What is asked for of a wheel of a line.
 ///
 /// # Errors
 ///
-/// As [`told_ledger`] and [`explained_whole`], which refuse the same.
+/// As [`told_ledger`] and [`explained_with_basis`], which refuse the same.
 pub fn told_wheel<'a>(
     alloc: Global,
     text: &[u8],
@@ -37,6 +38,6 @@ pub fn told_wheel<'a>(
 {
     match question {
         Question::Ledger { all } => told_ledger(alloc, text, deck, place, all),
-        Question::Explanation => explained_whole(alloc, text, deck, place),
+        Question::Explanation { whole } => explained_with_basis(alloc, text, deck, place, whole),
     }
 }

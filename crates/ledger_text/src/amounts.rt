@@ -28,8 +28,8 @@ fn whole_part(decimals: u32, number: u128) -> u128
     whole_part(decimals - 1, number / 10)
 }
 
-// An amount with so many decimals.
-pub(crate) fn write_amount(text: &mut Vec<u8>, decimals: u32, number: u128) -> io::Result<()>
+/// Puts behind a text an amount with so many decimals: 4795 with two is `47.95`. Fails only if no memory is left.
+pub fn write_amount(text: &mut Vec<u8>, decimals: u32, number: u128) -> io::Result<()>
     ensures { OnOk result (text.new.items ≡ text.old.items ++ amount_text decimals number) }
 {
     let whole = whole_part(decimals, number);

@@ -44,8 +44,9 @@ fn write_carry(text: &mut Vec<u8>, carry: bool) -> io::Result<()>
     Ok(())
 }
 
-// The number before, what came to it, and the number after.
-fn write_sum(text: &mut Vec<u8>, width: u32, entry: &Entry) -> io::Result<()>
+/// Puts behind a text the sum of an entry, with so many digits for each number: the number before, what came to it, and the number after.
+/// Fails only if no memory is left.
+pub fn write_sum(text: &mut Vec<u8>, width: u32, entry: &Entry) -> io::Result<()>
     ensures { OnOk result (text.new.items ≡ text.old.items ++ sum_text width entry.now) }
 {
     write_digits(text, width, u128::from(entry.before))?;
@@ -55,8 +56,8 @@ fn write_sum(text: &mut Vec<u8>, width: u32, entry: &Entry) -> io::Result<()>
     write_digits(text, width, u128::from(entry.after))
 }
 
-// From where an amount comes.
-fn write_source(text: &mut Vec<u8>, name: &[u8], cycle: Cycle, card: u32) -> io::Result<()>
+/// Puts behind a text from where an amount of this name comes: from its card, or from the total of a level. Fails only if no memory is left.
+pub fn write_source(text: &mut Vec<u8>, name: &[u8], cycle: Cycle, card: u32) -> io::Result<()>
     ensures { OnOk result (text.new.items ≡ text.old.items ++ source_text name.now cycle card) }
 {
     match cycle {
@@ -151,10 +152,11 @@ fn write_words(
     }
 }
 
-// How many positions the number of an account has.
-fn positions_of(account: Account) -> u32
+/// How many positions the number of an account has.
+pub fn positions_of(account: Account) -> u32
     requires { IsAccount account }
-    ensures { result ≡ positions_of account }
+    ensures value { result ≡ positions_of account }
+    ensures few { result ≤ 16 }
 {
     match account {
         Account::One { place } => width_at(place),
@@ -171,8 +173,8 @@ fn width_at(place: usize) -> u32
     u32::from(group_of_unit(3 + place as u8).width)
 }
 
-// The line of an entry.
-fn write_entry(
+/// Puts the line of an entry of an account's ledger behind a text, with what a chart knows of the ledger. Fails only if no memory is left.
+pub fn write_entry(
     text: &mut Vec<u8>,
     title: &Option<Title>,
     account: Account,
@@ -215,8 +217,8 @@ fn decimals_in(title: &Option<Title>) -> u32
     }
 }
 
-// The line in place of the entries that are left out.
-fn write_gap(text: &mut Vec<u8>, title: &Option<Title>, left_out: LeftOut) -> io::Result<()>
+/// Puts behind a text the line in place of the entries that are left out. Fails only if no memory is left.
+pub fn write_gap(text: &mut Vec<u8>, title: &Option<Title>, left_out: LeftOut) -> io::Result<()>
     ensures { OnOk result (text.new.items ≡ text.old.items ++ gap_line (option_map words_of title.now) left_out) }
 {
     write_count(text, left_out.count)?;
@@ -239,12 +241,8 @@ fn write_together(text: &mut Vec<u8>, decimals: u32, left_out: LeftOut) -> io::R
     text.write_all(b"\n")
 }
 
-// That line, if some entries are left out.
-pub(crate) fn write_gaps(
-    text: &mut Vec<u8>,
-    title: &Option<Title>,
-    left_out: LeftOut,
-) -> io::Result<()>
+/// Puts behind a text the line in place of the entries that a long ledger leaves out, if it leaves some out. Fails only if no memory is left.
+pub fn write_gaps(text: &mut Vec<u8>, title: &Option<Title>, left_out: LeftOut) -> io::Result<()>
     ensures { OnOk result (text.new.items ≡ text.old.items ++ gap_lines (option_map words_of title.now) left_out) }
 {
     if left_out.count == 0 {

@@ -27,8 +27,8 @@ fn figure_length(text: &[u8]) -> usize
     text.iter().take_while(|byte| **byte != b' ').count()
 }
 
-// The figure on a wheel.
-fn figure_at(text: &[u8], wheel: usize) -> &[u8]
+/// The figure on a wheel, from 1, of a line: the characters on it and beside it up to a blank on either side.
+pub fn figure_at(text: &[u8], wheel: usize) -> &[u8]
     requires from { 1 ≤ wheel }
     requires to { wheel ≤ length text.now }
     ensures { result.now ≡ figure_at text.now wheel }

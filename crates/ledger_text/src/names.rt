@@ -59,8 +59,8 @@ fn write_place(text: &mut Vec<u8>, place: usize) -> io::Result<()>
     write!(text, "{width}.{number}")
 }
 
-// The groups of an account.
-pub(crate) fn write_account(text: &mut Vec<u8>, account: Account) -> io::Result<()>
+/// Puts behind a text the counter groups of an account, that with the units last. Fails only if no memory is left.
+pub fn write_account(text: &mut Vec<u8>, account: Account) -> io::Result<()>
     requires { IsAccount account }
     ensures { OnOk result (text.new.items ≡ text.old.items ++ account_text account) }
 {

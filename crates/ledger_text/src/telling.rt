@@ -13,8 +13,13 @@ use net::Cycle;
 use std::io;
 use std::io::Write;
 
-// Whose ledger it is, and before which cycle.
-fn write_heading(text: &mut Vec<u8>, account: Account, cycle: Cycle, card: u32) -> io::Result<()>
+/// Puts behind a text whose ledger it is, and before which cycle it is told. Fails only if no memory is left.
+pub fn write_heading(
+    text: &mut Vec<u8>,
+    account: Account,
+    cycle: Cycle,
+    card: u32,
+) -> io::Result<()>
     requires { IsAccount account }
     ensures { OnOk result (text.new.items ≡ text.old.items ++ heading_line account cycle card) }
 {

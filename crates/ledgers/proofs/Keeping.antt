@@ -1,7 +1,5 @@
 -- What the loops over a run keep: the ledger of an account, and that a line was not found yet.
-use Rattle.std.proofs.Common.{◌≡◌, ◌∙◌, sym, ap, subst, refl, ℕ, zero, suc, ◌+◌, ◌-◌, ◌*◌, ◌<◌, ◌≤◌, nat_lt, Bool, true, false, List, [], ◌∷◌, ◌++◌, Some, length, drop, take, arith, if◌then◌else◌, append-nil, get_or}
-use Rattle.std.proofs.lemmas.Bool.Decides.{nat_tests}
-use Rattle.std.proofs.lemmas.Grind.{common_steps}
+use Rattle.std.proofs.Common.{◌≡◌, ◌∙◌, sym, ap, subst, ℕ, ◌+◌, ◌-◌, ◌<◌, ◌≤◌, Bool, true, false, List, [], ◌∷◌, ◌++◌, Some, length, drop, arith, if◌then◌else◌, append-nil, get_or}
 use Rattle.std.proofs.lemmas.List.{get_or_default}
 use Rattle.std.specs.List.{All}
 use Rattle.setups.specs.Wiring.{Wiring}
@@ -19,10 +17,9 @@ use Rattle.ledgers.specs.Accounts.{movement_of}
 use Rattle.ledgers.specs.Entries.{entry_of, is_added, is_cleared, ledger_after}
 use Rattle.ledgers.specs.Ledgers.{Along, ComesTo, Goes, IsLedger, along_after, along_at_start, begun, card_in, more}
 use Rattle.ledgers.specs.Running.{IsKeptLedger, IsPast, Stands, along_of}
-use Rattle.ledgers.specs.Summaries.{Summary, pushed, summary_after, summary_of}
+use Rattle.ledgers.specs.Summaries.{Summary, summary_after, summary_of}
 use Rattle.ledgers.specs.declared.account.Account.{Account}
 use Rattle.ledgers.specs.declared.entry.Entry.{Entry}
-use Rattle.ledgers.specs.declared.entry.Movement.{Movement}
 use Rattle.ledgers.proofs.Summaries.{length-drop-within, length-one, length-take-within, summary-after}
 use Rattle.ledgers.proofs.Whole.{holds, in-cycle}
 

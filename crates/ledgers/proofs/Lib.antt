@@ -3,6 +3,7 @@ mod Sums
 pub mod Small
 pub mod Places
 pub mod Whole
+mod Coupled
 pub mod Summaries
 pub mod Running
 pub mod Keeping

@@ -10,7 +10,7 @@ use Rattle.net.specs.declared.cycle.Cycle.TheVariants.{RunIn, Card, Prog, Head}
 use Rattle.machine.specs.Cycles.{Reached}
 use Rattle.machine.specs.Ends.{EndsCycle}
 use Rattle.machine.specs.Machine.{MachineState, ended}
-use Rattle.machine.specs.Runs.{InRun, cards_moved, cycle_due, made_ready, run_at_start}
+use Rattle.machine.specs.Runs.{cycle_due}
 use Rattle.machine.proofs.FewCycles.{IsSupplied, ahead, ahead-falls, still-supplied}
 use Rattle.machine.proofs.Keeps.{CycleRun-ends}
 use Rattle.machine.proofs.OneOutcome.{Reached-one}

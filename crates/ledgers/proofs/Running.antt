@@ -1,8 +1,7 @@
 -- A stepped machine along a run.
-use Rattle.std.proofs.Common.{◌≡◌, ◌∙◌, sym, ap, subst, refl, ℕ, ◌+◌, ◌<◌, ◌≤◌, List, [], ◌∷◌, ◌++◌, Option, Some, None, length, arith}
-use Rattle.std.proofs.lemmas.List.Elements.{All-append, All-cons, All-nil}
+use Rattle.std.proofs.Common.{◌≡◌, ◌∙◌, sym, ap, subst, refl, ℕ, ◌+◌, ◌<◌, List, [], ◌∷◌, ◌++◌, Some, None, arith}
+use Rattle.std.proofs.lemmas.List.Elements.{All-append, All-nil}
 use Rattle.std.specs.List.{All}
-use Rattle.std.specs.Prelude.{option_to_list}
 use Rattle.placed_lines.specs.declared.placed_line.PlacedLine.{PlacedLine}
 use Rattle.setups.specs.Wiring.{Wiring}
 use Rattle.net.specs.Nets.{IsNetOf}
@@ -10,12 +9,12 @@ use Rattle.net.specs.declared.cycle.Cycle.{Cycle}
 use Rattle.machine.specs.Cycles.{CycleRun, Reached, line_of}
 use Rattle.machine.specs.Kept.{IsElsewhere}
 use Rattle.machine.specs.Machine.{MachineState, ended}
-use Rattle.machine.specs.Runs.{InRun, RunsBy, cards_moved, cycle_due, made_ready, run_at_start}
+use Rattle.machine.specs.Runs.{InRun, RunsBy, cards_moved, cycle_due, made_ready}
 use Rattle.machine.specs.Stepped.{Stepped, IsUnbegun}
 use Rattle.machine.proofs.FewCycles.{ahead}
 use Rattle.explanations.specs.PlacedInRun.{PrintsNoneAt}
-use Rattle.ledgers.specs.Ledgers.{Along, ComesTo, Goes, along_after, along_at_start, at_start, card_in, on, ready}
-use Rattle.ledgers.specs.Running.{HasCycle, IsPast, PlacesLine, Stands, along_of}
+use Rattle.ledgers.specs.Ledgers.{Along, ComesTo, Goes, along_after, along_at_start, at_start, card_in, on}
+use Rattle.ledgers.specs.Running.{IsPast, PlacesLine, Stands, along_of}
 use Rattle.ledgers.proofs.Places.{comes-within, goes-falls}
 
 pub begins-at : (wiring : Wiring) (deck : List (List ℕ)) (unbegun loaded : Stepped) (hopper : List (List ℕ)) → IsUnbegun wiring unbegun

@@ -21,7 +21,7 @@ chain-push from held new (first ∷ others) entry chain before after =
     (chain.0, chain-push first.after held new others entry chain.1 before after)
 
 -- a ledger that a cycle changed
-chain-after : (cleared added : Bool) (held new : ℕ) (entries : List Entry) (entry : Entry) → Chain 0 entries held
+pub chain-after : (cleared added : Bool) (held new : ℕ) (entries : List Entry) (entry : Entry) → Chain 0 entries held
     → entry.before ≡ (if cleared then 0 else held) → new ≡ entry.after → (added ≡ false → new ≡ (if cleared then 0 else held))
     → Chain 0 ((if cleared then [] else entries) ++ (if added then entry ∷ [] else [])) new
 chain-after true true held new entries entry chain before after idle = (before, after)
@@ -30,7 +30,7 @@ chain-after false true held new entries entry chain before after idle = chain-pu
 chain-after false false held new entries entry chain before after idle =
     subst (λ (l : List Entry). Chain 0 l new) (sym (append-nil entries)) (subst (Chain 0 entries) (sym (idle refl)) chain)
 
-cleared-is : (r m q : Bool) → m ≡ false → (r && not (r && m && q)) ≡ r
+pub cleared-is : (r m q : Bool) → m ≡ false → (r && not (r && m && q)) ≡ r
 cleared-is true m q is = grind (arith, nat_tests, is)
 cleared-is false m q is = refl
 

@@ -1,9 +1,9 @@
 -- Ledgers of whole runs.
-use Rattle.std.proofs.Common.{zero, suc, replicate, ◌≡◌, ◌∙◌, sym, ap, subst, refl, ℕ, ◌+◌, ◌*◌, ◌^◌, ◌<◌, Bool, true, false, List, [], ◌∷◌, length, map, get_or, arith, if◌then◌else◌}
+use Rattle.std.proofs.Common.{zero, suc, replicate, ◌≡◌, ◌∙◌, sym, ap, subst, refl, ℕ, ◌+◌, ◌*◌, ◌^◌, ◌<◌, List, [], ◌∷◌, length, map, get_or, arith}
 use Rattle.std.proofs.lemmas.List.{get_or-map, length-map}
 use Rattle.std.proofs.lemmas.List.FromFn.{get_or-range_with_len}
 use Rattle.std.proofs.lemmas.List.Sums.{sum_by-cons}
-use Rattle.std.proofs.lemmas.List.Elements.{All-append, All-cons, All-head, All-nil, All-tail}
+use Rattle.std.proofs.lemmas.List.Elements.{All-append, All-head, All-nil, All-tail}
 use Rattle.std.specs.List.{All}
 use Rattle.std.specs.Prelude.{sum_by}
 use Rattle.setups.specs.Wiring.{Wiring}
@@ -119,7 +119,7 @@ holds wiring deck place low at_start = holds-at-start wiring deck place low
 holds wiring deck place low (on cycle before behind comes goes) =
     holds-on wiring cycle place before behind low (holds wiring deck place low comes) goes
 
-number-zeros : (n : ℕ) → number (replicate n 0) ≡ 0
+pub number-zeros : (n : ℕ) → number (replicate n 0) ≡ 0
 number-zeros zero = refl
 number-zeros (suc n) = let less = number-zeros n in omega (arith, less)
 

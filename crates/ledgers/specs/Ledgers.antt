@@ -1,6 +1,6 @@
 -- The ledger of an account in a run of the machine over a deck: the cycles since its number last stood cleared, or since the start, in
 -- which something came to it.
-use Rattle.std.specs.Prelude.{◌≡◌, ℕ, ◌+◌, ◌-◌, ◌*◌, ◌^◌, ◌<◌, Bool, List, [], ◌∷◌, Some, All, slice_index_or, sum_by}
+use Rattle.std.specs.Prelude.{◌≡◌, ℕ, ◌+◌, ◌-◌, ◌*◌, ◌^◌, ◌<◌, Bool, List, [], ◌∷◌, Some, All, sum_by}
 use Rattle.counters.specs.Counters.{Counter, width_of}
 use Rattle.counters.specs.Laws.{carry_number}
 use Rattle.counters.specs.Numbers.{number}

@@ -1,5 +1,5 @@
 -- The cycles of a run by how many are over before them, and what is kept of the ledger of an account there.
-use Rattle.std.specs.Prelude.{◌≡◌, ℕ, ◌+◌, ◌*◌, ◌<◌, ◌≤◌, List, [], ◌∷◌, All, length}
+use Rattle.std.specs.Prelude.{◌≡◌, ℕ, ◌≤◌, List, [], ◌∷◌, All}
 use Rattle.explanations.specs.PlacedInRun.{PrintsNoneAt}
 use Rattle.machine.specs.Cycles.{CycleRun, line_of}
 use Rattle.machine.specs.Kept.{IsElsewhere}

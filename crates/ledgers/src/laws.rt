@@ -1,11 +1,17 @@
 //! Laws of ledgers. Each is a function that does nothing: its contract is the law.
 
+ghost use Rattle.ledgers.specs.Coupled.{CoupledLedgersTellNumbers};
 ghost use Rattle.ledgers.specs.Ledgers.{EntriesAreSums, LedgersAreSums, LedgersTellNumbers};
 ghost use Rattle.ledgers.specs.Cycles.{EntriesTellCycles, PlacesAreOne};
 
 /// The numbers of a ledger chain from 0 to the number that the group holds.
 pub fn ledgers_tell_numbers()
     ensures { LedgersTellNumbers }
+{}
+
+/// The numbers of a ledger of two groups chain from 0 to the number that they stand for.
+pub fn coupled_ledgers_tell_numbers()
+    ensures { CoupledLedgersTellNumbers }
 {}
 
 /// Each entry is a sum, and where the group didn't turn it holds the sum of what came to it.

@@ -6,12 +6,12 @@ use Rattle.machine.specs.Machine.{MachineState}
 use Rattle.machine.specs.Stepped.{Stepped}
 use Rattle.ledgers.specs.Ledgers.{Along, ComesTo, Goes, along_after, along_at_start, at_start, card_in, on}
 use Rattle.ledgers.specs.Running.{Stands, along_of}
-use Rattle.origins.specs.Deeds.{IsLast, IsLastBefore, begun, deed_of, last_with, more}
-use Rattle.origins.specs.declared.deed.Deed.{Deed}
+use Rattle.origins.specs.Changes.{IsLast, IsLastBefore, begun, passed_cycle, last_with, more}
+use Rattle.origins.specs.declared.changes.PassedCycle.{PassedCycle}
 
 -- A stepped machine in a run, and the last cycle up to there that did something.
 pub record Keeps (wiring : Wiring) (deck : List (List ℕ)) (card passed : ℕ) (stepped : Stepped) (hopper : List (List ℕ))
-    (does : Cycle → MachineState → Bool) (last : Option Deed) : Type 0 where
+    (does : Cycle → MachineState → Bool) (last : Option PassedCycle) : Type 0 where
   pub stands : Stands wiring deck card passed stepped hopper
   pub is : IsLast wiring deck does (along_of card passed stepped hopper) last
 
@@ -26,7 +26,7 @@ keeps-begun wiring deck stepped hopper does stands at = record {
 
 -- one cycle more
 pub keeps-more : (wiring : Wiring) (deck : List (List ℕ)) (stepped after : Stepped) (card passed next : ℕ) (hopper left : List (List ℕ))
-    (cycle : Cycle) (behind : MachineState) (does : Cycle → MachineState → Bool) (done : Bool) (old new : Option Deed)
+    (cycle : Cycle) (behind : MachineState) (does : Cycle → MachineState → Bool) (done : Bool) (old new : Option PassedCycle)
     → Keeps wiring deck card passed stepped hopper does old
     → Goes wiring cycle (along_of card passed stepped hopper) behind
     → Stands wiring deck next (passed + 1) after left
@@ -36,20 +36,20 @@ pub keeps-more : (wiring : Wiring) (deck : List (List ℕ)) (stepped after : Ste
     → Keeps wiring deck next (passed + 1) after left does new
 keeps-more wiring deck stepped after card passed next hopper left cycle behind does done old new keeps goes stands same numbered is_done taken =
     let along : Along = along_of card passed stepped hopper in
-    let last : new ≡ last_with (does cycle behind) (deed_of cycle along) old =
+    let last : new ≡ last_with (does cycle behind) (passed_cycle cycle along) old =
     taken
     ∙ ap (λ (n : ℕ). last_with done (record { cycle = cycle; card = n; passed = passed }) old) numbered
-    ∙ ap (λ (b : Bool). last_with b (deed_of cycle along) old) is_done in
+    ∙ ap (λ (b : Bool). last_with b (passed_cycle cycle along) old) is_done in
     record {
       stands = stands;
       is =
-          subst (λ (any : Option Deed). IsLast wiring deck does (along_of next (passed + 1) after left) any) (sym last)
-          (subst (λ (a : Along). IsLast wiring deck does a (last_with (does cycle behind) (deed_of cycle along) old)) same
+          subst (λ (any : Option PassedCycle). IsLast wiring deck does (along_of next (passed + 1) after left) any) (sym last)
+          (subst (λ (a : Along). IsLast wiring deck does a (last_with (does cycle behind) (passed_cycle cycle along) old)) same
           (more cycle along old behind keeps.is goes));
     }
 
 pub kept-over : (wiring : Wiring) (deck : List (List ℕ)) (card passed count : ℕ) (stepped : Stepped) (hopper : List (List ℕ))
-    (does : Cycle → MachineState → Bool) (last : Option Deed) → Keeps wiring deck card passed stepped hopper does last → passed ≡ count
+    (does : Cycle → MachineState → Bool) (last : Option PassedCycle) → Keeps wiring deck card passed stepped hopper does last → passed ≡ count
     → IsLastBefore wiring deck count does last
 kept-over wiring deck card passed count stepped hopper does last keeps counted = record {
   along = along_of card passed stepped hopper;
@@ -57,8 +57,8 @@ kept-over wiring deck card passed count stepped hopper does last keeps counted =
   is = keeps.is;
 }
 
--- the run of a deed
-pub last-comes : (wiring : Wiring) (deck : List (List ℕ)) (does : Cycle → MachineState → Bool) {along : Along} {last : Option Deed}
+-- the run of such a cycle
+pub last-comes : (wiring : Wiring) (deck : List (List ℕ)) (does : Cycle → MachineState → Bool) {along : Along} {last : Option PassedCycle}
     → IsLast wiring deck does along last → ComesTo wiring deck along
 last-comes wiring deck does begun = at_start
 last-comes wiring deck does (more cycle along last behind is goes) = on cycle along behind (last-comes wiring deck does is) goes

@@ -23,9 +23,9 @@ use Rattle.ledgers.specs.Entries.{same}
 use Rattle.ledgers.specs.Ledgers.{Along, ComesTo, Goes, ready}
 use Rattle.ledgers.specs.Running.{HasCycle}
 use Rattle.ledgers.proofs.Places.{goes-one, places-one}
-use Rattle.origins.specs.Deeds.{IsLast, LeftBy, StorageIsKept, begun, changes, deed_of, last_with, more, storage_at, text_held, text_left}
+use Rattle.origins.specs.Changes.{IsLast, LeftBy, StorageIsKept, begun, changes, passed_cycle, last_with, more, storage_at, text_held, text_left}
 use Rattle.origins.specs.Holding.{hold_same, hold_same_at, hold_same_rows, hold_same_to}
-use Rattle.origins.specs.declared.deed.Deed.{Deed}
+use Rattle.origins.specs.declared.changes.PassedCycle.{PassedCycle}
 use Rattle.origins.proofs.Keeping.{last-comes}
 use Rattle.origins.proofs.Storing.{four-units, goes-many, ready-storage, start-storage}
 
@@ -39,14 +39,14 @@ module _ {X : Type 0} (wiring : Wiring) (deck : List (List ℕ)) (does : Cycle �
     (cycle : Cycle) (along : Along) (behind : MachineState) → ComesTo wiring deck along → Goes wiring cycle along behind
     → does cycle behind ≡ false → view (ended behind cycle) ≡ view along.run.machine)
   where
-    left-same : (last : Option Deed) (now next : X) → next ≡ now → LeftBy wiring deck first leaves last now
+    left-same : (last : Option PassedCycle) (now next : X) → next ≡ now → LeftBy wiring deck first leaves last now
         → LeftBy wiring deck first leaves last next
     left-same None now next is left = is ∙ left
-    left-same (Some deed) now next is left = λ has. is ∙ left has
+    left-same (Some here) now next is left = λ has. is ∙ left has
 
-    left-more : (cycle : Cycle) (along : Along) (last : Option Deed) (behind : MachineState) (done : Bool) → does cycle behind ≡ done
+    left-more : (cycle : Cycle) (along : Along) (last : Option PassedCycle) (behind : MachineState) (done : Bool) → does cycle behind ≡ done
         → IsLast wiring deck does along last → Goes wiring cycle along behind → LeftBy wiring deck first leaves last (view along.run.machine)
-        → LeftBy wiring deck first leaves (last_with done (deed_of cycle along) last) (view (ended behind cycle))
+        → LeftBy wiring deck first leaves (last_with done (passed_cycle cycle along) last) (view (ended behind cycle))
     left-more cycle along last behind true is_done before goes left = λ has.
         let comes = last-comes wiring deck does before in
         let is : along ≡ has.along = places-one wiring deck comes has.comes (sym has.counted) in
@@ -60,7 +60,7 @@ module _ {X : Type 0} (wiring : Wiring) (deck : List (List ℕ)) (does : Cycle �
         (kept cycle along behind (last-comes wiring deck does before) goes is_done) left
 
     -- what stands was left by the last cycle that changed it
-    pub left-by : {along : Along} {last : Option Deed} → IsLast wiring deck does along last
+    pub left-by : {along : Along} {last : Option PassedCycle} → IsLast wiring deck does along last
         → LeftBy wiring deck first leaves last (view along.run.machine)
     left-by begun = starts
     left-by (more cycle along last behind before goes) =
@@ -208,7 +208,7 @@ module _ (wiring : Wiring) (deck : List (List ℕ)) (place : ℕ) (low : place <
       by (suc (suc (suc zero))) = refl
       by (suc (suc (suc (suc any)))) = refl
 
-  pub kept-text : {along : Along} {last : Option Deed} → IsLast wiring deck (changes place) along last
+  pub kept-text : {along : Along} {last : Option PassedCycle} → IsLast wiring deck (changes place) along last
       → LeftBy wiring deck (holds (storage_at_start 35)) (text_left place) last (text_held place along.run.machine)
   kept-text is =
       left-by wiring deck (changes place) (holds (storage_at_start 35)) (text_left place) (text_held place) start-text

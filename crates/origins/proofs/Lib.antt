@@ -2,4 +2,4 @@ pub mod Keeping
 pub mod Storing
 pub mod Texts
 mod Leaving
-mod Standing
+pub mod Standing

@@ -66,7 +66,7 @@ feeds-ready deck (Prog level ordinal) along feeding = feeding
 feeds-ready deck (Head heading) along feeding = feeding
 
 -- the cards stay through the points
-points-stations : (wiring : Wiring) (cycle : Cycle) (points : ℕ) (old now : MachineState) → Reached wiring cycle points old now
+pub points-stations : (wiring : Wiring) (cycle : Cycle) (points : ℕ) (old now : MachineState) → Reached wiring cycle points old now
     → now.stations ≡ old.stations
 unfolding Reached
 points-stations wiring cycle zero old now is = ap (λ (m : MachineState). m.stations) is

@@ -13,9 +13,9 @@ use Rattle.card_code.specs.declared.row.Row.{Row}
 use Rattle.origins.specs.Holes.{column_to, first_of, leads_to}
 use Rattle.origins.specs.Levels.{called_text, called_to, position_text, position_text_by, unlike_at, unlike_lines}
 use Rattle.origins.specs.declared.holes.Station.{Station}
-use Rattle.origins.specs.Deeds.{IsLastBefore, changes}
+use Rattle.origins.specs.Changes.{IsLastBefore, changes}
 use Rattle.origins.specs.Storage.{AreStorageTexts, is_read, line_at, lines_of, more, storage_text}
-use Rattle.origins.specs.declared.deed.Deed.{Deed}
+use Rattle.origins.specs.declared.changes.PassedCycle.{PassedCycle}
 
 -- the piece of the next number
 pub number-more : {X : Type 0} (f : ℕ → List X) (old mid new : List X) (next : ℕ) → mid ≡ old ++ flat_map f (range_with_len 0 next)
@@ -37,14 +37,14 @@ is-wired wiring exit entry test decides = by test (is_wired wiring exit entry) d
     by false false a b = refl
 
 -- the lines of all rows
-pub lines-whole : (wiring : Wiring) (cards : List (List ℕ)) (deed : Deed) (unit : ℕ) (ways : List (Option (Vec Hub Global)))
-    → lines_of wiring cards deed unit ways ≡ flat_map (line_at wiring cards deed unit ways) (range_with_len 0 12)
+pub lines-whole : (wiring : Wiring) (cards : List (List ℕ)) (since : PassedCycle) (unit : ℕ) (ways : List (Option (Vec Hub Global)))
+    → lines_of wiring cards since unit ways ≡ flat_map (line_at wiring cards since unit ways) (range_with_len 0 12)
 unfolding lines_of
-lines-whole wiring cards deed unit ways = refl
+lines-whole wiring cards since unit ways = refl
 
 -- one storage unit more
 pub one-more : (wiring : Wiring) (cards : List (List ℕ)) (passed : ℕ) (ways : List (Option (Vec Hub Global))) (place : ℕ)
-    (last : Option Deed) (old new : List ℕ) → AreStorageTexts wiring cards passed ways place old → is_read (place + 1) ways ≡ true
+    (last : Option PassedCycle) (old new : List ℕ) → AreStorageTexts wiring cards passed ways place old → is_read (place + 1) ways ≡ true
     → IsLastBefore wiring cards passed (changes place) last → new ≡ old ++ storage_text wiring cards (place + 1) ways last
     → AreStorageTexts wiring cards passed ways (place + 1) new
 one-more wiring cards passed ways place last old new are read is put =

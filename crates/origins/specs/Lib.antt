@@ -1,5 +1,5 @@
 pub mod Holding
-pub mod Deeds
+pub mod Changes
 pub mod Cards
 pub mod Holes
 pub mod Storage

@@ -11,9 +11,9 @@ use Rattle.ledger_text.specs.Names.{cycle_text}
 use Rattle.net.specs.declared.cycle.Cycle.{Cycle}
 use Rattle.net.specs.declared.cycle.Cycle.TheVariants.{RunIn, Card, Prog, Head}
 use Rattle.setups.specs.Wiring.{Wiring}
-use Rattle.origins.specs.Deeds.{IsLastBefore, changes}
+use Rattle.origins.specs.Changes.{IsLastBefore, changes}
 use Rattle.origins.specs.Holes.{brush_text, column_text, hole_to}
-use Rattle.origins.specs.declared.deed.Deed.{Deed}
+use Rattle.origins.specs.declared.changes.PassedCycle.{PassedCycle}
 use Rattle.origins.specs.declared.holes.Hole.{Hole}
 
 -- the column of a storage unit whose exit a hub is
@@ -56,40 +56,40 @@ led_text (Some hole) card entry = brush_text hole ++ codes " -> " ++ entry ++ co
 abbrev pub row_text : Row → List ℕ
 row_text row = codes "  row " ++ decimal (row_number row) ++ codes ": "
 
-abbrev pub storage_line : Wiring → List (List ℕ) → Deed → (unit : ℕ) → Row → (column : ℕ) → List ℕ
-storage_line wiring cards deed unit row column =
+abbrev pub storage_line : Wiring → List (List ℕ) → PassedCycle → (unit : ℕ) → Row → (column : ℕ) → List ℕ
+storage_line wiring cards since unit row column =
     row_text row
-    ++ led_text (hole_in_cycle wiring cards deed.cycle deed.card row (SE unit column)) deed.card (entry_text unit column) ++ codes "\n"
+    ++ led_text (hole_in_cycle wiring cards since.cycle since.card row (SE unit column)) since.card (entry_text unit column) ++ codes "\n"
 
 -- it stands only if a way at the row begins at an exit of the unit
-abbrev pub column_line : Wiring → List (List ℕ) → Deed → (unit : ℕ) → Row → Option ℕ → List ℕ
-column_line wiring cards deed unit row None = []
-column_line wiring cards deed unit row (Some column) = storage_line wiring cards deed unit row column
+abbrev pub column_line : Wiring → List (List ℕ) → PassedCycle → (unit : ℕ) → Row → Option ℕ → List ℕ
+column_line wiring cards since unit row None = []
+column_line wiring cards since unit row (Some column) = storage_line wiring cards since unit row column
 
 -- the line of the row of a place in the order of the points, by the ways at the rows
-abbrev pub line_at : Wiring → List (List ℕ) → Deed → (unit : ℕ) → List (Option (Vec Hub Global)) → ℕ → List ℕ
-line_at wiring cards deed unit ways place =
-    column_line wiring cards deed unit (row_passing place) (column_of_way unit (slice_index_or ways place None))
+abbrev pub line_at : Wiring → List (List ℕ) → PassedCycle → (unit : ℕ) → List (Option (Vec Hub Global)) → ℕ → List ℕ
+line_at wiring cards since unit ways place =
+    column_line wiring cards since unit (row_passing place) (column_of_way unit (slice_index_or ways place None))
 
 -- the lines of all rows
-unfoldable pub lines_of : Wiring → List (List ℕ) → Deed → (unit : ℕ) → List (Option (Vec Hub Global)) → List ℕ
-lines_of wiring cards deed unit ways = flat_map (line_at wiring cards deed unit ways) (range_with_len 0 12)
+unfoldable pub lines_of : Wiring → List (List ℕ) → PassedCycle → (unit : ℕ) → List (Option (Vec Hub Global)) → List ℕ
+lines_of wiring cards since unit ways = flat_map (line_at wiring cards since unit ways) (range_with_len 0 12)
 
 -- since which cycle a unit holds its text
-abbrev pub since_line : ℕ → Deed → List ℕ
-since_line unit deed = codes "storage " ++ decimal unit ++ codes " since " ++ cycle_text deed.cycle deed.card ++ codes "\n"
+abbrev pub since_line : ℕ → PassedCycle → List ℕ
+since_line unit since = codes "storage " ++ decimal unit ++ codes " since " ++ cycle_text since.cycle since.card ++ codes "\n"
 
 -- what is told of a unit of which ways begin, by the last cycle that changed its text
-abbrev pub storage_text : Wiring → List (List ℕ) → (unit : ℕ) → List (Option (Vec Hub Global)) → Option Deed → List ℕ
+abbrev pub storage_text : Wiring → List (List ℕ) → (unit : ℕ) → List (Option (Vec Hub Global)) → Option PassedCycle → List ℕ
 storage_text wiring cards unit ways None = []
-storage_text wiring cards unit ways (Some deed) = since_line unit deed ++ lines_of wiring cards deed unit ways
+storage_text wiring cards unit ways (Some since) = since_line unit since ++ lines_of wiring cards since unit ways
 
 -- The texts of the first storage units at whose exits one of some ways begins, one behind the other, before the cycle behind so many others.
 pub data AreStorageTexts (wiring : Wiring) (cards : List (List ℕ)) (passed : ℕ) (ways : List (Option (Vec Hub Global))) :
     ℕ → List ℕ → Type 0 where
   none : AreStorageTexts wiring cards passed ways 0 []
   more :
-      (place : ℕ) (texts : List ℕ) (last : Option Deed) → AreStorageTexts wiring cards passed ways place texts
+      (place : ℕ) (texts : List ℕ) (last : Option PassedCycle) → AreStorageTexts wiring cards passed ways place texts
       → is_read (place + 1) ways ≡ true → IsLastBefore wiring cards passed (changes place) last
       → AreStorageTexts wiring cards passed ways (place + 1) (texts ++ storage_text wiring cards (place + 1) ways last)
   other :

@@ -54,8 +54,8 @@ fn brush(station: Station, column: u8) -> Hub
     }
 }
 
-// Whether a wire of a setup leads from an exit to an entry.
-pub(crate) fn is_wired(setup: &Setup, exit: Hub, entry: Hub) -> bool
+/// Whether a wire of a setup leads from an exit to an entry.
+pub fn is_wired(setup: &Setup, exit: Hub, entry: Hub) -> bool
     ensures { result ≡ is_wired setup.now exit entry }
 {
     setup.has(exit, entry)
@@ -119,14 +119,9 @@ fn hole_at(
     Some(Hole { station, column })
 }
 
-// A hole in a row from which a wire leads to an entry while a card is read: of this card, else of the next one.
-pub(crate) fn hole_to(
-    setup: &Setup,
-    cards: &[Card],
-    card: u32,
-    row: Row,
-    entry: Hub,
-) -> Option<Hole>
+/// A hole in a row from which a wire leads to an entry while a card is read: of this card, else of the next one. The cards are those of the
+/// whole deck, and the card is told by its number from 1.
+pub fn hole_to(setup: &Setup, cards: &[Card], card: u32, row: Row, entry: Hub) -> Option<Hole>
     ensures { result ≡ hole_to setup.now cards.now card row entry }
 {
     let place = card as usize;
@@ -147,8 +142,8 @@ fn brush_letters(station: Station) -> &'static [u8]
     }
 }
 
-// The brush of a hole.
-pub(crate) fn write_brush(text: &mut Vec<u8>, hole: Hole) -> io::Result<()>
+/// Puts behind a text the brush that reads a hole. Fails only if no memory is left.
+pub fn write_brush(text: &mut Vec<u8>, hole: Hole) -> io::Result<()>
     ensures { OnOk result (text.new.items ≡ text.old.items ++ brush_text hole) }
 {
     let column = hole.column;
@@ -166,8 +161,8 @@ fn card_at(station: Station, card: u32) -> u64
     }
 }
 
-// The column of a hole, and its card.
-pub(crate) fn write_column(text: &mut Vec<u8>, hole: Hole, card: u32) -> io::Result<()>
+/// Puts behind a text the column of a hole and its card, by the number of the card that is read. Fails only if no memory is left.
+pub fn write_column(text: &mut Vec<u8>, hole: Hole, card: u32) -> io::Result<()>
     ensures { OnOk result (text.new.items ≡ text.old.items ++ column_text hole card) }
 {
     let column = hole.column;

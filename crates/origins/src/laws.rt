@@ -1,7 +1,7 @@
 //! Laws of origins. Each is a function that does nothing: its contract is the law.
 
 ghost use Rattle.origins.specs.Cards.{CardsAreNumbered};
-ghost use Rattle.origins.specs.Deeds.{StorageIsKept};
+ghost use Rattle.origins.specs.Changes.{StorageIsKept};
 
 /// A storage unit holds what the last cycle left that changed its text.
 pub fn storage_is_kept()

@@ -237,8 +237,10 @@ fn level_text(
     }
 }
 
-// Why a cycle runs, if it is a program cycle.
-fn called_by(
+/// Why a cycle runs, if it is a program cycle, in a run of these cards through a setup, by how many cards were read: which card calls its level,
+/// and by which hole, or that it is the last one. No text for other cycles, and if no wire from a hole tells it. Fails only if no memory is
+/// left.
+pub fn called_by(
     alloc: Global,
     setup: &Setup,
     cards: &[Card],

@@ -2,10 +2,10 @@
 //! cycle.
 //!
 //! [`origins_of`] answers the text for a wheel of a line: since which cycle a storage unit holds its text and by which holes of a card, and
-//! why the program cycle ran that printed the line.
+//! why the program cycle ran that printed the line, as [`called_by`] tells it alone.
 #![tactic(auto)]
 
-mod deed;
+mod changes;
 mod holding;
 mod holes;
 pub mod laws;
@@ -13,6 +13,7 @@ mod levels;
 mod storage;
 mod telling;
 
-pub use deed::{Deed, last_change};
-pub use holes::{Hole, Station};
+pub use changes::{PassedCycle, last_change};
+pub use holes::{Hole, Station, hole_to, is_wired, write_brush, write_column};
+pub use levels::called_by;
 pub use telling::origins_of;

@@ -5,7 +5,7 @@ ghost use Rattle.card_code.specs.MostCards.{most_cards};
 ghost use Rattle.ledgers.specs.Running.{HasCycle};
 ghost use Rattle.origins.specs.Storage.{AreStorageTexts, column_line, column_of_exit, column_of_way, entry_text, hole_in_cycle, is_read, led_text, line_at, lines_of, row_text, since_line, storage_line, storage_text};
 
-use crate::deed::{Deed, last_change};
+use crate::changes::{PassedCycle, last_change};
 use crate::holes::{Hole, hole_to, write_brush, write_column};
 use card_code::{Card, ROWS, Row};
 use hubs::Hub;
@@ -105,17 +105,17 @@ fn write_storage_line(
     text: &mut Vec<u8>,
     setup: &Setup,
     cards: &[Card],
-    deed: Deed,
+    since: PassedCycle,
     unit: u8,
     row: Row,
     column: u8,
 ) -> io::Result<()>
-    ensures { OnOk result (text.new.items ≡ text.old.items ++ storage_line setup.now cards.now deed unit row column) }
+    ensures { OnOk result (text.new.items ≡ text.old.items ++ storage_line setup.now cards.now since unit row column) }
 {
     let entry = Hub::SE(unit, column);
-    let hole = hole_in_cycle(setup, cards, deed.cycle, deed.card, row, entry);
+    let hole = hole_in_cycle(setup, cards, since.cycle, since.card, row, entry);
     write_row(text, row)?;
-    write_led(text, hole, deed.card, unit, column)?;
+    write_led(text, hole, since.card, unit, column)?;
     text.write_all(b"\n")
 }
 
@@ -124,15 +124,15 @@ fn write_column_line(
     text: &mut Vec<u8>,
     setup: &Setup,
     cards: &[Card],
-    deed: Deed,
+    since: PassedCycle,
     unit: u8,
     row: Row,
     column: Option<u8>,
 ) -> io::Result<()>
-    ensures { OnOk result (text.new.items ≡ text.old.items ++ column_line setup.now cards.now deed unit row column) }
+    ensures { OnOk result (text.new.items ≡ text.old.items ++ column_line setup.now cards.now since unit row column) }
 {
     match column {
-        Some(column) => write_storage_line(text, setup, cards, deed, unit, row, column),
+        Some(column) => write_storage_line(text, setup, cards, since, unit, row, column),
         None => Ok(()),
     }
 }
@@ -142,17 +142,17 @@ fn write_line_at(
     text: &mut Vec<u8>,
     setup: &Setup,
     cards: &[Card],
-    deed: Deed,
+    since: PassedCycle,
     unit: u8,
     ways: &[Option<Vec<Hub>>],
     place: usize,
 ) -> io::Result<()>
     requires place { place < 12 }
     requires ways { length ways.now ≡ 12 }
-    ensures { OnOk result (text.new.items ≡ text.old.items ++ line_at setup.now cards.now deed unit ways.now place) }
+    ensures { OnOk result (text.new.items ≡ text.old.items ++ line_at setup.now cards.now since unit ways.now place) }
 {
     let column = column_of_way(unit, &ways[place]);
-    write_column_line(text, setup, cards, deed, unit, ROWS[place], column)
+    write_column_line(text, setup, cards, since, unit, ROWS[place], column)
 }
 
 // The lines of all rows.
@@ -160,25 +160,25 @@ fn write_lines(
     text: &mut Vec<u8>,
     setup: &Setup,
     cards: &[Card],
-    deed: Deed,
+    since: PassedCycle,
     unit: u8,
     ways: &[Option<Vec<Hub>>],
 ) -> io::Result<()>
     requires { length ways.now ≡ 12 }
-    ensures { OnOk result (text.new.items ≡ text.old.items ++ lines_of setup.now cards.now deed unit ways.now) }
+    ensures { OnOk result (text.new.items ≡ text.old.items ++ lines_of setup.now cards.now since unit ways.now) }
 {
     for place in 0..12 {
-        write_line_at(text, setup, cards, deed, unit, ways, place)?;
+        write_line_at(text, setup, cards, since, unit, ways, place)?;
     }
     Ok(())
 }
 
 // Since which cycle a unit holds its text.
-fn write_since(text: &mut Vec<u8>, unit: u8, deed: Deed) -> io::Result<()>
-    ensures { OnOk result (text.new.items ≡ text.old.items ++ since_line unit deed) }
+fn write_since(text: &mut Vec<u8>, unit: u8, since: PassedCycle) -> io::Result<()>
+    ensures { OnOk result (text.new.items ≡ text.old.items ++ since_line unit since) }
 {
     write!(text, "storage {unit} since ")?;
-    write_cycle(text, deed.cycle, deed.card)?;
+    write_cycle(text, since.cycle, since.card)?;
     text.write_all(b"\n")
 }
 
@@ -189,16 +189,16 @@ fn write_storage(
     cards: &[Card],
     unit: u8,
     ways: &[Option<Vec<Hub>>],
-    last: Option<Deed>,
+    last: Option<PassedCycle>,
 ) -> io::Result<()>
     requires { length ways.now ≡ 12 }
     ensures { OnOk result (text.new.items ≡ text.old.items ++ storage_text setup.now cards.now unit ways.now last) }
 {
-    let Some(deed) = last else {
+    let Some(since) = last else {
         return Ok(());
     };
-    write_since(text, unit, deed)?;
-    write_lines(text, setup, cards, deed, unit, ways)
+    write_since(text, unit, since)?;
+    write_lines(text, setup, cards, since, unit, ways)
 }
 
 // Puts behind the texts of the units before it that of a storage unit, 1 to 4, if one of the ways begins at its exits.

@@ -1,12 +1,12 @@
 -- Why no explanation is printed.
-use Rattle.std.proofs.Common.{◌≡◌, ◌≢◌, ◌∙◌, ◌⊎◌, inl, inr, ap, arith, sym, subst, refl, ℕ, List, [], Option, Some, Result, Ok, Err, unwrap_or}
-use Rattle.std.specs.Prelude.{IfErr, IfSome, OnOk}
+use Rattle.std.proofs.Common.{◌≡◌, ◌≢◌, ◌∙◌, ◌⊎◌, inl, inr, ap, arith, sym, subst, refl, ℕ, List, [], Option, Some, Result, unwrap_or}
+use Rattle.std.specs.Prelude.{IfErr, IfSome}
 use Rattle.faults.proofs.Statuses.{memory_or_not}
 use Rattle.faults.specs.declared.fault.Fault.{Fault}
 use Rattle.faults.specs.declared.fault.Fault.TheVariants as fault
 use Rattle.panel_guides.proofs.RefusedTexts.{texts_status}
 use Rattle.panel_guides.specs.Explained.{IsUnexplained, RefusesTexts, no_line, no_wheel, nowhere, texts}
-use Rattle.panel_guides.specs.Served.{LeavesUnexplained, PrintsExplanation, StopsExplanation}
+use Rattle.panel_guides.specs.Served.{LeavesUnexplained, StopsExplanation}
 use Rattle.panel_guides.specs.Unexplained.{unexplained_status}
 use Rattle.panel_guides.specs.declared.place.Place.{Place}
 use Rattle.panel_guides.specs.declared.unexplained.Unexplained.{Unexplained}
@@ -60,18 +60,6 @@ refused_unread text deck place met told unreadable Unprinted refuses same =
     (λ not_memory. texts met (refuses (λ is. not_memory (same ∙ ap why.Failed is)) (unwrap_or deck [])) same)
 
 -- a deck that is known is the one in memory
-pub prints_for : {X E : Type 0} (result : Result X E) (text read items : List ℕ) (deck old new : Option (List ℕ)) (place : Place)
-    → read ≡ items → IfSome deck (λ known. items ≡ known) → OnOk result (PrintsExplanation text (Some read) place old new)
-    → OnOk result (PrintsExplanation text deck place old new)
-prints_for (Ok _) text read items deck old new place same is_deck is = record {
-  read = is.read;
-  is_deck = subst (λ (bytes : List ℕ). IfSome deck (λ known. bytes ≡ known)) (sym (is.is_deck ∙ same)) is_deck;
-  answer = is.answer;
-  explained = is.explained;
-  written = is.written;
-}
-prints_for (Err _) text read items deck old new place same is_deck is = tt
-
 pub stops_for : {X : Type 0} (result : Result X Unexplained) (text read items : List ℕ) (deck : Option (List ℕ)) (place : Place)
     (unreadable : Fault) (Unprinted : Type 0) → read ≡ items → IfSome deck (λ known. items ≡ known)
     → IfErr result (λ told. (any : Fault) → StopsExplanation text (Some read) place told any Unprinted)

@@ -1,23 +1,13 @@
--- What the command has done where it ends well, and what it has told where it doesn't. The deck is known where its reader tells its bytes
--- beforehand, and what is written where the writer tells what it holds.
+-- What a command that explains has told if it doesn't end well. The deck is known if its reader tells its bytes beforehand.
 use Rattle.std.specs.Prelude.{◌≡◌, ℕ, List, Option, IfSome}
-use Rattle.std.specs.Io.KnownBytes.{Appends}
 use Rattle.faults.specs.declared.fault.Fault.{Fault}
-use Rattle.panel_guides.specs.Explained.{IsExplained, IsUnexplained}
+use Rattle.panel_guides.specs.Explained.{IsUnexplained}
 use Rattle.panel_guides.specs.Panels.{HasPanel}
 use Rattle.panel_guides.specs.Unexplained.{unexplained_status}
 use Rattle.panel_guides.specs.declared.place.Place.{Place}
 use Rattle.panel_guides.specs.declared.unexplained.Unexplained.{Unexplained}
 use Rattle.panel_guides.specs.declared.unexplained.Unexplained.TheVariants as why
 use Rattle.program_io.specs.Stops.{StopsWith}
-
--- the explanation of the run over the deck that was read was written after what was there
-pub record PrintsExplanation (text : List ℕ) (deck : Option (List ℕ)) (place : Place) (old new : Option (List ℕ)) : Type 0 where
-  pub read : List ℕ
-  pub is_deck : IfSome deck (λ known. read ≡ known)
-  pub answer : List ℕ
-  pub explained : IsExplained text read place answer
-  pub written : Appends old new answer
 
 -- with the deck that was read nothing is explained, and this is told
 pub record LeavesUnexplained (text : List ℕ) (deck : Option (List ℕ)) (place : Place) (told : Unexplained) : Type 0 where

@@ -3,8 +3,8 @@
 //!
 //! [`legend_of`] answers the legend of the bytes of a chart, and [`legend_to_end`] does the whole command: the legend is printed, or why
 //! there is none is told on one line. [`explained`] answers the explanation of the wheel at a [`Place`] of the pages that a planning chart,
-//! or a wiring chart, gives of a deck, and [`explain_to_end`] does the whole command. [`planned_run`] and [`wired_run`] are the panel and
-//! the cards of a text and a deck, for those who tell something else of them.
+//! or a wiring chart, gives of a deck, and [`tell_unexplained`] tells on one line why there is none. [`planned_run`] and [`wired_run`] are
+//! the panel and the cards of a text and a deck, for those who tell something else of them.
 #![tactic(auto)]
 
 mod answers;
@@ -14,7 +14,6 @@ mod laws;
 mod legends;
 mod panels;
 mod place;
-mod serving;
 mod unexplained;
 
 pub use answers::{explained, unexplained_at};
@@ -23,5 +22,4 @@ pub use laws::explained_lines_are_on_pages;
 pub use legends::{legend_of, legend_to_end, print_legend};
 pub use panels::{PlannedRun, WiredRun, check_panel, is_wiring_text, planned_run, wired_run};
 pub use place::Place;
-pub use serving::{explain_to_end, print_explanation};
 pub use unexplained::{Unexplained, tell_unexplained, write_unexplained};

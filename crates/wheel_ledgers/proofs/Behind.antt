@@ -8,7 +8,7 @@ use Rattle.hubs.specs.declared.hub.Hub.{Hub}
 use Rattle.ledgers.specs.Running.{PlacesLine}
 use Rattle.ledgers.specs.declared.found.FoundCycle.{FoundCycle}
 use Rattle.setups.specs.Wiring.{Wiring}
-use Rattle.wheel_ledgers.specs.Resting.{AreTexts, TellsLedgers, is_printed_of, more}
+use Rattle.wheel_ledgers.specs.Resting.{AreTexts, IsBasisText, TellsBasis, is_printed_of, more}
 use Rattle.wheel_ledgers.specs.Told.{IsPlaceText}
 use Rattle.wheel_ledgers.specs.Totals.{find_total}
 use Rattle.wheel_ledgers.specs.declared.chart_totals.TitledAccount.{TitledAccount}
@@ -23,16 +23,16 @@ one_more wiring cards totals ends found ways place old text new are printed is p
     subst (λ (all : List ℕ). AreTexts wiring cards totals ends found ways (place + 1) all) (sym put) (more place old text are printed is)
 
 -- all of them, for a wheel that is explained, of the line that was found
-pub tells_ledgers : (wiring : Wiring) (cards : List (List ℕ)) (totals : List TitledAccount) (ends page line wheel : ℕ) (told : Explanation)
+pub tells_basis : (wiring : Wiring) (cards : List (List ℕ)) (totals : List TitledAccount) (ends page line wheel : ℕ) (told : Explanation)
     (found : FoundCycle) (ways : List (Option (Vec Hub Global))) (answer : List ℕ) → IsExplanation wiring cards page line wheel told
     → PlacesLine wiring cards found → found.line.page ≡ page → found.line.line ≡ line → ways ≡ told.rows.items
-    → AreTexts wiring cards totals ends found ways 32 answer → TellsLedgers wiring cards totals ends page line wheel answer
-tells_ledgers wiring cards totals ends page line wheel told found ways answer explains places at_page at_line are texts = record {
+    → IsBasisText wiring cards totals ends found ways answer → TellsBasis wiring cards totals ends page line wheel answer
+tells_basis wiring cards totals ends page line wheel told found ways answer explains places at_page at_line are texts = record {
   explanation = told;
   explains = explains;
   found = found;
   places = places;
   at_page = at_page;
   at_line = at_line;
-  texts = subst (λ (any : List (Option (Vec Hub Global))). AreTexts wiring cards totals ends found any 32 answer) are texts;
+  basis = subst (λ (any : List (Option (Vec Hub Global))). IsBasisText wiring cards totals ends found any answer) are texts;
 }

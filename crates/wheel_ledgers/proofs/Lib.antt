@@ -1,3 +1,5 @@
-mod Accounts
+pub mod Accounts
 mod Behind
 mod Lists
+mod Asked
+mod Down

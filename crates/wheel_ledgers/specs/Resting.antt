@@ -1,4 +1,4 @@
--- The ledgers of all counter groups that a wheel is printed of.
+-- What a wheel is printed of: the ledgers of counter groups, and the origins of all else.
 use Rattle.std.specs.Prelude.{◌≡◌, ℕ, ◌+◌, ◌==◌, ◌||◌, Bool, false, true, List, [], ◌∷◌, ◌++◌, Option, Some, None, Vec, option_and_then}
 use Rattle.std.specs.declared.alloc.Global.{Global}
 use Rattle.explanations.specs.Explanations.{IsExplanation}
@@ -6,6 +6,7 @@ use Rattle.explanations.specs.declared.explanation.Explanation.{Explanation}
 use Rattle.hubs.specs.declared.hub.Hub.{Hub}
 use Rattle.ledgers.specs.Running.{PlacesLine}
 use Rattle.ledgers.specs.declared.found.FoundCycle.{FoundCycle}
+use Rattle.origins.specs.Told.{AreOrigins}
 use Rattle.setups.specs.Wiring.{Wiring}
 use Rattle.wheel_ledgers.specs.Places.{place_of}
 use Rattle.wheel_ledgers.specs.Printed.{group_of_way}
@@ -39,9 +40,19 @@ pub data AreTexts (wiring : Wiring) (cards : List (List ℕ)) (totals : List Tit
       (place : ℕ) (texts : List ℕ) → AreTexts wiring cards totals ends found ways place texts → is_printed_of ways place ≡ false
       → AreTexts wiring cards totals ends found ways (place + 1) texts
 
--- On a panel, over cards, by the totals of a chart: the text tells the ledgers of all counter groups that are printed on the wheel of the
--- line at this page and line of it, as the explanation of the wheel has it, before a cycle that placed the line there.
-pub record TellsLedgers (wiring : Wiring) (cards : List (List ℕ)) (totals : List TitledAccount) (ends page line wheel : ℕ)
+-- Before a cycle that placed a line, by the ways to a wheel at the rows of the cycle: the text tells the ledgers of all counter groups at
+-- whose exits one of the ways begins, and behind them the origins of what else they begin at, and of the cycle.
+pub record IsBasisText (wiring : Wiring) (cards : List (List ℕ)) (totals : List TitledAccount) (ends : ℕ) (found : FoundCycle)
+    (ways : List (Option (Vec Hub Global))) (answer : List ℕ) : Type 0 where
+  pub ledgers : List ℕ
+  pub texts : AreTexts wiring cards totals ends found ways 32 ledgers
+  pub origins : List ℕ
+  pub are : AreOrigins wiring cards found ways origins
+  pub whole : answer ≡ ledgers ++ origins
+
+-- On a panel, over cards, by the totals of a chart: the text tells what the wheel of the line at this page and line of it is printed of, as
+-- the explanation of the wheel has it, before a cycle that placed the line there.
+pub record TellsBasis (wiring : Wiring) (cards : List (List ℕ)) (totals : List TitledAccount) (ends page line wheel : ℕ)
     (answer : List ℕ) : Type 0 where
   pub explanation : Explanation
   pub explains : IsExplanation wiring cards page line wheel explanation
@@ -49,4 +60,4 @@ pub record TellsLedgers (wiring : Wiring) (cards : List (List ℕ)) (totals : Li
   pub places : PlacesLine wiring cards found
   pub at_page : found.line.page ≡ page
   pub at_line : found.line.line ≡ line
-  pub texts : AreTexts wiring cards totals ends found explanation.rows.items 32 answer
+  pub basis : IsBasisText wiring cards totals ends found explanation.rows.items answer

@@ -106,8 +106,8 @@ fn has_place(account: Account, place: usize) -> bool
     }
 }
 
-// The first total that the group of a place serves.
-pub(crate) fn find_total(totals: &[TitledAccount], place: usize) -> Option<TitledAccount>
+/// The first total that the group of a place serves; none if it serves none of these.
+pub fn find_total(totals: &[TitledAccount], place: usize) -> Option<TitledAccount>
     requires { AreAccounts totals.now }
     ensures value { result ≡ find_total totals.now place }
     ensures account { IfSome result (λ total. IsAccount total.account) }

@@ -39,8 +39,9 @@ fn group_of_ways(ways: &[Option<Vec<Hub>>]) -> Option<Group>
     None
 }
 
-// The place of the counter group that a wheel is printed of, by its explanation.
-pub(crate) fn place_printed(told: &Explanation) -> Option<usize>
+/// The place of the counter group that a wheel is printed of, by its explanation: the first one at whose exit one of the ways to it begins.
+/// None if no way begins at one.
+pub fn place_printed(told: &Explanation) -> Option<usize>
     ensures value { result ≡ place_printed told.now }
     ensures range { IfSome result (λ place. place < 32) }
 {

@@ -1,4 +1,4 @@
-//! The ledgers of all counter groups that a wheel is printed of.
+//! What a wheel is printed of.
 
 ghost use Rattle.std.specs.Prelude.{◌≡◌, ◌≤◌, ◌<◌, ◌+◌, ◌⊎◌, length, Err, IfOk, OnOk};
 ghost use Rattle.card_code.specs.MostCards.{most_cards};
@@ -6,7 +6,7 @@ ghost use Rattle.explanations.specs.Explanations.{IsExplanation};
 ghost use Rattle.explanations.specs.PlacedInRun.{PrintsNoneAt};
 ghost use Rattle.explanations.specs.declared.refusal.Refusal.TheVariants.{NoSuchLine, NoSuchWheel};
 ghost use Rattle.ledgers.specs.Running.{PlacesLine};
-ghost use Rattle.wheel_ledgers.specs.Resting.{AreTexts, TellsLedgers, begins_at, is_printed_of};
+ghost use Rattle.wheel_ledgers.specs.Resting.{AreTexts, IsBasisText, TellsBasis, begins_at, is_printed_of};
 ghost use Rattle.wheel_ledgers.specs.Totals.{AreAccounts};
 
 use crate::chart_totals::TitledAccount;
@@ -17,6 +17,7 @@ use card_code::Card;
 use explanations::{Explanation, Refusal, explain};
 use hubs::Hub;
 use ledgers::FoundCycle;
+use origins::origins_of;
 use setups::Setup;
 use std::alloc::{AllocError, Global};
 
@@ -34,7 +35,7 @@ fn begins_at(way: &Option<Vec<Hub>>, place: usize) -> bool
 }
 
 // Whether one of some ways begins at an exit of the group of a place.
-fn is_printed_of(ways: &[Option<Vec<Hub>>], place: usize) -> bool
+pub(crate) fn is_printed_of(ways: &[Option<Vec<Hub>>], place: usize) -> bool
     ensures { result ≡ is_printed_of ways.now place }
 {
     for way in ways {
@@ -95,8 +96,30 @@ fn texts_of(
     Ok(text)
 }
 
-// The ledgers for a wheel, which is explained, of a line, by the totals that are known.
-fn ledgers_of(
+// The ledgers of all places at whose groups ways to a wheel begin, and behind them the origins.
+fn basis_text(
+    alloc: Global,
+    setup: &Setup,
+    totals: &[TitledAccount],
+    cards: &[Card],
+    found: FoundCycle,
+    ways: &[Option<Vec<Hub>>],
+    ends: usize,
+) -> Result<Vec<u8>, AllocError>
+    requires few { length cards.now ≤ most_cards }
+    requires accounts { AreAccounts totals.now }
+    requires places { PlacesLine setup.now cards.now found }
+    requires rows { length ways.now ≡ 12 }
+    ensures { IfOk result (λ text. IsBasisText setup.now cards.now totals.now ends found ways.now text.items) }
+{
+    let mut text = texts_of(alloc, setup, totals, cards, found, ways, ends)?;
+    let origins = origins_of(alloc, setup, cards, found, ways)?;
+    text.extend_from_slice(origins.as_slice())?;
+    Ok(text)
+}
+
+// What a wheel, which is explained, of a line is printed of, by the totals that are known.
+fn basis_of(
     alloc: Global,
     setup: &Setup,
     totals: &[TitledAccount],
@@ -111,27 +134,28 @@ fn ledgers_of(
     requires accounts { AreAccounts totals.now }
     requires wheel { (1 ≤ wheel) × (wheel ≤ 120) }
     requires explained { IsExplanation setup.now cards.now page line wheel told.now }
-    ensures told { IfOk result (λ text. TellsLedgers setup.now cards.now totals.now ends page line wheel text.items) }
+    ensures told { IfOk result (λ text. TellsBasis setup.now cards.now totals.now ends page line wheel text.items) }
     ensures there { result ≡ Err NoSuchWheel → ⊥ }
     ensures no_line { result ≡ Err NoSuchLine → PrintsNoneAt setup.now cards.now page line }
 {
     let found = cycle_of(alloc, setup, cards, page, line)?;
     let ways = told.rows.as_slice();
-    match texts_of(alloc, setup, totals, cards, found, ways, ends) {
+    match basis_text(alloc, setup, totals, cards, found, ways, ends) {
         Ok(text) => Ok(text),
         Err(_) => Err(Refusal::Memory),
     }
 }
 
-/// The texts of the ledgers of all counter groups that a wheel of a line is printed of, one behind the other: of each group at one of whose
-/// exits a way to the wheel begins, in the order of the groups on the panel. None of them if no way does. The figure that was printed isn't
-/// told. Otherwise as [`tell_ledger`].
+/// The text of all that a wheel of a line is printed of. First come the ledgers of all counter groups at one of whose exits a way to the
+/// wheel begins, in the order of the groups on the panel, as [`tell_ledger`] tells them, without the figure that was printed; then the
+/// origins, as [`origins_of`] tells them. The text is empty if there is nothing of all this.
 ///
 /// Refused with `NoSuchWheel` if the wheel isn't one of 1 to 120, else with `NoSuchLine` if no line stands there, and with `Memory` if
 /// no memory is left.
 ///
 /// [`tell_ledger`]: crate::tell_ledger
-pub fn tell_ledgers(
+/// [`origins_of`]: origins::origins_of
+pub fn tell_basis(
     alloc: Global,
     setup: &Setup,
     totals: &[TitledAccount],
@@ -143,7 +167,7 @@ pub fn tell_ledgers(
 ) -> Result<Vec<u8>, Refusal>
     requires few { length cards.now ≤ most_cards }
     requires accounts { AreAccounts totals.now }
-    ensures told { IfOk result (λ text. TellsLedgers setup.now cards.now totals.now ends page line wheel text.items) }
+    ensures told { IfOk result (λ text. TellsBasis setup.now cards.now totals.now ends page line wheel text.items) }
     ensures no_wheel { (wheel < 1) ⊎ (120 < wheel) → result ≡ Err NoSuchWheel }
     ensures wheel { result ≡ Err NoSuchWheel → (wheel < 1) ⊎ (120 < wheel) }
     ensures no_line { result ≡ Err NoSuchLine → PrintsNoneAt setup.now cards.now page line }
@@ -152,5 +176,5 @@ pub fn tell_ledgers(
         return Err(Refusal::NoSuchWheel);
     }
     let told = explain(alloc, setup, cards, page, line, wheel)?;
-    ledgers_of(alloc, setup, totals, cards, page, line, wheel, &told, ends)
+    basis_of(alloc, setup, totals, cards, page, line, wheel, &told, ends)
 }

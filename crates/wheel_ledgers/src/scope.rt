@@ -1,4 +1,4 @@
-//! Which ledgers are told of a wheel.
+//! What is told of a wheel.
 
 ghost use Rattle.std.specs.Prelude.{◌≡◌, ◌≤◌, ◌<◌, ◌⊎◌, length, Err, IfOk};
 ghost use Rattle.card_code.specs.MostCards.{most_cards};
@@ -8,24 +8,27 @@ ghost use Rattle.wheel_ledgers.specs.Scopes.{TellsScope};
 ghost use Rattle.wheel_ledgers.specs.Totals.{AreAccounts};
 
 use crate::chart_totals::TitledAccount;
-use crate::resting::tell_ledgers;
+use crate::resting::tell_basis;
 use crate::telling::tell_ledger;
+use crate::whole::tell_whole;
 use card_code::Card;
 use explanations::Refusal;
 use setups::Setup;
 use std::alloc::Global;
 
-/// Which ledgers are told of a wheel.
+/// What is told of a wheel.
 #[derive(Clone, Copy, Debug, PartialEq, Eq)]
 pub enum Scope {
-    /// That of the figure on it, or that there is none, as [`tell_ledger`] tells it.
+    /// The ledger of the figure on it, or that there is none, as [`tell_ledger`] tells it.
     Figure,
-    /// Those of all counter groups that it is printed of, as [`tell_ledgers`] tells them.
-    Groups,
+    /// All that it is printed of, as [`tell_basis`] tells it.
+    Basis,
+    /// The same down to the holes, as [`tell_whole`] tells it.
+    Whole,
 }
 
-/// The text of the ledgers that are asked for, of a wheel of a line that a setup of the panel prints of a deck, of at most 999,999 cards:
-/// as [`tell_ledger`] or [`tell_ledgers`] tells them.
+/// The text of what is asked for, of a wheel of a line that a setup of the panel prints of a deck, of at most 999,999 cards:
+/// as [`tell_ledger`], [`tell_basis`] or [`tell_whole`] tells it.
 ///
 /// Refused with `NoSuchWheel` if the wheel isn't one of 1 to 120, else with `NoSuchLine` if no line stands there, and with `Memory` if
 /// no memory is left.
@@ -49,6 +52,7 @@ pub fn tell_scope(
 {
     match scope {
         Scope::Figure => tell_ledger(alloc, setup, totals, cards, page, line, wheel, ends),
-        Scope::Groups => tell_ledgers(alloc, setup, totals, cards, page, line, wheel, ends),
+        Scope::Basis => tell_basis(alloc, setup, totals, cards, page, line, wheel, ends),
+        Scope::Whole => tell_whole(alloc, setup, totals, cards, page, line, wheel, ends),
     }
 }

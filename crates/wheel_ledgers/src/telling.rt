@@ -20,8 +20,8 @@ use ledgers::{Account, FoundCycle, find_cycle, ledger_before};
 use setups::Setup;
 use std::alloc::{AllocError, Global};
 
-// The account that is told for a place.
-fn account_told(total: &Option<TitledAccount>, place: usize) -> Account
+/// The account that is told for the group of a place: that of the total that it serves, or else the one group.
+pub fn account_told(total: &Option<TitledAccount>, place: usize) -> Account
     ensures { result ≡ account_told total.now place }
 {
     match total {
@@ -30,8 +30,8 @@ fn account_told(total: &Option<TitledAccount>, place: usize) -> Account
     }
 }
 
-// The title of a total.
-fn title_told(total: &Option<TitledAccount>) -> Option<Title>
+/// What a chart knows of a total, if one is known.
+pub fn title_told(total: &Option<TitledAccount>) -> Option<Title>
     ensures { option_map words_of result ≡ words_told total.now }
 {
     match total {

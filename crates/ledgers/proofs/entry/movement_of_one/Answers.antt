@@ -1,4 +1,4 @@
-use Rattle.ledgers.proofs.Small.{entered-digits, entered-number, entered-places}
+use Rattle.ledgers.proofs.Small.{entered-digits, entered-places}
 use Rattle.ledgers.proofs.entry.movement_of_one.Goals as goal
 
 pub number_of-requires-clause-positions : goal.number_of-requires-clause-positions

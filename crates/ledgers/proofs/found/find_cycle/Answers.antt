@@ -1,4 +1,4 @@
-use Rattle.std.proofs.Common.{◌∙◌, sym, ap, subst, arith}
+use Rattle.std.proofs.Common.{◌∙◌, sym, arith}
 use Rattle.ledgers.specs.Running.{along_of}
 use Rattle.ledgers.proofs.Keeping.{seeks-begun, seeks-more}
 use Rattle.ledgers.proofs.Places.{comes-within}

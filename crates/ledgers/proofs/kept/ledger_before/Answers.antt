@@ -1,7 +1,7 @@
-use Rattle.std.proofs.Common.{◌∙◌, sym, ap, subst, arith, List}
+use Rattle.std.proofs.Common.{◌∙◌, sym, ap, arith, List}
 use Rattle.counters.specs.Counters.{Counter}
 use Rattle.ledgers.specs.Accounts.{movement_of}
-use Rattle.ledgers.specs.Summaries.{Summary, summary_after}
+use Rattle.ledgers.specs.Summaries.{summary_after}
 use Rattle.ledgers.specs.declared.entry.Movement.{Movement}
 use Rattle.ledgers.specs.Running.{along_of}
 use Rattle.ledgers.proofs.Keeping.{groups-lawful, groups-many, keeps-begun, keeps-more, kept-over, left-out-few}

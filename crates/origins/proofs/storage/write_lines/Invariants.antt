@@ -6,4 +6,4 @@ use Rattle.origins.proofs.storage.write_lines.Given as goal
 -- the lines of the rows so far are written
 abbrev pub invariant-loop-place : goal.invariant-loop-place
 invariant-loop-place l =
-    l.text.items ≡ l.initial.text.items ++ flat_map (line_at l.setup l.cards l.fn.deed l.fn.unit l.ways) (range_with_len 0 l.place)
+    l.text.items ≡ l.initial.text.items ++ flat_map (line_at l.setup l.cards l.fn.since l.fn.unit l.ways) (range_with_len 0 l.place)

@@ -1,0 +1,6 @@
+//! What a ledger or an origin tells by a hole of a card is what the machine does: the hole sends an impulse to the entry.
+#![tactic(auto)]
+
+mod law;
+
+pub use law::holes_impulse_entries;

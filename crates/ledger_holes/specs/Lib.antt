@@ -1,0 +1,5 @@
+pub mod Positions
+pub mod Digits
+pub mod Down
+pub mod InCycle
+pub mod Feeding

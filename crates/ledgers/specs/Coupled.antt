@@ -1,0 +1,21 @@
+-- The number that two groups stand for is told by their ledger.
+use Rattle.std.specs.Prelude.{ℕ, ◌<◌, List}
+use Rattle.counters.specs.Numbers.{number}
+use Rattle.machine.specs.Machine.{MachineState}
+use Rattle.setups.specs.Wiring.{Wiring}
+use Rattle.ledgers.specs.Entries.{joined}
+use Rattle.ledgers.specs.Ledgers.{Along, Chain, IsLedger, group_at}
+use Rattle.ledgers.specs.declared.account.Account.TheVariants.{Coupled}
+use Rattle.ledgers.specs.declared.entry.Entry.{Entry}
+
+-- the number of two groups of a machine, of which the lower one has the units
+abbrev pub number_of_both : MachineState → (upper lower : ℕ) → ℕ
+number_of_both machine upper lower =
+    joined (number (group_at machine upper).digits) (number (group_at machine lower).digits) (group_at machine lower).name.width
+
+-- The number that two groups stand for is told by their ledger: its numbers chain from 0 to it.
+abbrev pub CoupledLedgersTellNumbers : Type 0
+CoupledLedgersTellNumbers =
+    (wiring : Wiring) (deck : List (List ℕ)) (upper lower : ℕ) (along : Along) (entries : List Entry)
+    → upper < 32 → lower < 32 → IsLedger wiring deck (Coupled upper lower) along entries
+    → Chain 0 entries (number_of_both along.run.machine upper lower)

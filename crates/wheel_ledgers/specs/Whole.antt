@@ -1,0 +1,102 @@
+-- What a wheel is printed of, down to the holes.
+use Rattle.std.specs.Prelude.{◌≡◌, ℕ, zero, suc, List, [], ◌∷◌, ◌++◌, Option, Vec, if◌then◌else◌}
+use Rattle.std.specs.List.{flat_map, range_with_len}
+use Rattle.std.specs.declared.alloc.Global.{Global}
+use Rattle.explanations.specs.Explanations.{IsExplanation}
+use Rattle.explanations.specs.declared.explanation.Explanation.{Explanation}
+use Rattle.hubs.specs.declared.hub.Hub.{Hub}
+use Rattle.ledger_holes.specs.Down.{ledger_down}
+use Rattle.ledgers.specs.Running.{IsKeptLedger, PlacesLine}
+use Rattle.ledgers.specs.Summaries.{Summary}
+use Rattle.ledgers.specs.declared.account.Account.{Account}
+use Rattle.ledgers.specs.declared.found.FoundCycle.{FoundCycle}
+use Rattle.origins.specs.Told.{AreOrigins}
+use Rattle.origins.specs.declared.changes.PassedCycle.{PassedCycle}
+use Rattle.setups.specs.Wiring.{Wiring}
+use Rattle.wheel_ledgers.specs.Lower.{AreLower}
+use Rattle.wheel_ledgers.specs.Resting.{is_printed_of}
+use Rattle.wheel_ledgers.specs.Told.{account_told, words_told}
+use Rattle.wheel_ledgers.specs.Totals.{find_total}
+use Rattle.wheel_ledgers.specs.declared.chart_totals.TitledAccount.{TitledAccount}
+use Rattle.wheel_ledgers.specs.declared.lower.AskedLedger.{AskedLedger}
+
+-- the account that a ledger is asked for
+abbrev pub account_asked : List TitledAccount → AskedLedger → Account
+account_asked totals asked = account_told (find_total totals asked.place) asked.place
+
+-- The ledgers to which the entries that are told of a ledger lead: the first ones, and then the last ones.
+pub record AreLowerTold (wiring : Wiring) (cards : List (List ℕ)) (totals : List TitledAccount) (account : Account) (summary : Summary)
+    (lower : List AskedLedger) : Type 0 where
+  pub of_first : List AskedLedger
+  pub first : AreLower wiring cards totals account summary.first of_first
+  pub of_last : List AskedLedger
+  pub last : AreLower wiring cards totals account summary.last of_last
+  pub whole : lower ≡ of_first ++ of_last
+
+-- A ledger that is asked for is told down to the holes, and these are the ledgers to which it leads.
+pub record IsToldLedger (wiring : Wiring) (cards : List (List ℕ)) (totals : List TitledAccount) (ends : ℕ) (asked : AskedLedger)
+    (text : List ℕ) (lower : List AskedLedger) : Type 0 where
+  pub summary : Summary
+  pub is : IsKeptLedger wiring cards asked.before.passed ends (account_asked totals asked) summary
+  pub told : text ≡ ledger_down wiring cards summary asked.before.cycle asked.before.card (words_told (find_total totals asked.place))
+  pub leads : AreLowerTold wiring cards totals (account_asked totals asked) summary lower
+
+-- So it is with some ledgers, one behind the other.
+pub data AreToldLedgers (wiring : Wiring) (cards : List (List ℕ)) (totals : List TitledAccount) (ends : ℕ) :
+    List AskedLedger → List ℕ → List AskedLedger → Type 0 where
+  no_ledger : AreToldLedgers wiring cards totals ends [] [] []
+  next_ledger :
+      (others : List AskedLedger) (asked : AskedLedger) (texts text : List ℕ) (lower next : List AskedLedger)
+      → AreToldLedgers wiring cards totals ends others texts lower → IsToldLedger wiring cards totals ends asked text next
+      → AreToldLedgers wiring cards totals ends (others ++ asked ∷ []) (texts ++ text) (lower ++ next)
+
+-- a round: some ledgers are told, and behind them what is below those to which they lead
+pub record IsRound (wiring : Wiring) (cards : List (List ℕ)) (totals : List TitledAccount) (ends : ℕ) (asked : List AskedLedger)
+    (IsBelow : List AskedLedger → List ℕ → Type 0) (answer : List ℕ) : Type 0 where
+  pub texts : List ℕ
+  pub lower : List AskedLedger
+  pub told : AreToldLedgers wiring cards totals ends asked texts lower
+  pub rest : List ℕ
+  pub below : IsBelow lower rest
+  pub whole : answer ≡ texts ++ rest
+
+-- The ledgers that are asked for, then those to which they lead, and so on for so many rounds.
+unfoldable pub AreDown : Wiring → List (List ℕ) → List TitledAccount → (ends rounds : ℕ) → List AskedLedger → List ℕ → Type 0
+AreDown wiring cards totals ends zero asked answer = answer ≡ []
+AreDown wiring cards totals ends (suc rounds) asked answer =
+    IsRound wiring cards totals ends asked (AreDown wiring cards totals ends rounds) answer
+
+-- the ledger of a place before a cycle, if a way begins at an exit of its group
+abbrev pub asked_at : List (Option (Vec Hub Global)) → PassedCycle → ℕ → List AskedLedger
+asked_at ways before place = if is_printed_of ways place then record { place = place; before = before } ∷ [] else []
+
+-- those of all groups at which some ways begin
+unfoldable pub asked_of : List (Option (Vec Hub Global)) → PassedCycle → List AskedLedger
+asked_of ways before = flat_map (asked_at ways before) (range_with_len 0 32)
+
+-- the cycle that placed a line
+abbrev pub cycle_found : FoundCycle → PassedCycle
+cycle_found found = record { cycle = found.cycle; card = found.card; passed = found.passed }
+
+-- Before a cycle that placed a line, by the ways to a wheel at the rows of the cycle: the text tells the ledgers of all counter groups at
+-- whose exits one of the ways begins, down to the holes, with those to which they lead, and behind them the origins of what else the
+-- ways begin at, and of the cycle.
+pub record IsWholeText (wiring : Wiring) (cards : List (List ℕ)) (totals : List TitledAccount) (ends : ℕ) (found : FoundCycle)
+    (ways : List (Option (Vec Hub Global))) (answer : List ℕ) : Type 0 where
+  pub ledgers : List ℕ
+  pub down : AreDown wiring cards totals ends 12 (asked_of ways (cycle_found found)) ledgers
+  pub origins : List ℕ
+  pub are : AreOrigins wiring cards found ways origins
+  pub whole : answer ≡ ledgers ++ origins
+
+-- On a panel, over cards, by the totals of a chart: the text tells down to the holes what the wheel of the line at this page and line of it is
+-- printed of, as the explanation of the wheel has it, before a cycle that placed the line there.
+pub record TellsWhole (wiring : Wiring) (cards : List (List ℕ)) (totals : List TitledAccount) (ends page line wheel : ℕ)
+    (answer : List ℕ) : Type 0 where
+  pub explanation : Explanation
+  pub explains : IsExplanation wiring cards page line wheel explanation
+  pub found : FoundCycle
+  pub places : PlacesLine wiring cards found
+  pub at_page : found.line.page ≡ page
+  pub at_line : found.line.line ≡ line
+  pub whole : IsWholeText wiring cards totals ends found explanation.rows.items answer
