@@ -1,4 +1,6 @@
+mod AmountZones
 mod ChainsGained
+mod ColumnsShown
 mod ItemsGained
 mod ItemsRead
 mod Kept

@@ -4,4 +4,5 @@ pub mod Lines
 pub mod Lowest
 pub mod Names
 pub mod Reads
+pub mod Shown
 pub mod Zones

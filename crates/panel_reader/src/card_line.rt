@@ -1,8 +1,10 @@
 //! What stands on the line of a card: amounts in their zones, and texts on all other wheels.
 
-ghost use Rattle.std.specs.Prelude.{IfOk, IfSome, OnOk};
+ghost use Rattle.std.specs.Prelude.{◌≡◌, ℕ, false, IfOk, IfSome, OnOk};
+ghost use Rattle.std.specs.List.{list_any};
 ghost use Rattle.panel_reader.specs.Items.{Gains, IsCardAmount};
-ghost use Rattle.panel_reader.specs.Zones.{CoverLinks, IsInZone, IsRunOutside, IsTextOutside};
+ghost use Rattle.panel_reader.specs.Shown.{GoesOn, GoesOnWith, IsColumnOn, IsPlainCell, IsStraight, IsTextCell, KeepsShown, RunShows, ShowsColumn, ShowsOutside};
+ghost use Rattle.panel_reader.specs.Zones.{CoverLinks, IsInZone, IsRunOutside, IsTextOutside, has_wheel};
 ghost use Rattle.setups.specs.Wiring.{Wiring};
 
 use crate::chains::{Sign, amount_field, sign_by};
@@ -109,14 +111,8 @@ fn indicated_cell(setup: &Setup, wheel: u8, level: ControlLevel) -> Option<Cell>
     })
 }
 
-// What the wires of a wheel show on the line of a card.
-fn cell_on(setup: &Setup, wheel: u8) -> Option<Cell> {
-    if let Some(column) = lowest_exit(setup, HubRow::Second, Hub::W(wheel)) {
-        return Some(Cell {
-            column,
-            level: None,
-        });
-    }
+// The column that an indicate position leads on to a wheel, of the lowest level that has such a one.
+fn indicated_on(setup: &Setup, wheel: u8) -> Option<Cell> {
     for level in [
         ControlLevel::Minor,
         ControlLevel::Intermediate,
@@ -130,6 +126,20 @@ fn cell_on(setup: &Setup, wheel: u8) -> Option<Cell> {
     None
 }
 
+// What the wires of a wheel show on the line of a card.
+#[tactic(auto, using(crate::proofs::ColumnsShown::cell_found, crate::proofs::ColumnsShown::none_found))]
+fn cell_on(setup: &Setup, wheel: u8) -> Option<Cell>
+    ensures { (column : ℕ) → IsColumnOn setup.now wheel column → IsPlainCell result column }
+{
+    match lowest_exit(setup, HubRow::Second, Hub::W(wheel)) {
+        Some(column) => Some(Cell {
+            column,
+            level: None,
+        }),
+        None => indicated_on(setup, wheel),
+    }
+}
+
 // A text on the line of a card: a run of wheels and columns.
 #[derive(Clone, Copy)]
 struct Run {
@@ -141,12 +151,15 @@ struct Run {
 }
 
 impl Run {
-    ghost use Rattle.std.specs.Prelude.{◌≡◌, ◌+◌, true};
+    ghost use Rattle.std.specs.Prelude.{◌≡◌, ◌+◌, true, None};
+    ghost use Rattle.panel_reader.specs.Shown.{IsStraight, RunShows};
 
     // The run of one wheel.
     fn of_one(wheel: u8, cell: Cell) -> Run
         ensures first { result.wheel ≡ wheel }
         ensures last { result.last_wheel ≡ wheel }
+        ensures straight { IsStraight result }
+        ensures shows { cell.level ≡ None → RunShows result wheel cell.column }
     {
         Run {
             wheel,
@@ -159,7 +172,9 @@ impl Run {
 
     // Whether a wheel goes on with it: it stands on the next wheel and shows the next column, at the same level.
     fn goes_on(self, wheel: u8, cell: Cell) -> bool
-        ensures { result ≡ true → wheel ≡ self.last_wheel + 1 }
+        ensures wheel { result ≡ true → wheel ≡ self.last_wheel + 1 }
+        ensures column { result ≡ true → cell.column ≡ self.last + 1 }
+        ensures level { result ≡ true → cell.level ≡ self.level }
     {
         wheel.checked_sub(1) == Some(self.last_wheel)
             && cell.column.checked_sub(1) == Some(self.last)
@@ -169,7 +184,9 @@ impl Run {
 
 // Puts the text of a run on the line of a card.
 fn put_run(draft: &mut Draft, run: Run) -> Result<(), AllocError>
-    ensures { (setup : Wiring) → IsRunOutside setup run → OnOk result (Gains (IsTextOutside setup) draft.old draft.new) }
+    ensures gained { (setup : Wiring) → IsRunOutside setup run → OnOk result (Gains (IsTextOutside setup) draft.old draft.new) }
+    ensures shows { IsStraight run → OnOk result ((wheel column : ℕ) → RunShows run wheel column → ShowsColumn draft.new wheel column) }
+    ensures kept { OnOk result (KeepsShown draft.old draft.new) }
 {
     let field = draft.card_field(DraftField {
         first: run.first,
@@ -198,6 +215,7 @@ fn run_with(
     ensures run { (setup : Wiring) → IfSome run (IsRunOutside setup) → ¬ IsInZone setup wheel
         → IfOk result (λ next. IfSome next (IsRunOutside setup)) }
     ensures gained { (setup : Wiring) → IfSome run (IsRunOutside setup) → OnOk result (Gains (IsTextOutside setup) draft.old draft.new) }
+    ensures goes_on { IfSome run IsStraight → IfOk result (GoesOnWith cell wheel draft.old run draft.new) }
 {
     match run {
         Some(before) if before.goes_on(wheel, cell) => Ok(Some(Run {
@@ -216,7 +234,8 @@ fn run_with(
 // What the wires of a wheel that is in no zone show of a text.
 fn text_on(setup: &Setup, zones: &[Zone], wheel: u8) -> Option<Cell>
     requires { CoverLinks setup.now zones.now }
-    ensures { IfSome result (λ cell. ¬ IsInZone setup.now wheel) }
+    ensures outside { IfSome result (λ cell. ¬ IsInZone setup.now wheel) }
+    ensures found { (column : ℕ) → IsTextCell setup.now zones.now wheel column → IsPlainCell result column }
 {
     if is_in_zone(zones, wheel) {
         None
@@ -237,6 +256,7 @@ fn run_behind(
     requires run { IfSome run (IsRunOutside setup.now) }
     ensures run { IfOk result (λ next. IfSome next (IsRunOutside setup.now)) }
     ensures gained { OnOk result (Gains (IsTextOutside setup.now) draft.old draft.new) }
+    ensures goes_on { IfSome run IsStraight → IfOk result (GoesOn setup.now zones.now wheel draft.old run draft.new) }
 {
     match text_on(setup, zones, wheel) {
         Some(cell) => run_with(draft, run, wheel, cell),
@@ -247,7 +267,8 @@ fn run_behind(
 /// Puts the texts of all wheels that are in no zone on the line of a card.
 pub(crate) fn put_texts(setup: &Setup, zones: &[Zone], draft: &mut Draft) -> Result<(), AllocError>
     requires { CoverLinks setup.now zones.now }
-    ensures { OnOk result (Gains (IsTextOutside setup.now) draft.old draft.new) }
+    ensures gained { OnOk result (Gains (IsTextOutside setup.now) draft.old draft.new) }
+    ensures shows { OnOk result (ShowsOutside setup.now zones.now draft.new) }
 {
     let mut run = None;
     for wheel in 1..121 {

@@ -4,6 +4,7 @@ ghost use Rattle.std.specs.Prelude.{◌≡◌, OnOk};
 ghost use Rattle.charts.specs.declared.level.Level.{Level};
 ghost use Rattle.charts.specs.declared.statement.BodyLine.TheVariants.{Total};
 ghost use Rattle.panel_reader.specs.Items.{Gains, IsTotalText};
+ghost use Rattle.panel_reader.specs.Shown.{KeepsFields};
 ghost use Rattle.panel_reader.specs.declared.draft.PrintedLine.TheVariants.{Body};
 
 use crate::compared::{Division, Interval, compared_of, divided};
@@ -62,7 +63,8 @@ fn control_field(
     interval: usize,
     its: Interval,
 ) -> Result<usize, AllocError>
-    ensures { draft.new.items ≡ draft.old.items }
+    ensures items { draft.new.items ≡ draft.old.items }
+    ensures kept { OnOk result (KeepsFields draft.old draft.new) }
 {
     let wanted = text_field(its.first, its.last);
     for place in 0..draft.fields.len() {
@@ -77,7 +79,8 @@ fn control_field(
 
 // Puts a text on its total line.
 fn put_text(draft: &mut Draft, field: usize, text: TotalText) -> Result<(), AllocError>
-    ensures { OnOk result (Gains IsTotalText draft.old draft.new) }
+    ensures gained { OnOk result (Gains IsTotalText draft.old draft.new) }
+    ensures kept { OnOk result (KeepsFields draft.old draft.new) }
 {
     draft.put(Item {
         line: total_line(text.level),
@@ -98,7 +101,8 @@ fn add_control(
     interval: usize,
     its: Interval,
 ) -> Result<(), AllocError>
-    ensures { OnOk result (Gains IsTotalText draft.old draft.new) }
+    ensures gained { OnOk result (Gains IsTotalText draft.old draft.new) }
+    ensures kept { OnOk result (KeepsFields draft.old draft.new) }
 {
     let field = control_field(draft, division, texts, interval, its)?;
     let level = its.level;
@@ -119,7 +123,8 @@ fn add_controls_at(
     level: ControlLevel,
     column: u8,
 ) -> Result<(), AllocError>
-    ensures { OnOk result (Gains IsTotalText draft.old draft.new) }
+    ensures gained { OnOk result (Gains IsTotalText draft.old draft.new) }
+    ensures kept { OnOk result (KeepsFields draft.old draft.new) }
 {
     for (place, interval) in division.intervals.iter().enumerate() {
         if interval.level == level && interval.first == column {
@@ -135,7 +140,8 @@ fn put_unserved(
     division: &Division,
     texts: &[TotalText],
 ) -> Result<(), AllocError>
-    ensures { OnOk result (Gains IsTotalText draft.old draft.new) }
+    ensures gained { OnOk result (Gains IsTotalText draft.old draft.new) }
+    ensures kept { OnOk result (KeepsFields draft.old draft.new) }
 {
     if division.serving.is_empty() {
         for text in texts {
@@ -152,7 +158,8 @@ pub(crate) fn put_controls(
     setup: &Setup,
     draft: &mut Draft,
 ) -> Result<(), AllocError>
-    ensures { OnOk result (Gains IsTotalText draft.old draft.new) }
+    ensures gained { OnOk result (Gains IsTotalText draft.old draft.new) }
+    ensures kept { OnOk result (KeepsFields draft.old draft.new) }
 {
     let texts = total_texts(alloc, setup)?;
     let compared = compared_of(alloc, setup)?;

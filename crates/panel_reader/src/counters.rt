@@ -4,6 +4,7 @@ ghost use Rattle.std.specs.Prelude.{All, IfOk, IfSome};
 ghost use Rattle.charts.specs.Levels.{level_number};
 ghost use Rattle.hubs.specs.declared.hub.Hub.TheVariants as hub;
 ghost use Rattle.panel_reader.specs.Chains.{IsReadOut};
+ghost use Rattle.panel_reader.specs.Shown.{IsAmountZone};
 ghost use Rattle.setups.specs.Wiring.{HasWire};
 
 use crate::hub_rows::{HubRow, lowest_entry};
@@ -163,7 +164,9 @@ fn digits_on(setup: &Setup, counter: Counter, zone: Zone) -> u8 {
 
 // The total of a group that is read out on a total line, if it is one and not the upper one of two.
 fn total_of(setup: &Setup, zones: &[Zone], lower: Group) -> Option<Total>
-    ensures { IfSome result (IsReadOut setup.now) }
+    requires { All (IsAmountZone setup.now) zones.now }
+    ensures out { IfSome result (IsReadOut setup.now) }
+    ensures zone { IfSome result (λ total. IsAmountZone setup.now total.zone) }
 {
     let level = level_of(setup, lower)?;
     if is_upper(setup, lower) {
@@ -189,7 +192,9 @@ pub(crate) fn totals_of(
     setup: &Setup,
     zones: &[Zone],
 ) -> Result<Vec<Total>, AllocError>
-    ensures { IfOk result (λ totals. All (IsReadOut setup.now) totals.items) }
+    requires { All (IsAmountZone setup.now) zones.now }
+    ensures out { IfOk result (λ totals. All (IsReadOut setup.now) totals.items) }
+    ensures zones { IfOk result (λ totals. All (λ total. IsAmountZone setup.now total.zone) totals.items) }
 {
     let mut totals = Vec::new(alloc);
     for place in 0..32 {

@@ -16,6 +16,20 @@ pub struct DraftField {
     pub pilot: Option<u8>,
 }
 
+impl DraftField {
+    ghost use Rattle.std.specs.Prelude.{◌≡◌, true};
+
+    // Whether it is like another: in the same columns, of the same kind and with the same pilot.
+    fn is_like(self, other: DraftField) -> bool
+        ensures { result ≡ true → (self.first ≡ other.first) × (self.last ≡ other.last) }
+    {
+        self.first == other.first
+            && self.last == other.last
+            && self.kind == other.kind
+            && self.pilot == other.pilot
+    }
+}
+
 /// A printed line of the report.
 #[derive(Clone, Copy, PartialEq, Eq)]
 pub enum PrintedLine {
@@ -147,6 +161,7 @@ impl Drop for Draft {
 impl Draft {
     ghost use Rattle.std.specs.Prelude.{◌≡◌, ◌++◌, ◌∷◌, [], length, IfOk, OnOk};
     ghost use Rattle.panel_reader.specs.Chains.{GainsField};
+    ghost use Rattle.panel_reader.specs.Shown.{HasColumns, KeepsFields};
 
     /// A draft in which nothing stands.
     pub(crate) fn new(alloc: Global) -> Draft
@@ -160,9 +175,12 @@ impl Draft {
     }
 
     /// Adds a field, and answers its place.
+    #[tactic(auto, using(crate::proofs::ColumnsShown::field_pushed, crate::proofs::ColumnsShown::fields_more))]
     pub(crate) fn add_field(&mut self, field: DraftField) -> Result<usize, AllocError>
         ensures gained { OnOk result (GainsField field self.old self.new) }
         ensures place { IfOk result (λ place. place ≡ length self.old.fields.items) }
+        ensures columns { IfOk result (λ place. HasColumns self.new place field.first field.last) }
+        ensures kept { OnOk result (KeepsFields self.old self.new) }
         ensures items { self.new.items ≡ self.old.items }
     {
         let place = self.fields.len();
@@ -202,12 +220,15 @@ impl Draft {
     }
 
     /// The place of a field like this one that stands not yet on the line of a card, if there is one, else of a new one.
+    #[tactic(auto, using(crate::proofs::ColumnsShown::place_found))]
     pub(crate) fn card_field(&mut self, field: DraftField) -> Result<usize, AllocError>
+        ensures columns { IfOk result (λ place. HasColumns self.new place field.first field.last) }
+        ensures kept { OnOk result (KeepsFields self.old self.new) }
         ensures items { self.new.items ≡ self.old.items }
     {
         let card = PrintedLine::Body(BodyLine::Detail);
         for place in 0..self.fields.len() {
-            if self.fields[place] == field && !self.is_on(card, place) {
+            if self.fields[place].is_like(field) && !self.is_on(card, place) {
                 return Ok(place);
             }
         }

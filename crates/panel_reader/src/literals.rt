@@ -1,6 +1,6 @@
 //! Literals: the characters that emitters send to wheels.
 
-ghost use Rattle.std.specs.Prelude.{OnOk};
+ghost use Rattle.std.specs.Prelude.{◌≡◌, OnOk};
 ghost use Rattle.panel_reader.specs.Items.{Gains, IsLiteral};
 
 use crate::draft::{Draft, Item, PRINTED_LINES, PrintedLine, Said};
@@ -65,7 +65,8 @@ impl Run {
 
 // Puts the literal of a run on its line.
 fn put_run(draft: &mut Draft, line: PrintedLine, run: Option<Run>) -> Result<(), AllocError>
-    ensures { OnOk result (Gains IsLiteral draft.old draft.new) }
+    ensures gained { OnOk result (Gains IsLiteral draft.old draft.new) }
+    ensures fields { draft.new.fields ≡ draft.old.fields }
 {
     let Some(run) = run else {
         return Ok(());
@@ -90,7 +91,8 @@ fn run_with(
     wheel: u8,
     character: u8,
 ) -> Result<Option<Run>, AllocError>
-    ensures { OnOk result (Gains IsLiteral draft.old draft.new) }
+    ensures gained { OnOk result (Gains IsLiteral draft.old draft.new) }
+    ensures fields { draft.new.fields ≡ draft.old.fields }
 {
     match run {
         Some(mut before) if before.blanks <= most_blanks => {
@@ -121,7 +123,8 @@ fn run_behind(
     most_blanks: u8,
     wheel: u8,
 ) -> Result<Option<Run>, AllocError>
-    ensures { OnOk result (Gains IsLiteral draft.old draft.new) }
+    ensures gained { OnOk result (Gains IsLiteral draft.old draft.new) }
+    ensures fields { draft.new.fields ≡ draft.old.fields }
 {
     if !is_free(draft, line, wheel) {
         put_run(draft, line, run)?;
@@ -141,7 +144,8 @@ fn put_literals_on(
     line: PrintedLine,
     most_blanks: u8,
 ) -> Result<(), AllocError>
-    ensures { OnOk result (Gains IsLiteral draft.old draft.new) }
+    ensures gained { OnOk result (Gains IsLiteral draft.old draft.new) }
+    ensures fields { draft.new.fields ≡ draft.old.fields }
 {
     let mut run = None;
     for wheel in 1..121 {
@@ -157,7 +161,8 @@ pub(crate) fn put_literals(
     draft: &mut Draft,
     most_blanks: u8,
 ) -> Result<(), AllocError>
-    ensures { OnOk result (Gains IsLiteral draft.old draft.new) }
+    ensures gained { OnOk result (Gains IsLiteral draft.old draft.new) }
+    ensures fields { draft.new.fields ≡ draft.old.fields }
 {
     for line in PRINTED_LINES {
         if line.emitter() != 4 || setup.has_jack(Jack::List) {

@@ -4,9 +4,12 @@
 //! So the wheels of amounts fall into zones, each with at most one amount a line, and the jacks show them: LINK is plugged on each wheel of
 //! a zone but the first, SYMBOL on those of the mark, SUPPRESS on the digits left of the point, or of the units.
 
-ghost use Rattle.std.specs.Prelude.{◌≡◌, ◌+◌, ◌-◌, ◌≤◌, IfOk, OnOk};
+ghost use Rattle.std.specs.Prelude.{◌≡◌, ◌+◌, ◌-◌, ◌≤◌, ℕ, All, IfOk, OnOk};
 ghost use Rattle.std.specs.List.{list_any};
+ghost use Rattle.hubs.specs.declared.jack.Jack.TheVariants.{Link};
+ghost use Rattle.panel_reader.specs.Shown.{HasUnitsOn, IsAmountZone};
 ghost use Rattle.panel_reader.specs.Zones.{CoverBelow, CoverLinks, has_wheel};
+ghost use Rattle.setups.specs.Wiring.{HasJack, Wiring};
 
 use charts::Mark;
 use hubs::Jack;
@@ -33,7 +36,10 @@ impl Zone {
     ghost use Rattle.panel_reader.specs.Zones.{has_wheel};
 
     /// A zone of one wheel: a digit without decimals and without a mark.
-    pub(crate) fn of_one(wheel: u8) -> Zone {
+    pub(crate) fn of_one(wheel: u8) -> Zone
+        ensures first { result.first ≡ wheel }
+        ensures last { result.last ≡ wheel }
+    {
         Zone {
             first: wheel,
             units: wheel,
@@ -81,7 +87,8 @@ impl Zone {
 
 // The last wheel of the run of wheels with LINK that begins at a wheel.
 fn run_end(setup: &Setup, wheel: u8) -> u8
-    ensures { wheel ≤ result }
+    ensures last { wheel ≤ result }
+    ensures linked { HasJack setup.now (Link wheel) → (next : ℕ) → wheel ≤ next → next ≤ result → HasJack setup.now (Link next) }
 {
     let mut last = wheel;
     for next in wheel..121 {
@@ -125,9 +132,11 @@ fn decimals_at(setup: &Setup, first: u8, units: u8) -> u8 {
 }
 
 // The zone whose second wheel this is.
+#[tactic(auto, using(crate::proofs::AmountZones::zone_linked))]
 fn zone_from(setup: &Setup, second: u8) -> Zone
     ensures first { result.first ≡ second - 1 }
     ensures last { second ≤ result.last }
+    ensures amounts { 2 ≤ second → HasJack setup.now (Link second) → IsAmountZone setup.now result }
 {
     let first = second.saturating_sub(1);
     let last = run_end(setup, second);
@@ -145,10 +154,13 @@ fn zone_from(setup: &Setup, second: u8) -> Zone
 
 // Adds the zone whose second wheel this is, if LINK is plugged there and the wheel is behind the last zone, and answers the last wheel of the
 // last zone.
+#[tactic(auto, using(crate::proofs::AmountZones::zone_pushed))]
 fn add_zone(setup: &Setup, zones: &mut Vec<Zone>, last: u8, wheel: u8) -> Result<u8, AllocError>
     requires second { 2 ≤ wheel }
     requires last { CoverBelow setup.now zones.old.items (last + 1) }
     requires before { CoverBelow setup.now zones.old.items wheel }
+    requires amounts { All (IsAmountZone setup.now) zones.old.items }
+    ensures amounts { OnOk result (All (IsAmountZone setup.now) zones.new.items) }
     ensures last { IfOk result (λ end. CoverBelow setup.now zones.new.items (end + 1)) }
     ensures before { OnOk result (CoverBelow setup.now zones.new.items (wheel + 1)) }
 {
@@ -162,7 +174,8 @@ fn add_zone(setup: &Setup, zones: &mut Vec<Zone>, last: u8, wheel: u8) -> Result
 
 /// The zones that the jacks of a setup show, from the left: LINK is plugged on the wheels of no other.
 pub(crate) fn zones_of(alloc: Global, setup: &Setup) -> Result<Vec<Zone>, AllocError>
-    ensures { IfOk result (λ zones. CoverLinks setup.now zones.items) }
+    ensures links { IfOk result (λ zones. CoverLinks setup.now zones.items) }
+    ensures amounts { IfOk result (λ zones. All (IsAmountZone setup.now) zones.items) }
 {
     let mut zones = Vec::new(alloc);
     let mut last = 1;
@@ -180,7 +193,10 @@ pub(crate) fn is_in_zone(zones: &[Zone], wheel: u8) -> bool
 }
 
 /// The zone of a list whose units stand on a wheel; else a zone of this wheel alone.
-pub(crate) fn zone_with_units(zones: &[Zone], wheel: u8) -> Zone {
+#[tactic(auto, using(crate::proofs::AmountZones::zone_alone, crate::proofs::AmountZones::zone_listed))]
+pub(crate) fn zone_with_units(zones: &[Zone], wheel: u8) -> Zone
+    ensures { (setup : Wiring) → All (IsAmountZone setup) zones.now → HasUnitsOn setup wheel → IsAmountZone setup result }
+{
     for zone in zones {
         if zone.units == wheel {
             return *zone;

@@ -1,5 +1,5 @@
 -- The wires of a panel by their numbers, and what is changed of it.
-use Rattle.std.specs.Prelude.{◌≡◌, ◌++◌, ◌⊎◌, List, Some}
+use Rattle.std.specs.Prelude.{◌≡◌, ◌++◌, ◌⊎◌, Contains, List, Some}
 use Rattle.hubs.specs.Hubs.{number_of}
 use Rattle.hubs.specs.declared.hub.Hub.{Hub}
 use Rattle.panel_slips.specs.declared.toggles.Toggle.{Toggle}
@@ -26,6 +26,7 @@ pub record GainsOnly (wire : Wire) (old new : Wiring) : Type 0 where
 abbrev pub PutsIn : Toggle → Hub → Hub → Type 0
 PutsIn (changes.Out wire) exit entry = ⊥
 PutsIn (changes.In wire) exit entry = IsBetween exit entry wire
+PutsIn (changes.Moved from to) exit entry = IsBetween exit entry to
 PutsIn (changes.Jack place) exit entry = ⊥
 
 -- a panel with one thing changed: it has no wire that the other has not, but for one that is put in, and the other's tape
@@ -36,6 +37,14 @@ pub record IsChanged (toggle : Toggle) (setup copy : Wiring) : Type 0 where
 -- it has no wire that the other has not
 abbrev pub HasOnly : Wiring → Wiring → Type 0
 HasOnly setup copy = (exit entry : Hub) → HasWire copy exit entry → HasWire setup exit entry
+
+-- a change takes out a wire of a list, and puts in one that is not on it
+pub record IsMoveOf (wires : List Wire) (toggle : Toggle) : Type 0 where
+  pub from : Wire
+  pub to : Wire
+  pub is : toggle ≡ changes.Moved from to
+  pub listed : Contains wires from
+  pub new : ¬ Contains wires to
 
 -- first these changes, and then others
 abbrev pub BeginsWith : List Toggle → List Toggle → Type 0

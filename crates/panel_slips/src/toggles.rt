@@ -33,6 +33,13 @@ pub enum Toggle {
         /// The wire.
         wire: Wire,
     },
+    /// A wire is taken out, and another put in.
+    Moved {
+        /// The wire that is taken out.
+        from: Wire,
+        /// The wire that is put in.
+        to: Wire,
+    },
     /// A jack is plugged, or pulled.
     Jack {
         /// Its place among the jacks of the panel.
@@ -148,6 +155,11 @@ pub fn toggled(
             plug_jacks(&mut copy, setup, None);
             add_wires(&mut copy, setup, wires, None)?;
             add_wire(&mut copy, wire)?;
+        }
+        Toggle::Moved { from, to } => {
+            plug_jacks(&mut copy, setup, None);
+            add_wires(&mut copy, setup, wires, Some(from))?;
+            add_wire(&mut copy, to)?;
         }
         Toggle::Jack { place } => {
             plug_jacks(&mut copy, setup, Some(place));

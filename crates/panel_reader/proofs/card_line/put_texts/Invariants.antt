@@ -1,5 +1,6 @@
 use Rattle.std.specs.Prelude.{IfSome}
 use Rattle.panel_reader.specs.Items.{Gains}
+use Rattle.panel_reader.specs.Shown.{AreShownBelow, IsStraight}
 use Rattle.panel_reader.specs.Zones.{IsRunOutside, IsTextOutside}
 use Rattle.panel_reader.proofs.card_line.put_texts.Given as goal
 
@@ -7,4 +8,6 @@ abbrev pub invariant-loop-wheel : goal.invariant-loop-wheel
 invariant-loop-wheel l = record {
   run : IfSome l.run (IsRunOutside l.setup);
   gained : Gains (IsTextOutside l.setup) l.fn.draft l.draft;
+  straight : IfSome l.run IsStraight;
+  shown : AreShownBelow l.setup l.zones l.draft l.run l.wheel;
 }

@@ -1,5 +1,11 @@
-use Rattle.std.specs.Prelude.{◌≤◌}
+use Rattle.std.specs.Prelude.{ℕ, ◌+◌, ◌≤◌}
+use Rattle.hubs.specs.declared.jack.Jack.TheVariants.{Link}
+use Rattle.setups.specs.Wiring.{HasJack}
 use Rattle.panel_reader.proofs.zones.run_end.Given as goal
 
 abbrev pub invariant-loop-next : goal.invariant-loop-next
-invariant-loop-next l = l.wheel ≤ l.last
+invariant-loop-next l = record {
+  last : l.wheel ≤ l.last;
+  near : l.next ≤ l.last + 1;
+  linked : HasJack l.setup (Link l.wheel) → (at : ℕ) → l.wheel ≤ at → at ≤ l.last → HasJack l.setup (Link at);
+}

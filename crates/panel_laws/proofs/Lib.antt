@@ -1,0 +1,4 @@
+mod DigitWheels
+mod HubRanges
+mod TextsRead
+mod ToWheels
