@@ -6,17 +6,17 @@ use Rattle.faults.specs.declared.fault.Fault.{Fault}
 use Rattle.panel_guides.specs.Explained.{RefusesTexts}
 use Rattle.browser_pages.specs.Shown.{IsShown}
 
--- the page of a text and a deck was written after what was there
-pub record PrintsPageOf (text deck : List ℕ) (old new : Option (List ℕ)) : Type 0 where
+-- the page of a text and a deck, around a page of the report or none, was written after what was there
+pub record PrintsPageOf (text deck : List ℕ) (around : Option ℕ) (old new : Option (List ℕ)) : Type 0 where
   pub page : List ℕ
-  pub shown : IsShown text deck page
+  pub shown : IsShown text deck around page
   pub written : Appends old new page
 
 -- that of the deck that was read was written
-pub record PrintsPage (text : List ℕ) (deck old new : Option (List ℕ)) : Type 0 where
+pub record PrintsPage (text : List ℕ) (deck : Option (List ℕ)) (around : Option ℕ) (old new : Option (List ℕ)) : Type 0 where
   pub read : List ℕ
   pub is_deck : IfSome deck (λ known. read ≡ known)
-  pub prints : PrintsPageOf text read old new
+  pub prints : PrintsPageOf text read around old new
 
 -- the text or the deck that was read is refused, and this is told of them
 pub record IsRefused (text : List ℕ) (deck : Option (List ℕ)) (told : Fault) : Type 0 where

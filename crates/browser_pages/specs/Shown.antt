@@ -1,12 +1,15 @@
 -- The page for a browser of a text and a deck, from the bytes of both.
-use Rattle.std.specs.Prelude.{◌≡◌, ◌↔◌, ℕ, true, false, List}
+use Rattle.std.specs.Prelude.{◌≡◌, ◌↔◌, ℕ, true, false, List, Option}
 use Rattle.card_code.specs.Deck.{Deck}
 use Rattle.commands.specs.Answers.{CompilesAs}
 use Rattle.compile407.specs.Compilation.{Compilation}
 use Rattle.compile407.specs.Runnable.{IsRunnable}
+use Rattle.panel_charts.specs.PanelChart.{IsWiredChart}
 use Rattle.panel_guides.specs.Panels.{is_wiring_text}
+use Rattle.plans.specs.Plans.{Lists}
 use Rattle.setups.specs.Wiring.{Wiring}
 use Rattle.show_page.specs.Page.{ShowsChart, ShowsPanel}
+use Rattle.show_page.specs.ReadPanel.{ShowsRead}
 use Rattle.wire_chart.specs.WrittenText.{JoinsGroups}
 use Rattle.wiring_text.specs.WiringText.{ReadsAs}
 use Rattle.wiring_text.specs.declared.statement.Version.{Version}
@@ -14,16 +17,32 @@ use Rattle.wiring_text.specs.declared.statement.Version.TheVariants.{Second}
 
 -- the page of a compiled chart, its legend in the version in which `wire` prints the chart's setup: the second where it joins groups, else
 -- the first
-pub record ShowsCompiled (compiled : Compilation) (text : List ℕ) (cards : List (List ℕ)) (page : List ℕ) : Type 0 where
+pub record ShowsCompiled (compiled : Compilation) (text : List ℕ) (cards : List (List ℕ)) (around : Option ℕ)
+    (page : List ℕ) : Type 0 where
   pub version : Version
   pub second : (version ≡ Second) ↔ JoinsGroups compiled.setup
-  pub shows : ShowsChart version compiled.chart.lines compiled.plan compiled.setup text cards page
+  pub shows : ShowsChart version compiled.chart.lines compiled.plan compiled.setup text cards around page
+
+-- The page of a panel by a chart for which it is wired by this plan; its legend is in the version of the wiring chart whose text this is.
+pub record ShowsReadOff (wiring : Wiring) (text : List ℕ) (cards : List (List ℕ)) (around : Option ℕ) (page : List ℕ) : Type 0 where
+  pub chart : List ℕ
+  pub compiled : Compilation
+  pub plan : Lists
+  pub wired : IsWiredChart wiring chart compiled plan
+  pub version : Version
+  pub spelled : (reads : ReadsAs text wiring) → version ≡ reads.chart.reads.version
+  pub shows : ShowsRead version compiled.chart.lines plan wiring chart text cards around page
+
+-- the page of a panel that is wired as a wiring chart says, and of cards: by the chart that is read off it, or else by its wires alone
+pub data ShowsWired (wiring : Wiring) (text : List ℕ) (cards : List (List ℕ)) (around : Option ℕ) (page : List ℕ) : Type 0 where
+  as_read : ShowsReadOff wiring text cards around page → ShowsWired wiring text cards around page
+  unread : ShowsPanel wiring text cards around page → ShowsWired wiring text cards around page
 
 -- A wiring chart is shown with the pages of the deck on its panel, whatever is on the cards; a planning chart, by its own plan and setup,
--- with its report of the deck, whose cards it can be run with.
-pub data IsShown (text deck page : List ℕ) : Type 0 where
+-- with its report of the deck, whose cards it can be run with. Either is shown around a page of the report, or around none.
+pub data IsShown (text deck : List ℕ) (around : Option ℕ) (page : List ℕ) : Type 0 where
   wired : is_wiring_text text ≡ true → (wiring : Wiring) → ReadsAs text wiring → (cards : List (List ℕ)) → Deck deck cards
-      → ShowsPanel wiring text cards page → IsShown text deck page
+      → ShowsWired wiring text cards around page → IsShown text deck around page
   planned : is_wiring_text text ≡ false → (compiled : Compilation) → CompilesAs text compiled → (cards : List (List ℕ))
       → Deck deck cards → IsRunnable compiled.chart cards
-      → ShowsCompiled compiled text cards page → IsShown text deck page
+      → ShowsCompiled compiled text cards around page → IsShown text deck around page

@@ -6,16 +6,17 @@ ghost use Rattle.card_code.specs.MostCards.{most_cards};
 ghost use Rattle.panel_guides.specs.Explained.{RefusesTexts};
 ghost use Rattle.panel_guides.specs.Panels.{is_wiring_text};
 ghost use Rattle.show_page.specs.Page.{ShowsPanel};
-ghost use Rattle.browser_pages.specs.Shown.{IsShown, ShowsCompiled};
+ghost use Rattle.browser_pages.specs.Shown.{IsShown, ShowsCompiled, ShowsWired};
 
 use card_code::Card;
 use compile407::Compiled;
 use faults::Fault;
+use panel_charts::wired_chart;
 use panel_guides::{is_wiring_text, planned_run, wired_run};
 use setups::Setup;
-use show_page::{show_chart, show_panel};
+use show_page::{show_chart, show_panel, show_read};
 use std::alloc::Global;
-use wire_chart::version_of;
+use wire_chart::{version_of, version_of_text};
 
 // The page of a panel that is wired as a wiring chart says, and of cards.
 fn panel_page<'a>(
@@ -23,12 +24,43 @@ fn panel_page<'a>(
     setup: &Setup,
     wiring: &[u8],
     cards: &[Card],
+    around: Option<u32>,
 ) -> Result<String, Fault<'a>>
     requires { length cards.now ≤ most_cards }
-    ensures shows { IfOk result (λ text. ShowsPanel setup.now wiring.now cards.now (string_bytes text)) }
+    ensures shows { IfOk result (λ text. ShowsPanel setup.now wiring.now cards.now around (string_bytes text)) }
     ensures memory { IfErr result (λ told. told ≡ Fault.Memory) }
 {
-    Ok(show_panel(alloc, setup, wiring, cards)?)
+    Ok(show_panel(alloc, setup, wiring, cards, around)?)
+}
+
+// The page of a panel that is wired as a wiring chart says, and of cards: by the chart that is read off it, if the panel is wired for that
+// one. The legend is in the version of the wiring chart.
+fn wired_page<'a>(
+    alloc: Global,
+    setup: &Setup,
+    wiring: &[u8],
+    cards: &[Card],
+    around: Option<u32>,
+) -> Result<String, Fault<'a>>
+    requires { length cards.now ≤ most_cards }
+    ensures shows { IfOk result (λ text. ShowsWired setup.now wiring.now cards.now around (string_bytes text)) }
+    ensures memory { IfErr result (λ told. told ≡ Fault.Memory) }
+{
+    let Some(read) = wired_chart(alloc, setup)? else {
+        return panel_page(alloc, setup, wiring, cards, around);
+    };
+    let page = show_read(
+        alloc,
+        version_of_text(wiring),
+        read.compiled.chart(),
+        read.plan(),
+        setup,
+        read.text.as_bytes(),
+        wiring,
+        cards,
+        around,
+    )?;
+    Ok(page)
 }
 
 // The page of a compiled chart and of cards; its legend is in the version in which the wiring chart of its panel is printed.
@@ -37,9 +69,10 @@ fn chart_page<'a>(
     compiled: &Compiled,
     chart: &[u8],
     cards: &[Card],
+    around: Option<u32>,
 ) -> Result<String, Fault<'a>>
     requires { length cards.now ≤ most_cards }
-    ensures shows { IfOk result (λ text. ShowsCompiled compiled.now chart.now cards.now (string_bytes text)) }
+    ensures shows { IfOk result (λ text. ShowsCompiled compiled.now chart.now cards.now around (string_bytes text)) }
     ensures memory { IfErr result (λ told. told ≡ Fault.Memory) }
 {
     let page = show_chart(
@@ -50,47 +83,71 @@ fn chart_page<'a>(
         compiled.setup(),
         chart,
         cards,
+        around,
     )?;
     Ok(page)
 }
 
 // The page of a wiring chart and a deck.
-fn page_by_wiring<'a>(alloc: Global, wiring: &[u8], deck: &[u8]) -> Result<String, Fault<'a>>
+fn page_by_wiring<'a>(
+    alloc: Global,
+    wiring: &[u8],
+    deck: &[u8],
+    around: Option<u32>,
+) -> Result<String, Fault<'a>>
     requires { is_wiring_text wiring.now ≡ true }
-    ensures shown { IfOk result (λ page. IsShown wiring.now deck.now (string_bytes page)) }
+    ensures shown { IfOk result (λ page. IsShown wiring.now deck.now around (string_bytes page)) }
     ensures refused { IfErr result (λ told. told ≢ Fault.Memory → RefusesTexts wiring.now deck.now told) }
 {
     let wired = wired_run(alloc, wiring, deck)?;
-    panel_page(alloc, &wired.setup, wiring, wired.cards.as_slice())
+    wired_page(alloc, &wired.setup, wiring, wired.cards.as_slice(), around)
 }
 
 // The page of a chart and a deck.
-fn page_by_chart<'a>(alloc: Global, chart: &[u8], deck: &[u8]) -> Result<String, Fault<'a>>
+fn page_by_chart<'a>(
+    alloc: Global,
+    chart: &[u8],
+    deck: &[u8],
+    around: Option<u32>,
+) -> Result<String, Fault<'a>>
     requires { is_wiring_text chart.now ≡ false }
-    ensures shown { IfOk result (λ page. IsShown chart.now deck.now (string_bytes page)) }
+    ensures shown { IfOk result (λ page. IsShown chart.now deck.now around (string_bytes page)) }
     ensures refused { IfErr result (λ told. told ≢ Fault.Memory → RefusesTexts chart.now deck.now told) }
 {
     let planned = planned_run(alloc, chart, deck)?;
-    chart_page(alloc, &planned.compiled, chart, planned.cards.as_slice())
+    chart_page(
+        alloc,
+        &planned.compiled,
+        chart,
+        planned.cards.as_slice(),
+        around,
+    )
 }
 
 /// The page for a browser of a text and a deck, a file of XHTML: of a planning chart and its report of the deck, or of a panel wired by a
 /// wiring chart and its pages of the deck, as [`is_wiring_text`] tells them apart. The printed pages, the drawing of the panel, the legend
-/// of the chart or else the wiring chart, for each printed character that is shown its explanation, for each wire and each of their hubs
-/// what came through it, and the cycles of the run. Of a deck of more than 200 cards the first two pages and the first 200 cycles are
-/// shown, and the page says so.
+/// of the chart, for each printed character that is shown its explanation, for each wire and each of their hubs what came through it, and the
+/// cycles of the run. The page of a wiring chart has its text, and the legend is that of the chart which is read off the panel; there is none
+/// if the panel isn't wired for what is read. `around` is the number of a page of the report: this page is shown, and those before and behind
+/// it, as `show_page` tells. Without it, of a deck of more than 200 cards the first two pages and the first 200 cycles are shown. If not all is
+/// shown, the page says so.
 ///
 /// # Errors
 ///
 /// As `explain` refuses texts: the fault of the chart, else of the deck's text, else of its cards for the chart, or the fault of the wiring
 /// chart, else of the deck's text. `Memory` where a growth was refused.
-pub fn page_of<'a>(alloc: Global, text: &[u8], deck: &[u8]) -> Result<String, Fault<'a>>
-    ensures shown { IfOk result (λ page. IsShown text.now deck.now (string_bytes page)) }
+pub fn page_of<'a>(
+    alloc: Global,
+    text: &[u8],
+    deck: &[u8],
+    around: Option<u32>,
+) -> Result<String, Fault<'a>>
+    ensures shown { IfOk result (λ page. IsShown text.now deck.now around (string_bytes page)) }
     ensures refused { IfErr result (λ told. told ≢ Fault.Memory → RefusesTexts text.now deck.now told) }
 {
     if is_wiring_text(text) {
-        page_by_wiring(alloc, text, deck)
+        page_by_wiring(alloc, text, deck, around)
     } else {
-        page_by_chart(alloc, text, deck)
+        page_by_chart(alloc, text, deck, around)
     }
 }

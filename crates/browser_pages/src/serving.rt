@@ -20,18 +20,20 @@ fn print_shown<'a, W: Write>(
     alloc: Global,
     text: &[u8],
     deck: &[u8],
+    around: Option<u32>,
     out: &mut W,
 ) -> Result<(), Fault<'a>>
-    ensures printed { OnOk result (PrintsPageOf text.now deck.now (W.contents out.old) (W.contents out.new)) }
+    ensures printed { OnOk result (PrintsPageOf text.now deck.now around (W.contents out.old) (W.contents out.new)) }
     ensures refused { IfErr result (λ told. status_of told ≡ 3 → RefusesTexts text.now deck.now told × (out.new ≡ out.old)) }
     ensures stopped { IfErr result (λ told. (unreadable : Fault) → Stops told unreadable (out.new ≡ out.old)) }
 {
-    let page = page_of(alloc, text, deck)?;
+    let page = page_of(alloc, text, deck, around)?;
     put(out, page.as_bytes())?;
     Ok(())
 }
 
-/// Writes the page for a browser of a text and a deck. `path` names the deck in what is told of one that can't be read.
+/// Writes the page for a browser of a text and a deck, around a page of the report or none, as [`page_of`] makes it. `path` names the deck
+/// in what is told of one that can't be read.
 ///
 /// # Errors
 ///
@@ -42,15 +44,16 @@ pub fn print_page<'a, R: Read + Drop, W: Write>(
     text: &[u8],
     path: &'a str,
     deck: R,
+    around: Option<u32>,
     out: &mut W,
 ) -> Result<(), Fault<'a>>
-    ensures printed { OnOk result (PrintsPage text.now (R.remaining deck) (W.contents out.old) (W.contents out.new)) }
+    ensures printed { OnOk result (PrintsPage text.now (R.remaining deck) around (W.contents out.old) (W.contents out.new)) }
     ensures refused { IfErr result (λ told. status_of told ≡ 3 → IsRefused text.now (R.remaining deck) told × (out.new ≡ out.old)) }
     ensures unread { IfErr result (λ told. told ≡ Fault.File path.entry → HasPanel text.now) }
     ensures stopped { IfErr result (λ told. Stops told (Fault.File path.entry) (out.new ≡ out.old)) }
 {
     match read_whole(alloc, deck, path) {
-        Ok(bytes) => print_shown(alloc, text, bytes.as_slice(), out),
+        Ok(bytes) => print_shown(alloc, text, bytes.as_slice(), around, out),
         Err(unread) => {
             check_panel(alloc, text)?;
             Err(unread)
@@ -60,8 +63,8 @@ pub fn print_page<'a, R: Read + Drop, W: Write>(
 
 /// Writes the page for a browser of a text and a deck, and tells on one line of `faults` why there is none.
 ///
-/// The text is a planning chart, whose report of the deck is shown, or a wiring chart, whose pages of the deck are. `path` names the deck
-/// in what is told of one that can't be read, after a fault of the text. The statuses are 0 done, and then nothing is told, 3 refused
+/// The text is a planning chart, whose report of the deck is shown, or a wiring chart, whose pages of the deck are, around a page or none, as
+/// [`page_of`] tells. `path` names the deck in what is told of one that can't be read, after a fault of the text. The statuses are 0 done, and then nothing is told, 3 refused
 /// input, 4 file fault, 5 memory. Nothing is written by status 3, nor where the deck can't be read. Where the output can't be written or
 /// memory runs out, a part of the page may have been.
 pub fn show_to_end<R: Read + Drop, W: Write, V: Write>(
@@ -69,10 +72,11 @@ pub fn show_to_end<R: Read + Drop, W: Write, V: Write>(
     text: &[u8],
     path: &str,
     deck: R,
+    around: Option<u32>,
     out: &mut W,
     faults: &mut V,
 ) -> Ending
-    ensures done { result.status ≡ 0 → PrintsPage text.now (R.remaining deck) (W.contents out.old) (W.contents out.new)
+    ensures done { result.status ≡ 0 → PrintsPage text.now (R.remaining deck) around (W.contents out.old) (W.contents out.new)
         × (faults.new ≡ faults.old) }
     ensures refused { result.status ≡ 3 → (told : Fault) × IsRefused text.now (R.remaining deck) told × (out.new ≡ out.old)
         × IsTold told result.is_told (V.contents faults.old) (V.contents faults.new) }
@@ -82,7 +86,7 @@ pub fn show_to_end<R: Read + Drop, W: Write, V: Write>(
     ensures memory { result.status ≡ 5 → IsTold Fault.Memory result.is_told (V.contents faults.old) (V.contents faults.new) }
     ensures statuses { (result.status ≡ 0) ⊎ (3 ≤ result.status × result.status ≤ 5) }
 {
-    match print_page(alloc, text, path, deck, out) {
+    match print_page(alloc, text, path, deck, around, out) {
         Ok(()) => Ending {
             status: 0,
             is_told: true,

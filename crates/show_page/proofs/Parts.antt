@@ -1,54 +1,39 @@
 -- The parts of the page.
-use Rattle.std.proofs.Common.{◌≡◌, ◌∙◌, sym, ap, subst, Bool, true, false, ℕ, ◌+◌, ◌<◌, List, [], ◌∷◌, ◌++◌, length, take, get_or}
-use Rattle.std.specs.Prelude.{All, String, if◌then◌else◌, map, nat_le}
+use Rattle.std.proofs.Common.{◌≡◌, ◌∙◌, sym, ap, subst, ℕ, ◌+◌, ◌<◌, List, [], ◌∷◌, ◌++◌, Option, length, take, get_or}
+use Rattle.std.specs.Prelude.{All, IfOk, Result, Ok, Err, String, map}
 use Rattle.std.specs.declared.alloc.Global.{Global}
 use Rattle.std.proofs.lemmas.List.{map-append, take_more}
 use Rattle.std.proofs.lemmas.List.Elements.{All-cons, All-head, All-nil, All-tail, Contains-get_or}
+use Rattle.card_sections.specs.Sections.{sections_text}
 use Rattle.charts.specs.declared.chart.Line.{Line}
 use Rattle.explanations.specs.Pages.{AreFoundLines}
-use Rattle.explanations.specs.PlacedInRun.{PrintsLine}
 use Rattle.explanations.specs.declared.found.FoundLine.{FoundLine}
 use Rattle.hubs.specs.declared.hub.Hub.{Hub}
-use Rattle.machine.specs.Runs.{MachineLines}
 use Rattle.placed_lines.specs.declared.placed_line.PlacedLine.{PlacedLine}
 use Rattle.setups.specs.Wiring.{Wiring}
+use Rattle.shown_lines.specs.Shown.{AreShown}
 use Rattle.page_sections.specs.WheelSections.Sections.{told_sections}
-use Rattle.page_sections.specs.WheelSections.Told.{AreTold, printed_places}
+use Rattle.page_sections.specs.WheelSections.Told.{AreTold, IsTold, printed_places}
 use Rattle.page_sections.specs.declared.wheel_sections.told.ToldWheel.{ToldWheel}
 use Rattle.page_sections.specs.WireSections.Helper.{GainsWireSections}
+use Rattle.page_links.specs.declared.shown.ShownRun.{ShownRun}
 use Rattle.panel_drawing.specs.Helper.{GainsDrawing}
 use Rattle.panel_drawing.specs.declared.drawing.PanelWire.{PanelWire}
-use Rattle.traces.specs.Traces.{IsTrace}
+use Rattle.sum_places.specs.declared.places.SumPlace.{SumPlace}
+use Rattle.sum_sections.specs.Sections.{sum_sections_text}
+use Rattle.sum_sections.specs.Sums.{AreSums, IsExplained, place_of}
+use Rattle.sum_sections.specs.declared.sums.PageSum.{PageSum}
+use Rattle.traces.specs.Parts.{IsTracePart}
+use Rattle.traces.specs.declared.parts.TracePart.{TracePart}
+use Rattle.wheel_ledgers.specs.declared.chart_totals.TitledAccount.{TitledAccount}
 use Rattle.show_page.specs.Begin.{begin_text}
+use Rattle.show_page.specs.Choice.{cycles_shown, pages_shown}
 use Rattle.show_page.specs.Cycles.{shown_cycles}
 use Rattle.show_page.specs.Frame.{document_close, stage_open}
 use Rattle.show_page.specs.Helper.{GainsBody, GainsHead}
-use Rattle.show_page.specs.Page.{IsPage, counts_of, front, page_text, sheets_part, shown, unasked}
+use Rattle.show_page.specs.Page.{IsPage, cards_part, counts_of, lines_shown, page_text, sheets_part, unasked}
+use Rattle.show_page.specs.Shown.{shown_cards, shown_run}
 use Rattle.show_page.specs.Titles.{head_text, heading_of}
-
--- the lines of a run are printed, and so are those of them that are shown
-pub run_prints : (wiring : Wiring) (deck : List (List ℕ)) (lines : List PlacedLine) → MachineLines wiring deck lines
-    → All (PrintsLine wiring deck) lines
-run_prints wiring deck lines run =
-    λ k d less. record { lines = lines; run = run; printed = Contains-get_or lines k d less }
-
-front_all : (P : PlacedLine → Type 0) (lines : List PlacedLine) → All P lines → All P (front lines)
-front_all P [] all = All-nil P
-front_all P (line ∷ others) all =
-    by (nat_le line.page 2) (front_all P others (All-tail P line others all))
-  where
-    by : (b : Bool) → All P (front others) → All P (if b then line ∷ front others else [])
-    by true rest = All-cons P line (front others) (All-head P line others all) rest
-    by false rest = All-nil P
-
-pub shown_prints : (wiring : Wiring) (deck : List (List ℕ)) (cards : ℕ) (lines : List PlacedLine) → MachineLines wiring deck lines
-    → All (PrintsLine wiring deck) (shown cards lines)
-unfolding shown
-shown_prints wiring deck cards lines run = by (nat_le cards 200)
-  where
-    by : (b : Bool) → All (PrintsLine wiring deck) (if b then lines else front lines)
-    by true = run_prints wiring deck lines run
-    by false = front_all (PrintsLine wiring deck) lines (run_prints wiring deck lines run)
 
 -- one wire more that no line asks for
 pub unasked_item : (pairs : List (Hub × Hub)) (place : ℕ) (d : Hub × Hub) (old new : List PanelWire) (wire : PanelWire)
@@ -59,57 +44,104 @@ unasked_item pairs place d old new wire less before is pushed =
     ∙ sym (map-append unasked (take place pairs) (get_or pairs place d ∷ []))
     ∙ ap (λ (l : List (Hub × Hub)). map unasked l) (sym (take_more pairs place d less))
 
--- the pieces behind the sheets
-pub body_whole : (cards : ℕ) (wires : List PanelWire) (told : List ToldWheel)
-    (trace legend old one two three four five six seven new : List ℕ)
-    → GainsDrawing wires old one → two ≡ one ++ legend → three ≡ two ++ stage_open → four ≡ three ++ begin_text told wires trace
-    → five ≡ four ++ told_sections told → GainsWireSections wires told five six → seven ≡ six ++ shown_cycles cards trace
-    → new ≡ seven ++ document_close → GainsBody cards trace wires legend told old new
-body_whole cards wires told trace legend old one two three four five six seven new h1 h2 h3 h4 h5 h6 h7 h8 = record {
-  drawing = h1.drawing;
-  drawn = h1.is;
-  ways = h6.text;
-  are_ways = h6.are;
-  gained =
-      h8 ∙ ap (λ (l : List ℕ). l ++ document_close)
-      (h7 ∙ ap (λ (l : List ℕ). l ++ shown_cycles cards trace)
-      (h6.gained ∙ ap (λ (l : List ℕ). l ++ h6.text)
-      (h5 ∙ ap (λ (l : List ℕ). l ++ told_sections told)
-      (h4 ∙ ap (λ (l : List ℕ). l ++ begin_text told wires trace)
-      (h3 ∙ ap (λ (l : List ℕ). l ++ stage_open) (h2 ∙ ap (λ (l : List ℕ). l ++ legend) h1.gained))))));
-}
+-- wheels that are told of are explained
+pub told_explained : (wiring : Wiring) (asked : List (String Global × Wiring)) (deck : List (List ℕ)) (told : List ToldWheel)
+    → All (IsTold wiring asked deck) told → All (λ one. IsExplained wiring deck one.why) told
+told_explained wiring asked deck told all = λ k d less. (all k d less).right
+
+-- the pieces behind the cards
+pub body_whole : (chart : List Line) (run : ShownRun) (cards : List (List ℕ)) (part : TracePart) (wires : List PanelWire)
+    (totals : List TitledAccount) (told : List ToldWheel) (sums : List PageSum) (places : List SumPlace)
+    (legend old one two three four five six seven eight nine new : List ℕ)
+    → GainsDrawing wires old one → two ≡ one ++ legend → three ≡ two ++ stage_open
+    → four ≡ three ++ begin_text told sums run.cards.first cards wires part
+    → five ≡ four ++ told_sections run.cards places totals told → six ≡ five ++ sum_sections_text run.cards sums
+    → seven ≡ six ++ sections_text chart run part.text.items sums cards → GainsWireSections wires told seven eight
+    → nine ≡ eight ++ shown_cycles part → new ≡ nine ++ document_close
+    → GainsBody chart run cards part wires legend totals told sums places old new
+body_whole chart run cards part wires totals told sums places legend old one two three four five six seven eight nine new h1 h2 h3 h4 h5 h6
+    h7 h8 h9 h10 =
+    record {
+      drawing = h1.drawing;
+      drawn = h1.is;
+      ways = h8.text;
+      are_ways = h8.are;
+      gained =
+          h10 ∙ ap (λ (l : List ℕ). l ++ document_close)
+          (h9 ∙ ap (λ (l : List ℕ). l ++ shown_cycles part)
+          (h8.gained ∙ ap (λ (l : List ℕ). l ++ h8.text)
+          (h7 ∙ ap (λ (l : List ℕ). l ++ sections_text chart run part.text.items sums cards)
+          (h6 ∙ ap (λ (l : List ℕ). l ++ sum_sections_text run.cards sums)
+          (h5 ∙ ap (λ (l : List ℕ). l ++ told_sections run.cards places totals told)
+          (h4 ∙ ap (λ (l : List ℕ). l ++ begin_text told sums run.cards.first cards wires part)
+          (h3 ∙ ap (λ (l : List ℕ). l ++ stage_open) (h2 ∙ ap (λ (l : List ℕ). l ++ legend) h1.gained))))))));
+    }
 
 -- the pieces of the page
-pub page_whole : (wiring : Wiring) (asked : List (String Global × Wiring)) (deck : List (List ℕ)) (chart : List Line)
-    (lines : List PlacedLine) (found : List FoundLine) (wires : List PanelWire) (told : List ToldWheel)
-    (trace legend none one two new : List ℕ) → MachineLines wiring deck lines
-    → AreFoundLines wiring deck (shown (length deck) lines) found → IsTrace wiring deck trace
-    → AreTold wiring asked deck (printed_places (shown (length deck) lines)) told → none ≡ []
-    → GainsHead (heading_of chart) (counts_of deck lines wires) none one
-    → two ≡ one ++ sheets_part (length deck) (shown (length deck) lines) found wiring.tape.lines
-    → GainsBody (length deck) trace wires legend told two new → IsPage wiring asked deck chart wires legend new
+pub page_whole : (wiring : Wiring) (asked : List (String Global × Wiring)) (totals : List TitledAccount) (deck : List (List ℕ))
+    (chart : List Line) (around : Option ℕ) (placed : List PlacedLine) (found : List FoundLine) (part : TracePart) (wires : List PanelWire)
+    (told : List ToldWheel) (sums : List PageSum) (legend none one two three new : List ℕ)
+    → AreShown wiring deck (pages_shown around (length deck)) placed found
+    → IsTracePart wiring deck (cycles_shown around (length deck) found) part
+    → AreTold wiring asked deck (printed_places placed) told → AreSums wiring totals deck told sums → none ≡ []
+    → GainsHead (heading_of chart) (record { cards = length deck; lines = part.lines; wires = length wires }) none one
+    → two ≡ one ++ sheets_part (shown_run around (length deck) part).cards around (length deck) placed found wiring.tape.lines
+    → three ≡ two ++ cards_part chart (shown_run around (length deck) part).cards.first (shown_cards around deck)
+    → GainsBody chart (shown_run around (length deck) part) (shown_cards around deck) part wires legend totals told sums
+    (map place_of sums) three new
+    → IsPage wiring asked totals deck chart wires legend around new
 unfolding page_text
-page_whole wiring asked deck chart lines found wires told trace legend none one two new run are_found traced are empty first sheets body =
+page_whole wiring asked totals deck chart around placed found part wires told sums legend none one two three new are traced are_told
+    are_sums empty first sheets cards_are body =
+    let cards = length deck in
+    let run = shown_run around cards part in
+    let same : placed ≡ lines_shown around cards traced.lines = are.placed_are traced.lines traced.prints in
+    let head =
+    subst (λ (n : ℕ). GainsHead (heading_of chart) (record { cards = cards; lines = n; wires = length wires }) none one)
+    traced.counted first in
     record {
-      style = first.style;
-      is_style = first.is_style;
-      lines = lines;
-      run = run;
+      style = head.style;
+      is_style = head.is_style;
+      lines = traced.lines;
+      run = traced.prints;
       found = found;
-      are_found = are_found;
+      are_found = subst (λ (l : List PlacedLine). AreFoundLines wiring deck l found) same are.found_are;
       told = told;
-      are_told = are;
+      are_told = subst (λ (l : List PlacedLine). AreTold wiring asked deck (printed_places l) told) same are_told;
+      sums = sums;
+      are_sums = are_sums;
       drawing = body.drawing;
       drawn = body.drawn;
       ways = body.ways;
       are_ways = body.are_ways;
-      trace = trace;
+      part = part;
       traced = traced;
       spelled =
-          let head = head_text first.style (heading_of chart) (counts_of deck lines wires) in
-          let part = sheets_part (length deck) (shown (length deck) lines) found wiring.tape.lines in
-          let cycles = shown_cycles (length deck) trace in
-          subst (λ (l : List ℕ). new ≡ l ++ body.drawing ++ legend ++ stage_open ++ begin_text told wires trace ++ told_sections told
-          ++ body.ways ++ cycles ++ document_close)
-          (sheets ∙ ap (λ (l : List ℕ). l ++ part) (first.gained ∙ ap (λ (l : List ℕ). l ++ head) empty)) body.gained;
+          let of_head = head_text head.style (heading_of chart) (counts_of deck traced.lines wires) in
+          let sheets_text = sheets_part run.cards around cards (lines_shown around cards traced.lines) found wiring.tape.lines in
+          let sheets_are : two ≡ one ++ sheets_text =
+          sheets ∙ ap (λ (l : List PlacedLine). one ++ sheets_part run.cards around cards l found wiring.tape.lines) same in
+          subst (λ (l : List ℕ). new ≡ l ++ body.drawing ++ legend ++ stage_open
+          ++ begin_text told sums run.cards.first (shown_cards around deck) wires part
+          ++ told_sections run.cards (map place_of sums) totals told ++ sum_sections_text run.cards sums
+          ++ sections_text chart run part.text.items sums (shown_cards around deck) ++ body.ways ++ shown_cycles part ++ document_close)
+          (cards_are ∙ ap (λ (l : List ℕ). l ++ cards_part chart run.cards.first (shown_cards around deck))
+          (sheets_are ∙ ap (λ (l : List ℕ). l ++ sheets_text) (head.gained ∙ ap (λ (l : List ℕ). l ++ of_head) empty))) body.gained;
     }
+
+-- what is known of a page that is made
+pub made : {X E : Type 0} (result : Result X E) {P Q : X → Type 0} → ((x : X) → P x → Q x) → IfOk result P → IfOk result Q
+made (Ok x) by is = by x is
+made (Err _) by is = tt
+
+-- a page of parts that are the same
+pub same_page : (wiring : Wiring) (asked asked' : List (String Global × Wiring)) (totals totals' : List TitledAccount)
+    (deck : List (List ℕ)) (chart chart' : List Line) (wires wires' : List PanelWire) (legend legend' : List ℕ) (around : Option ℕ)
+    (text : List ℕ) → asked ≡ asked' → totals ≡ totals' → chart ≡ chart' → wires ≡ wires' → legend ≡ legend'
+    → IsPage wiring asked totals deck chart wires legend around text → IsPage wiring asked' totals' deck chart' wires' legend' around text
+same_page wiring asked asked' totals totals' deck chart chart' wires wires' legend legend' around text h1 h2 h3 h4 h5 is =
+    subst (λ (l : List ℕ). IsPage wiring asked' totals' deck chart' wires' l around text) h5
+    (subst (λ (w : List PanelWire). IsPage wiring asked' totals' deck chart' w legend around text) h4
+    (subst (λ (c : List Line). IsPage wiring asked' totals' deck c wires legend around text) h3
+    (subst (λ (t : List TitledAccount). IsPage wiring asked' t deck chart wires legend around text) h2
+    (subst (λ (a : List (String Global × Wiring)). IsPage wiring a totals deck chart wires legend around text) h1 is))))

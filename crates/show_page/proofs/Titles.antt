@@ -1,5 +1,5 @@
 -- Which words a title has.
-use Rattle.std.proofs.Common.{◌≡◌, refl, arith, ℕ, ◌+◌, List, [], ◌∷◌, ◌++◌, length}
+use Rattle.std.proofs.Common.{◌≡◌, refl, arith, ℕ, List, [], ◌∷◌, length}
 use Rattle.markup.specs.Escapes.{escaped}
 use Rattle.show_page.specs.Titles.{plain_title, title_of, words_or}
 

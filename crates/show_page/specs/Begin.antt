@@ -1,16 +1,21 @@
--- Where a visitor may begin: links to the first printed character, the first wire and the first cycle, where there are such.
-use Rattle.std.specs.Prelude.{ℕ, ◌==◌, List, [], ◌∷◌, ◌++◌, codes, if◌then◌else◌, length}
+-- Where a visitor may begin: links to the first printed character, the first sum, the first card, the first wire and the first cycle that are
+-- shown, where there are such.
+use Rattle.std.specs.Prelude.{ℕ, ◌+◌, ◌==◌, List, [], ◌∷◌, ◌++◌, codes, decimal, if◌then◌else◌, length}
 use Rattle.card_code.specs.Lines.{lines_of}
+use Rattle.page_links.specs.Links.{card_open}
 use Rattle.page_sections.specs.ReportSheets.Sheets.{link_text}
 use Rattle.page_sections.specs.declared.wheel_sections.told.ToldWheel.{ToldWheel}
 use Rattle.panel_drawing.specs.declared.drawing.PanelWire.{PanelWire}
+use Rattle.sum_sections.specs.Sections.{first_sum}
+use Rattle.sum_sections.specs.declared.sums.PageSum.{PageSum}
+use Rattle.traces.specs.declared.parts.TracePart.{TracePart}
 
 -- what stands around the links
 unfoldable pub begin_open : List ℕ
 begin_open = codes "<div class=\"begin\"><h2>Begin here</h2>\n<ul>\n"
 
 unfoldable pub begin_close : List ℕ
-begin_close = codes "</ul>\n<p>Or choose anything that is printed or wired: with the pointer, or with the tabulator and Enter.</p></div>\n"
+begin_close = codes "</ul>\n<p>Or choose anything that is printed, punched or wired: with the pointer, or with the tabulator and Enter.</p></div>\n"
 
 -- the link to a printed character
 unfoldable pub character_words : List ℕ
@@ -27,6 +32,17 @@ abbrev pub first_character : List ToldWheel → List ℕ
 first_character [] = []
 first_character (told ∷ others) = character_entry told
 
+-- the link to the first card that is shown, which has this number; an empty deck has none
+unfoldable pub card_words : List ℕ
+card_words = codes "A card</a>: its holes, and what stands in the fields of the chart</li>\n"
+
+unfoldable pub card_entry : (first : ℕ) → List ℕ
+card_entry first = codes "<li>" ++ card_open first ++ card_words
+
+abbrev pub first_card : (first : ℕ) → List (List ℕ) → List ℕ
+first_card first [] = []
+first_card first (card ∷ others) = card_entry first
+
 -- the link to the first wire; a panel without one has none
 unfoldable pub wire_words : List ℕ
 wire_words = codes "<li><a href=\"#wire1\">A wire</a>: who asks for it, and the characters of which a way leads through it</li>\n"
@@ -35,16 +51,24 @@ abbrev pub first_wire : List PanelWire → List ℕ
 first_wire [] = []
 first_wire (wire ∷ others) = wire_words
 
--- the link to the first cycle; a trace without one has none
+-- the link to the first cycle of the run
 unfoldable pub step_words : List ℕ
 step_words = codes "<li><a href=\"#cycle1\">The first cycle</a> of the run, and from there one after another</li>\n"
 
-unfoldable pub first_cycle : List ℕ → List ℕ
-first_cycle trace = if length (lines_of trace) == 0 then [] else step_words
+-- that to a later one, which is the first that is shown
+unfoldable pub later_words : (number : ℕ) → List ℕ
+later_words number =
+    codes "<li><a href=\"#cycle" ++ decimal number ++ codes "\">A cycle</a> of the run, and from there one after another</li>\n"
+
+unfoldable pub cycle_words : (before : ℕ) → List ℕ
+cycle_words before = if before == 0 then step_words else later_words (before + 1)
+
+unfoldable pub first_cycle : TracePart → List ℕ
+first_cycle part = if length (lines_of part.text.items) == 0 then [] else cycle_words part.before
 
 -- the links
-unfoldable pub front_links : List ToldWheel → List ℕ
-front_links told = begin_open ++ first_character told
+unfoldable pub front_links : List ToldWheel → List PageSum → (first : ℕ) → (cards : List (List ℕ)) → List ℕ
+front_links told sums first cards = begin_open ++ first_character told ++ first_sum sums ++ first_card first cards
 
-unfoldable pub begin_text : List ToldWheel → List PanelWire → (trace : List ℕ) → List ℕ
-begin_text told wires trace = front_links told ++ first_wire wires ++ first_cycle trace ++ begin_close
+unfoldable pub begin_text : List ToldWheel → List PageSum → (first : ℕ) → (cards : List (List ℕ)) → List PanelWire → TracePart → List ℕ
+begin_text told sums first cards wires part = front_links told sums first cards ++ first_wire wires ++ first_cycle part ++ begin_close

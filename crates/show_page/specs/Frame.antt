@@ -1,5 +1,5 @@
 -- The frame of the page: the document around its parts, and its style sheet.
-use Rattle.std.specs.Prelude.{◌≡◌, ℕ, ◌==◌, ◌&&◌, ◌||◌, Bool, true, not, List, codes, nat_le}
+use Rattle.std.specs.Prelude.{◌≡◌, ℕ, ◌==◌, ◌&&◌, ◌||◌, Bool, true, not, List, ◌++◌, codes, decimal, nat_le}
 use Rattle.std.specs.List.{list_all}
 
 -- the front of the document, up to its title
@@ -24,19 +24,27 @@ header_open = codes "</style></head><body>\n<header><p class=\"kind\">A report o
 
 -- what is said where only the first pages and cycles are shown
 unfoldable pub cut_words : List ℕ
-cut_words = codes "<p class=\"cut\">The deck has more than 200 cards: its first two pages and its first 200 cycles are shown.</p>\n"
+cut_words = codes "<p class=\"cut\">The deck has more than 200 cards: its first two pages, its first 200 cards and its first 200 cycles are shown.</p>\n"
+
+-- what is said where the pages around one are shown
+unfoldable pub around_words : (page : ℕ) → List ℕ
+around_words page = codes "<p class=\"cut\">Shown are page " ++ decimal page ++ codes " of the report, the pages before and behind it, if there are such, and the cycles from the card of their first line to that of their last one, 1000 at most.</p>\n"
 
 -- what stands before the sheets, up to how many characters the widest line has
 unfoldable pub main_open : List ℕ
-main_open = codes "</header>\n<main>\n<nav><a href=\"#report\">Report</a> <a href=\"#panel\">Panel</a> <a href=\"#chart\">Chart</a></nav>\n<h2 id=\"report\">The report</h2>\n<p>Each printed character is a link. The word at the left of a line tells which cycle printed it: that of a card, or the total of a level. The total of the whole deck is the final one.</p>\n<div class=\"sheets\" style=\"--n:"
+main_open = codes "</header>\n<main>\n<nav><a href=\"#report\">Report</a> <a href=\"#cards\">Cards</a> <a href=\"#panel\">Panel</a> <a href=\"#chart\">Chart</a></nav>\n<h2 id=\"report\">The report</h2>\n<p>Each printed character is a link. The word at the left of a line tells which cycle printed it: that of a card, or the total of a level. The total of the whole deck is the final one.</p>\n<div class=\"sheets\" style=\"--n:"
 
 -- what stands behind that
 unfoldable pub sheets_open : List ℕ
 sheets_open = codes "\">\n"
 
--- what stands between the sheets and the drawing
+-- what stands between the sheets and the deck
+unfoldable pub cards_open : List ℕ
+cards_open = codes "</div>\n<h2 id=\"cards\">The cards</h2>\n<p>The deck as it was read, card 1 at the top. A hole in row 3 is a 3. With one in row 12, 11 or 0 above it, it is a letter. A card is a link.</p>\n"
+
+-- what stands between the deck and the drawing
 unfoldable pub panel_open : List ℕ
-panel_open = codes "</div>\n<h2>The panel</h2>\n<p>Impulses leave the machine at the hubs above, and come back to it at those below. A wire has the colour of the line that asks for it. The drawing is our own schematic, not the real layout of the machine.</p>\n<div class=\"board\">\n"
+panel_open = codes "<h2>The panel</h2>\n<p>Impulses leave the machine at the hubs above, and come back to it at those below. A wire has the colour of the line that asks for it. The drawing is our own schematic, not the real layout of the machine.</p>\n<div class=\"board\">\n"
 
 -- what stands before the legend of a chart
 unfoldable pub legend_open : List ℕ

@@ -1,10 +1,18 @@
 -- Helper words of the code: a text gains the head of the page, and the page behind the sheets.
 use Rattle.std.specs.Prelude.{◌≡◌, ℕ, List, ◌++◌}
+use Rattle.card_sections.specs.Sections.{sections_text}
+use Rattle.charts.specs.declared.chart.Line.{Line}
+use Rattle.page_links.specs.declared.shown.ShownRun.{ShownRun}
 use Rattle.panel_drawing.specs.Drawing.{IsDrawing}
 use Rattle.panel_drawing.specs.declared.drawing.PanelWire.{PanelWire}
 use Rattle.page_sections.specs.WheelSections.Sections.{told_sections}
 use Rattle.page_sections.specs.declared.wheel_sections.told.ToldWheel.{ToldWheel}
 use Rattle.page_sections.specs.WireSections.Sections.{AreWireSections}
+use Rattle.sum_places.specs.declared.places.SumPlace.{SumPlace}
+use Rattle.sum_sections.specs.Sections.{sum_sections_text}
+use Rattle.sum_sections.specs.declared.sums.PageSum.{PageSum}
+use Rattle.traces.specs.declared.parts.TracePart.{TracePart}
+use Rattle.wheel_ledgers.specs.declared.chart_totals.TitledAccount.{TitledAccount}
 use Rattle.show_page.specs.Begin.{begin_text}
 use Rattle.show_page.specs.Cycles.{shown_cycles}
 use Rattle.show_page.specs.Frame.{IsStyle, document_close, stage_open}
@@ -17,13 +25,16 @@ pub record GainsHead (heading : List ℕ) (counts : RunCounts) (old new : List �
   pub is_style : IsStyle style
   pub gained : new ≡ old ++ head_text style heading counts
 
--- the drawing, the legend, where to begin, what is told of wheels and of wires, and the cycles
-pub record GainsBody (cards : ℕ) (trace : List ℕ) (wires : List PanelWire) (legend : List ℕ) (told : List ToldWheel) (old new : List ℕ)
-    : Type 0 where
+-- the drawing, the legend, where to begin, what is told of wheels, of sums at these places, of the cards that are shown and of wires, and the
+-- cycles of a part of the trace
+pub record GainsBody (chart : List Line) (run : ShownRun) (cards : List (List ℕ)) (part : TracePart) (wires : List PanelWire)
+    (legend : List ℕ) (totals : List TitledAccount) (told : List ToldWheel) (sums : List PageSum) (places : List SumPlace)
+    (old new : List ℕ) : Type 0 where
   pub drawing : List ℕ
   pub drawn : IsDrawing wires drawing
   pub ways : List ℕ
   pub are_ways : AreWireSections wires told ways
   pub gained : new
-      ≡ old ++ drawing ++ legend ++ stage_open ++ begin_text told wires trace ++ told_sections told ++ ways ++ shown_cycles cards trace
-      ++ document_close
+      ≡ old ++ drawing ++ legend ++ stage_open ++ begin_text told sums run.cards.first cards wires part
+      ++ told_sections run.cards places totals told ++ sum_sections_text run.cards sums
+      ++ sections_text chart run part.text.items sums cards ++ ways ++ shown_cycles part ++ document_close

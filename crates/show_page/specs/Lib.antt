@@ -1,6 +1,9 @@
 pub mod Begin
+pub mod Choice
 pub mod Cycles
 pub mod Frame
 pub mod Helper
 pub mod Page
+pub mod ReadPanel
+pub mod Shown
 pub mod Titles

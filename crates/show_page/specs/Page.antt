@@ -1,7 +1,10 @@
 -- The page of a setup and a deck: the printed pages, the drawing of the panel, the legend, an explanation of each printed character, and
 -- what came through each wire, and the cycles of the run.
-use Rattle.std.specs.Prelude.{◌≡◌, ℕ, List, [], ◌∷◌, ◌++◌, decimal, String, if◌then◌else◌, length, map, nat_le}
+use Rattle.std.specs.Prelude.{◌≡◌, ℕ, List, [], ◌∷◌, ◌++◌, decimal, Option, None, Some, String, if◌then◌else◌, length, map, nat_le}
 use Rattle.std.specs.declared.alloc.Global.{Global}
+use Rattle.card_drawing.specs.Drawings.{shapes_text}
+use Rattle.card_sections.specs.Decks.{deck_text}
+use Rattle.card_sections.specs.Sections.{sections_text}
 use Rattle.charts.specs.declared.chart.Line.{Line}
 use Rattle.explanations.specs.Pages.{AreFoundLines}
 use Rattle.explanations.specs.declared.found.FoundLine.{FoundLine}
@@ -12,6 +15,8 @@ use Rattle.legend.specs.LineSetups.{AreLineSetups}
 use Rattle.machine.specs.Runs.{MachineLines}
 use Rattle.markup.specs.Escapes.{escaped}
 use Rattle.markup.specs.Pieces.{EachText}
+use Rattle.page_links.specs.declared.shown.Shown.{Shown}
+use Rattle.page_links.specs.declared.shown.ShownRun.{ShownRun}
 use Rattle.panel_drawing.specs.Drawing.{IsDrawing}
 use Rattle.panel_drawing.specs.declared.drawing.PanelWire.{PanelWire}
 use Rattle.placed_lines.specs.declared.placed_line.PlacedLine.{PlacedLine}
@@ -19,91 +24,109 @@ use Rattle.plans.specs.Plans.{Lists}
 use Rattle.page_sections.specs.ReportSheets.Sheets.{sheets_text, widest}
 use Rattle.setups.specs.Wires.{AreWiresOf}
 use Rattle.setups.specs.Wiring.{Wiring}
-use Rattle.traces.specs.Traces.{IsTrace}
+use Rattle.shown_lines.specs.Shown.{shown}
+use Rattle.sum_sections.specs.Sections.{sum_sections_text}
+use Rattle.sum_sections.specs.Sums.{AreSums, place_of}
+use Rattle.sum_sections.specs.declared.sums.PageSum.{PageSum}
+use Rattle.traces.specs.Parts.{IsTracePart}
+use Rattle.traces.specs.declared.parts.TracePart.{TracePart}
+use Rattle.wheel_ledgers.specs.Totals.{totals_in}
+use Rattle.wheel_ledgers.specs.declared.chart_totals.TitledAccount.{TitledAccount}
 use Rattle.page_sections.specs.WheelSections.Sections.{told_sections}
 use Rattle.page_sections.specs.WheelSections.Told.{AreTold, printed_places}
 use Rattle.page_sections.specs.declared.wheel_sections.told.ToldWheel.{ToldWheel}
 use Rattle.page_sections.specs.WireSections.Sections.{AreWireSections}
 use Rattle.wiring_text.specs.declared.statement.Version.{Version}
 use Rattle.show_page.specs.Begin.{begin_text}
+use Rattle.show_page.specs.Choice.{cycles_shown, first_shown, pages_shown}
 use Rattle.show_page.specs.Cycles.{shown_cycles}
-use Rattle.show_page.specs.Frame.{IsStyle, cut_words, document_close, legend_open, main_open, panel_open, sheets_open, stage_open, wiring_close, wiring_open}
+use Rattle.show_page.specs.Frame.{IsStyle, around_words, cards_open, cut_words, document_close, legend_open, main_open, panel_open, sheets_open, stage_open, wiring_close, wiring_open}
+use Rattle.show_page.specs.Shown.{shown_cards, shown_run}
 use Rattle.show_page.specs.Titles.{head_text, heading_of}
 use Rattle.show_page.specs.declared.head.RunCounts.{RunCounts}
 
--- the lines of the first two pages
-abbrev pub front : List PlacedLine → List PlacedLine
-front [] = []
-front (line ∷ others) = if nat_le line.page 2 then line ∷ front others else []
+-- what is said where not all pages are shown
+abbrev pub cut_text : (around : Option ℕ) → (cards : ℕ) → List ℕ
+cut_text None cards = if nat_le cards 200 then [] else cut_words
+cut_text (Some page) cards = around_words page
 
--- the lines that are shown: all of a deck of so many cards, where it has 200 at most, else those of the first two pages
-unfoldable pub shown : ℕ → List PlacedLine → List PlacedLine
-shown cards lines = if nat_le cards 200 then lines else front lines
+-- the sheets, behind the head of the page
+unfoldable pub sheets_front : (around : Option ℕ) → (cards wide : ℕ) → List ℕ
+sheets_front around cards wide = cut_text around cards ++ main_open ++ decimal wide ++ sheets_open
 
--- what is said of a deck of more cards
-unfoldable pub cut_text : ℕ → List ℕ
-cut_text cards = if nat_le cards 200 then [] else cut_words
+unfoldable pub sheets_part : Shown → (around : Option ℕ) → (cards : ℕ) → List PlacedLine → List FoundLine → (long : ℕ) → List ℕ
+sheets_part linked around cards lines found long =
+    sheets_front around cards (widest lines) ++ sheets_text linked lines found long (first_shown around)
 
--- the page up to the drawing, behind its head
-unfoldable pub sheets_front : (cards wide : ℕ) → List ℕ
-sheets_front cards wide = cut_text cards ++ main_open ++ decimal wide ++ sheets_open
-
-unfoldable pub sheets_part : (cards : ℕ) → List PlacedLine → List FoundLine → (long : ℕ) → List ℕ
-sheets_part cards lines found long = sheets_front cards (widest lines) ++ sheets_text lines found long ++ panel_open
+-- the cards that are shown, up to the drawing, with the fields of a chart; the first of them has this number
+unfoldable pub cards_part : (chart : List Line) → (first : ℕ) → (cards : List (List ℕ)) → List ℕ
+cards_part chart first cards = cards_open ++ shapes_text chart first cards ++ deck_text first cards ++ panel_open
 
 -- the page, by its parts
-unfoldable pub page_text : (style heading : List ℕ) → RunCounts → (trace : List ℕ) → List PlacedLine → List FoundLine → (long : ℕ)
-    → List PanelWire → (drawing legend : List ℕ) → List ToldWheel → (ways : List ℕ) → List ℕ
-page_text style heading counts trace lines found long wires drawing legend told ways =
-    head_text style heading counts
-    ++ sheets_part counts.cards lines found long
+unfoldable pub page_text : (style : List ℕ) → (chart : List Line) → (around : Option ℕ) → ShownRun → (cards : List (List ℕ)) → RunCounts
+    → TracePart → List PlacedLine → List FoundLine → (long : ℕ) → List PanelWire → (drawing legend : List ℕ) → List TitledAccount
+    → List ToldWheel → List PageSum → (ways : List ℕ) → List ℕ
+page_text style chart around run cards counts part lines found long wires drawing legend totals told sums ways =
+    head_text style (heading_of chart) counts
+    ++ sheets_part run.cards around counts.cards lines found long
+    ++ cards_part chart run.cards.first cards
     ++ drawing
     ++ legend
     ++ stage_open
-    ++ begin_text told wires trace
-    ++ told_sections told
+    ++ begin_text told sums run.cards.first cards wires part
+    ++ told_sections run.cards (map place_of sums) totals told
+    ++ sum_sections_text run.cards sums
+    ++ sections_text chart run part.text.items sums cards
     ++ ways
-    ++ shown_cycles counts.cards trace
+    ++ shown_cycles part
     ++ document_close
+
+-- the lines that are shown, of those of a run over so many cards
+abbrev pub lines_shown : (around : Option ℕ) → (cards : ℕ) → List PlacedLine → List PlacedLine
+lines_shown around cards lines = shown (pages_shown around cards) lines
 
 -- how much a run has of what is counted at the head of its page
 abbrev pub counts_of : List (List ℕ) → List PlacedLine → List PanelWire → RunCounts
 counts_of deck lines wires = record { cards = length deck; lines = length lines; wires = length wires }
 
--- The page of a setup and a deck, with the heading of a chart: the lines are those that the machine prints, each shown with the cycle that
--- printed it, each wire of the list is drawn once, each printed character that is shown is told of, where it is known who asks for wires,
--- and has its element, and so has each wire, with what came through it; and the cycles are those of the run.
-pub record IsPage (wiring : Wiring) (asked : List (String Global × Wiring)) (deck : List (List ℕ)) (chart : List Line)
-    (wires : List PanelWire) (legend text : List ℕ) : Type 0 where
+-- The page of a setup and a deck, with the heading and the fields of a chart, around a page of the report or none: of the lines that the
+-- machine prints those that are shown, each with the cycle that printed it, each card that is shown is drawn, and each wire of the list is
+-- drawn once; each printed character that is shown is told of, where it is known who asks for wires, and has its element, and so have the
+-- sums behind them, by the totals that are known, each card that is shown, and each wire, with what came through it; and the cycles are those
+-- of the run that are shown.
+pub record IsPage (wiring : Wiring) (asked : List (String Global × Wiring)) (totals : List TitledAccount) (deck : List (List ℕ))
+    (chart : List Line) (wires : List PanelWire) (legend : List ℕ) (around : Option ℕ) (text : List ℕ) : Type 0 where
   pub style : List ℕ
   pub is_style : IsStyle style
   pub lines : List PlacedLine
   pub run : MachineLines wiring deck lines
   pub found : List FoundLine
-  pub are_found : AreFoundLines wiring deck (shown (length deck) lines) found
+  pub are_found : AreFoundLines wiring deck (lines_shown around (length deck) lines) found
   pub told : List ToldWheel
-  pub are_told : AreTold wiring asked deck (printed_places (shown (length deck) lines)) told
+  pub are_told : AreTold wiring asked deck (printed_places (lines_shown around (length deck) lines)) told
+  pub sums : List PageSum
+  pub are_sums : AreSums wiring totals deck told sums
   pub drawing : List ℕ
   pub drawn : IsDrawing wires drawing
   pub ways : List ℕ
   pub are_ways : AreWireSections wires told ways
-  pub trace : List ℕ
-  pub traced : IsTrace wiring deck trace
+  pub part : TracePart
+  pub traced : IsTracePart wiring deck (cycles_shown around (length deck) found) part
   pub spelled : text
-      ≡ page_text style (heading_of chart) (counts_of deck lines wires) trace (shown (length deck) lines) found wiring.tape.lines wires
-      drawing legend told ways
+      ≡ page_text style chart around (shown_run around (length deck) part) (shown_cards around deck) (counts_of deck lines wires) part
+      (lines_shown around (length deck) lines) found wiring.tape.lines wires drawing legend totals told sums ways
 
--- The page of a chart, its plan and its setup, and a deck: the heading is that of the chart, the wires are those of the setup, the legend is
--- that of the chart, and its lines are those that ask for wires.
+-- The page of a chart, its plan and its setup, and a deck: the heading and the fields are those of the chart, the wires are those of the
+-- setup, the legend is that of the chart, its lines are those that ask for wires, and its totals are those that are known.
 pub record ShowsChart (version : Version) (lines : List Line) (plan : Lists) (setup : Wiring) (source : List ℕ)
-    (deck : List (List ℕ)) (text : List ℕ) : Type 0 where
+    (deck : List (List ℕ)) (around : Option ℕ) (text : List ℕ) : Type 0 where
   pub wires : List PanelWire
   pub are : AreChartWires lines plan setup wires
   pub legend : List ℕ
   pub is_legend : EachText (IsLegendSection version lines plan source) lines legend
   pub asked : List (String Global × Wiring)
   pub are_asked : AreLineSetups lines plan source (length lines) asked
-  pub page : IsPage setup asked deck lines wires (legend_open ++ legend) text
+  pub page : IsPage setup asked (totals_in lines plan lines) deck lines wires (legend_open ++ legend) around text
 
 -- a wire that no line of a chart asks for
 abbrev pub unasked : Hub × Hub → PanelWire
@@ -113,9 +136,9 @@ unasked pair = record { exit = pair.0; entry = pair.1; line = 0 }
 unfoldable pub wiring_text : List ℕ → List ℕ
 wiring_text source = wiring_open ++ escaped source ++ wiring_close
 
--- The page of a panel that is wired as a wiring chart says, and a deck: it has no heading, the wires are those of the panel, nobody is known
--- who asks for them, and the wiring chart stands in place of the legend.
-pub record ShowsPanel (setup : Wiring) (source : List ℕ) (deck : List (List ℕ)) (text : List ℕ) : Type 0 where
+-- The page of a panel that is wired as a wiring chart says, and a deck: it has no heading and no fields, the wires are those of the panel,
+-- nobody is known who asks for them, no totals are known, and the wiring chart stands in place of the legend.
+pub record ShowsPanel (setup : Wiring) (source : List ℕ) (deck : List (List ℕ)) (around : Option ℕ) (text : List ℕ) : Type 0 where
   pub pairs : List (Hub × Hub)
   pub all : AreWiresOf setup pairs
-  pub page : IsPage setup [] deck [] (map unasked pairs) (wiring_text source) text
+  pub page : IsPage setup [] [] deck [] (map unasked pairs) (wiring_text source) around text

@@ -56,7 +56,7 @@ unfoldable pub program_open : List ℕ
 program_open = codes ". It had no program: "
 
 unfoldable pub program_close : List ℕ
-program_close = codes " on a panel decided what it did. Choose anything on this page that is printed or wired.</p>\n"
+program_close = codes " on a panel decided what it did. Choose anything on this page that is printed, punched or wired.</p>\n"
 
 unfoldable pub program_words : ℕ → List ℕ
 program_words wires = program_open ++ counted wires (codes "wire") ++ program_close

@@ -1,14 +1,19 @@
 //! Where a visitor may begin.
 
-ghost use Rattle.std.specs.Prelude.{◌≡◌, ◌++◌, OnOk};
+ghost use Rattle.std.specs.Prelude.{◌≡◌, ◌<◌, ◌^◌, ◌++◌, OnOk};
 ghost use Rattle.std.specs.String.{string_bytes};
-ghost use Rattle.show_page.specs.Begin.{begin_close, begin_open, begin_text, character_entry, character_open, character_words, first_character, first_cycle, first_wire, front_links, step_words, wire_words};
+ghost use Rattle.show_page.specs.Begin.{begin_close, begin_open, begin_text, card_entry, card_words, character_entry, character_open, character_words, cycle_words, first_card, first_character, first_cycle, first_wire, front_links, later_words, step_words, wire_words};
 
+use card_code::Card;
+use numerals::push_between;
+use page_links::write_card_open;
 use page_sections::cycle_sections::count_cycles;
 use page_sections::report_sheets::write_wheel_link;
 use page_sections::wheel_sections::ToldWheel;
 use panel_drawing::PanelWire;
 use std::alloc::AllocError;
+use sum_sections::{PageSum, write_first_sum};
+use traces::TracePart;
 
 #[tactic(auto, unfolding(crate::specs::Begin::begin_open))]
 // What stands before the links.
@@ -24,7 +29,7 @@ fn write_begin_close(text: &mut String) -> Result<(), AllocError>
     ensures { OnOk result (string_bytes text.new ≡ string_bytes text.old ++ begin_close) }
 {
     text.push_str(
-        "</ul>\n<p>Or choose anything that is printed or wired: with the pointer, or with the tabulator and Enter.</p></div>\n",
+        "</ul>\n<p>Or choose anything that is printed, punched or wired: with the pointer, or with the tabulator and Enter.</p></div>\n",
     )
 }
 
@@ -36,6 +41,14 @@ fn write_character_words(text: &mut String) -> Result<(), AllocError>
     text.push_str(
         "A printed character</a>: for each row that its wheel received, one way by which the impulse came</li>\n",
     )
+}
+
+#[tactic(auto, unfolding(crate::specs::Begin::card_words))]
+// The words of the link to a card.
+fn write_card_words(text: &mut String) -> Result<(), AllocError>
+    ensures { OnOk result (string_bytes text.new ≡ string_bytes text.old ++ card_words) }
+{
+    text.push_str("A card</a>: its holes, and what stands in the fields of the chart</li>\n")
 }
 
 #[tactic(auto, unfolding(crate::specs::Begin::wire_words))]
@@ -86,6 +99,26 @@ fn write_first_character(text: &mut String, told: &[ToldWheel]) -> Result<(), Al
     }
 }
 
+#[tactic(auto, unfolding(crate::specs::Begin::card_entry))]
+// The link to a card.
+fn write_card_entry(text: &mut String, card: usize) -> Result<(), AllocError>
+    ensures { OnOk result (string_bytes text.new ≡ string_bytes text.old ++ card_entry card) }
+{
+    text.push_str("<li>")?;
+    write_card_open(text, card)?;
+    write_card_words(text)
+}
+
+// The link to the first card, if there is one; it has this number.
+fn write_first_card(text: &mut String, first: usize, cards: &[Card]) -> Result<(), AllocError>
+    ensures { OnOk result (string_bytes text.new ≡ string_bytes text.old ++ first_card first cards.now) }
+{
+    match cards.first() {
+        Some(_) => write_card_entry(text, first),
+        None => Ok(()),
+    }
+}
+
 // The link to the first wire, where there is one.
 fn write_first_wire(text: &mut String, wires: &[PanelWire]) -> Result<(), AllocError>
     ensures { OnOk result (string_bytes text.new ≡ string_bytes text.old ++ first_wire wires.now) }
@@ -96,39 +129,78 @@ fn write_first_wire(text: &mut String, wires: &[PanelWire]) -> Result<(), AllocE
     }
 }
 
-#[tactic(auto, unfolding(crate::specs::Begin::first_cycle))]
-// The link to the first cycle of a trace, where it has one.
-fn write_first_cycle(text: &mut String, trace: &[u8]) -> Result<(), AllocError>
-    ensures { OnOk result (string_bytes text.new ≡ string_bytes text.old ++ first_cycle trace.now) }
+#[tactic(auto, unfolding(crate::specs::Begin::later_words))]
+// The link to a later cycle.
+fn write_later_words(text: &mut String, number: usize) -> Result<(), AllocError>
+    ensures { OnOk result (string_bytes text.new ≡ string_bytes text.old ++ later_words number) }
 {
-    if count_cycles(trace) == 0 {
+    push_between(
+        text,
+        "<li><a href=\"#cycle",
+        number,
+        "\">A cycle</a> of the run, and from there one after another</li>\n",
+    )
+}
+
+#[tactic(auto, unfolding(crate::specs::Begin::cycle_words))]
+// The link to the cycle behind so many.
+fn write_cycle_words(text: &mut String, before: usize) -> Result<(), AllocError>
+    requires { before < 2 ^ 32 }
+    ensures { OnOk result (string_bytes text.new ≡ string_bytes text.old ++ cycle_words before) }
+{
+    if before == 0 {
+        write_step_words(text)
+    } else {
+        write_later_words(text, before + 1)
+    }
+}
+
+#[tactic(auto, unfolding(crate::specs::Begin::first_cycle))]
+// The link to the first cycle that is shown, where there is one.
+fn write_first_cycle(text: &mut String, part: &TracePart) -> Result<(), AllocError>
+    requires { part.now.before < 2 ^ 32 }
+    ensures { OnOk result (string_bytes text.new ≡ string_bytes text.old ++ first_cycle part.now) }
+{
+    if count_cycles(&part.text) == 0 {
         Ok(())
     } else {
-        write_step_words(text)
+        write_cycle_words(text, part.before)
     }
 }
 
 #[tactic(auto, unfolding(crate::specs::Begin::front_links))]
-// What stands before the links, and the first one.
-fn write_front_links(text: &mut String, told: &[ToldWheel]) -> Result<(), AllocError>
-    ensures { OnOk result (string_bytes text.new ≡ string_bytes text.old ++ front_links told.now) }
+// The links to the first printed character, the first sum and the first card.
+fn write_front_links(
+    text: &mut String,
+    told: &[ToldWheel],
+    sums: &[PageSum],
+    first: usize,
+    cards: &[Card],
+) -> Result<(), AllocError>
+    ensures { OnOk result (string_bytes text.new ≡ string_bytes text.old ++ front_links told.now sums.now first cards.now) }
 {
     write_begin_open(text)?;
-    write_first_character(text, told)
+    write_first_character(text, told)?;
+    write_first_sum(text, sums)?;
+    write_first_card(text, first, cards)
 }
 
 #[tactic(auto, unfolding(crate::specs::Begin::begin_text))]
-// The links to where a visitor may begin.
+// The links to where a visitor may begin. The first of the cards has this number.
 pub(crate) fn write_begin(
     text: &mut String,
     told: &[ToldWheel],
+    sums: &[PageSum],
+    first: usize,
+    cards: &[Card],
     wires: &[PanelWire],
-    trace: &[u8],
+    part: &TracePart,
 ) -> Result<(), AllocError>
-    ensures { OnOk result (string_bytes text.new ≡ string_bytes text.old ++ begin_text told.now wires.now trace.now) }
+    requires { part.now.before < 2 ^ 32 }
+    ensures { OnOk result (string_bytes text.new ≡ string_bytes text.old ++ begin_text told.now sums.now first cards.now wires.now part.now) }
 {
-    write_front_links(text, told)?;
+    write_front_links(text, told, sums, first, cards)?;
     write_first_wire(text, wires)?;
-    write_first_cycle(text, trace)?;
+    write_first_cycle(text, part)?;
     write_begin_close(text)
 }

@@ -3,8 +3,9 @@
 ghost use Rattle.std.specs.Prelude.{◌≡◌, ◌++◌, OnOk};
 ghost use Rattle.std.specs.String.{string_bytes};
 ghost use Rattle.markup.specs.Pieces.{GainsOne};
-ghost use Rattle.show_page.specs.Frame.{IsStyle, cut_words, document_close, document_open, header_open, legend_open, main_open, panel_open, sheets_open, stage_open, style_open, wiring_close, wiring_open};
+ghost use Rattle.show_page.specs.Frame.{IsStyle, around_words, cards_open, cut_words, document_close, document_open, header_open, legend_open, main_open, panel_open, sheets_open, stage_open, style_open, wiring_close, wiring_open};
 
+use numerals::push_between;
 use std::alloc::AllocError;
 
 #[tactic(auto, unfolding(crate::specs::Frame::document_open))]
@@ -45,7 +46,7 @@ nav a{font:600 .9rem sans-serif;padding:.35em .8em;border-radius:1.2em;text-deco
 pre{font-family:Courier Prime,Courier New,Courier,monospace}
 .sheets{display:grid;gap:1rem}
 .sheets pre{margin:0;overflow-x:auto;padding:0 1.6em;border:1px solid var(--rule);box-shadow:0 2px 10px #0002;font-size:clamp(9px,calc(41vw/(var(--n) + 16)/.6),21px);line-height:1.6em;print-color-adjust:exact;background:radial-gradient(circle at .8em .8em,var(--hole) .28em,#0000 .3em) 0 0/1.6em 1.6em repeat-y,radial-gradient(circle at .8em .8em,var(--hole) .28em,#0000 .3em) 100% 0/1.6em 1.6em repeat-y,repeating-linear-gradient(var(--paper) 0 4.8em,var(--bar) 4.8em 9.6em)}
-.sheets b{display:inline-block;width:6.2em;margin-right:1.2em;font:600 .72em/1.5 sans-serif;text-align:right;color:var(--soft)}
+.sheets b a{font-weight:600;color:var(--link)}.sheets b{display:inline-block;width:6.2em;margin-right:1.2em;font:600 .72em/1.5 sans-serif;text-align:right;color:var(--soft)}
 .sheets a{color:inherit;font-weight:700;text-decoration:underline dotted #a58f5f .07em;text-underline-offset:.22em}.sheets a:hover,.sheets a:focus,.sheets span:target{background:var(--pick)}
 .board{overflow-x:auto}#panel{display:block;width:100%;min-width:38rem;max-width:72rem;height:auto;stroke-opacity:.9}.plate{fill:var(--plate)}
 .blocks text{font:18px sans-serif;fill:#dfe4e8}.blocks .small{font-size:12px;fill:#a4acb3}
@@ -59,11 +60,16 @@ aside{background:var(--paper)}.begin,aside section{padding:.6rem 1.2rem 1.4rem}a
 aside section pre{margin:.4em 0;font-size:.92rem;line-height:1.45;white-space:pre-wrap}aside section[id^=cycle] pre{white-space:pre;overflow-x:auto}aside pre::first-line{font-weight:700}
 aside section>a{display:inline-block;margin:0 .4rem .3rem 0;padding:.3em .75em;border:1.5px solid var(--ink);border-radius:1.2em;font:600 .85rem sans-serif;text-decoration:none;color:var(--ink)}aside section>a:hover,aside section>a:focus{background:var(--pick)}
 aside section div{columns:15em}aside section div a{display:block}aside p{margin:.35em 0}
-aside svg{display:block;width:100%;height:auto;max-width:80rem}aside svg path{fill:none;stroke:#ffd23f;stroke-width:8;stroke-linejoin:round;stroke-linecap:round}aside svg .background{stroke:none;marker-start:url(#background)}marker{overflow:visible}#background{stroke-opacity:.22}
+aside svg{display:block;width:100%;height:auto;max-width:80rem}aside svg path{fill:none;stroke:#ffd23f;stroke-width:8;stroke-linejoin:round;stroke-linecap:round}aside svg .background,aside svg .card{stroke:none}aside svg .background{marker-start:url(#background)}marker{overflow:visible}#background{stroke-opacity:.22}
+.shapes{position:absolute}.card{stroke:none;fill:none;marker-start:url(#blank);marker-end:url(#fields)}.names{stroke:none;fill:none;marker-start:url(#fields)}
+.sheet{fill:#ecdcb4;stroke:#8c7645;stroke-width:3}.digits{font:14.5px monospace;letter-spacing:6.27px;fill:#a08a58}.print{font:700 25px Courier New,monospace;fill:#2b2a28;white-space:pre}.number{font:600 21px sans-serif;fill:#6b5a30;text-anchor:end}.holes{stroke:#14171a;stroke-width:9.5;fill:none}
+#fields path{fill:#00000012;stroke-width:3;stroke-dasharray:8 5}#fields text{font:700 23px sans-serif;stroke:none;fill:var(--ink)}
+.deck{max-width:46rem}.deck svg{display:block;width:100%;height:auto}.deck a{display:block;position:relative;margin-bottom:-21%;filter:drop-shadow(0 -2px 3px #0003)}.deck a:last-child{margin-bottom:0}.deck a:hover,.deck a:focus{z-index:2;transform:translateY(-6px)}
+table{border-collapse:collapse;font-size:.95rem}th,td{padding:.3em .6em;border-bottom:1px solid var(--rule);text-align:left}.sum td:nth-child(2){text-align:right;font-weight:700}.sum code{color:var(--soft);font-weight:400}code{white-space:pre;font-family:Courier Prime,Courier New,Courier,monospace;font-weight:700}
 @media(min-width:68em){body{display:grid;grid-template:auto 1fr/minmax(0,47fr) minmax(0,53fr)}header,main{grid-column:1;min-width:0}aside{grid-column:2;grid-row:1/3;position:sticky;top:0;height:100vh;overflow:auto;border-left:3px solid var(--ink)}aside:has(>section:target) .begin{display:none}aside svg{max-height:calc(100vh - 4rem)}}
 @media(max-width:67.99em){header,main,.begin,aside section{padding-left:.9rem;padding-right:.9rem}.sheets pre{font-size:clamp(9px,calc(88vw/(var(--n) + 16)/.6),21px)}aside section:target{position:fixed;left:0;right:0;bottom:0;z-index:4;height:66vh;overflow:auto;border-top:4px solid var(--ink);background:var(--paper);box-shadow:0 -6px 24px #0006}body:has(>aside>section:target) main{padding-bottom:68vh}}
 @page{margin:14mm 12mm}
-@media print{:root{--ground:#fff;--paper:#fff;--ink:#000;--plate:#fff}body{display:block;font-size:10.5pt}nav,.begin,aside section>a{display:none}aside{position:static;height:auto;overflow:visible;border:0;break-before:page}aside:not(:has(>section:target)){display:none}aside section:target{position:static;height:auto;border:0;box-shadow:none}body:has(>aside>section:target) main{padding-bottom:0}.sheets pre{box-shadow:none;break-inside:avoid;font-size:min(11pt,calc(170mm/(var(--n) + 16)/.6))}.board{overflow:visible}#panel{min-width:0;stroke-opacity:1}.plate{stroke:#333;stroke-width:3}.blocks text,.blocks .small{fill:#222}.blocks path{stroke:#aaa}.hubs circle{fill:#222}aside svg path{stroke:#d81e05}.legend pre{break-inside:avoid}h2{break-after:avoid}}
+@media print{:root{--ground:#fff;--paper:#fff;--ink:#000;--plate:#fff}body{display:block;font-size:10.5pt}nav,.begin,aside section>a{display:none}aside{position:static;height:auto;overflow:visible;border:0;break-before:page}aside:not(:has(>section:target)){display:none}aside section:target{position:static;height:auto;border:0;box-shadow:none}body:has(>aside>section:target) main{padding-bottom:0}.sheets pre{box-shadow:none;break-inside:avoid;font-size:min(11pt,calc(170mm/(var(--n) + 16)/.6))}.board{overflow:visible}#panel{min-width:0;stroke-opacity:1}.plate{stroke:#333;stroke-width:3}.blocks text,.blocks .small{fill:#222}.blocks path{stroke:#aaa}.hubs circle{fill:#222}aside svg path{stroke:#d81e05}.deck{display:grid;grid-template-columns:1fr 1fr;gap:2mm 4mm}.deck a{margin:0;filter:none;break-inside:avoid}.deck a:last-child{margin:0}.deck>svg{display:none}.legend pre{break-inside:avoid}h2{break-after:avoid}}
 ",
     )
 }
@@ -84,7 +90,20 @@ pub(crate) fn write_cut_words(text: &mut String) -> Result<(), AllocError>
     ensures { OnOk result (string_bytes text.new ≡ string_bytes text.old ++ cut_words) }
 {
     text.push_str(
-        "<p class=\"cut\">The deck has more than 200 cards: its first two pages and its first 200 cycles are shown.</p>\n",
+        "<p class=\"cut\">The deck has more than 200 cards: its first two pages, its first 200 cards and its first 200 cycles are shown.</p>\n",
+    )
+}
+
+#[tactic(auto, unfolding(crate::specs::Frame::around_words))]
+// What is said where the pages around one are shown.
+pub(crate) fn write_around_words(text: &mut String, page: u32) -> Result<(), AllocError>
+    ensures { OnOk result (string_bytes text.new ≡ string_bytes text.old ++ around_words page) }
+{
+    push_between(
+        text,
+        "<p class=\"cut\">Shown are page ",
+        page,
+        " of the report, the pages before and behind it, if there are such, and the cycles from the card of their first line to that of their last one, 1000 at most.</p>\n",
     )
 }
 
@@ -94,7 +113,7 @@ pub(crate) fn write_main_open(text: &mut String) -> Result<(), AllocError>
     ensures { OnOk result (string_bytes text.new ≡ string_bytes text.old ++ main_open) }
 {
     text.push_str(
-        "</header>\n<main>\n<nav><a href=\"#report\">Report</a> <a href=\"#panel\">Panel</a> <a href=\"#chart\">Chart</a></nav>\n<h2 id=\"report\">The report</h2>\n<p>Each printed character is a link. The word at the left of a line tells which cycle printed it: that of a card, or the total of a level. The total of the whole deck is the final one.</p>\n<div class=\"sheets\" style=\"--n:",
+        "</header>\n<main>\n<nav><a href=\"#report\">Report</a> <a href=\"#cards\">Cards</a> <a href=\"#panel\">Panel</a> <a href=\"#chart\">Chart</a></nav>\n<h2 id=\"report\">The report</h2>\n<p>Each printed character is a link. The word at the left of a line tells which cycle printed it: that of a card, or the total of a level. The total of the whole deck is the final one.</p>\n<div class=\"sheets\" style=\"--n:",
     )
 }
 
@@ -106,13 +125,23 @@ pub(crate) fn write_sheets_open(text: &mut String) -> Result<(), AllocError>
     text.push_str("\">\n")
 }
 
+#[tactic(auto, unfolding(crate::specs::Frame::cards_open))]
+// What stands between the sheets and the deck.
+pub(crate) fn write_cards_open(text: &mut String) -> Result<(), AllocError>
+    ensures { OnOk result (string_bytes text.new ≡ string_bytes text.old ++ cards_open) }
+{
+    text.push_str(
+        "</div>\n<h2 id=\"cards\">The cards</h2>\n<p>The deck as it was read, card 1 at the top. A hole in row 3 is a 3. With one in row 12, 11 or 0 above it, it is a letter. A card is a link.</p>\n",
+    )
+}
+
 #[tactic(auto, unfolding(crate::specs::Frame::panel_open))]
-// What stands between the sheets and the drawing.
+// What stands between the deck and the drawing.
 pub(crate) fn write_panel_open(text: &mut String) -> Result<(), AllocError>
     ensures { OnOk result (string_bytes text.new ≡ string_bytes text.old ++ panel_open) }
 {
     text.push_str(
-        "</div>\n<h2>The panel</h2>\n<p>Impulses leave the machine at the hubs above, and come back to it at those below. A wire has the colour of the line that asks for it. The drawing is our own schematic, not the real layout of the machine.</p>\n<div class=\"board\">\n",
+        "<h2>The panel</h2>\n<p>Impulses leave the machine at the hubs above, and come back to it at those below. A wire has the colour of the line that asks for it. The drawing is our own schematic, not the real layout of the machine.</p>\n<div class=\"board\">\n",
     )
 }
 

@@ -139,7 +139,7 @@ fn write_program_close(text: &mut String) -> Result<(), AllocError>
     ensures { OnOk result (string_bytes text.new ≡ string_bytes text.old ++ program_close) }
 {
     text.push_str(
-        " on a panel decided what it did. Choose anything on this page that is printed or wired.</p>\n",
+        " on a panel decided what it did. Choose anything on this page that is printed, punched or wired.</p>\n",
     )
 }
 

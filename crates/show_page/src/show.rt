@@ -1,28 +1,31 @@
 //! The whole page.
 
-ghost use Rattle.std.specs.Prelude.{◌≡◌, ◌≤◌, ◌++◌, IfOk, OnOk, length, map};
+ghost use Rattle.std.specs.Prelude.{◌≡◌, ◌≤◌, ◌<◌, ◌+◌, ◌^◌, ◌++◌, IfOk, OnOk, length, map};
 ghost use Rattle.std.specs.String.{string_bytes};
 ghost use Rattle.card_code.specs.MostCards.{most_cards};
 ghost use Rattle.plans.specs.Plans.{ServesChart};
+ghost use Rattle.wheel_ledgers.specs.Totals.{AreAccounts};
 ghost use Rattle.show_page.specs.Helper.{GainsBody};
 ghost use Rattle.show_page.specs.Page.{IsPage, ShowsChart, ShowsPanel, unasked, wiring_text};
 
 use crate::begin::write_begin;
-use crate::cycles::{traced, write_shown_cycles};
+use crate::choice::{lines_shown, traced};
+use crate::cycles::write_shown_cycles;
 use crate::frame::{
     write_document_close, write_legend_open, write_stage_open, write_wiring_close,
     write_wiring_open,
 };
 use crate::head::{RunCounts, heading_of, write_head};
-use crate::page::{shown, write_sheets_part};
+use crate::page::{write_cards_part, write_sheets_part};
+use crate::shown::{shown_cards, shown_run};
 use card_code::Card;
+use card_sections::write_card_sections;
 use chart_rules::Chart;
 use charts::Line;
-use explanations::find_lines;
 use hubs::Hub;
 use legend::line_setups;
-use machine::simulate;
 use markup::push_escaped;
+use page_links::ShownRun;
 use page_sections::chart_panels::{chart_wires, write_legend};
 use page_sections::wheel_sections::{ToldWheel, told_wheels, write_told_sections};
 use page_sections::wire_sections::write_wire_sections;
@@ -30,68 +33,114 @@ use panel_drawing::{PanelWire, write_drawing};
 use plans::Plan;
 use setups::Setup;
 use std::alloc::{AllocError, Global};
+use sum_places::SumPlace;
+use sum_sections::{PageSum, page_sums, sum_places, write_sum_sections};
+use traces::TracePart;
+use wheel_ledgers::{TitledAccount, totals_of};
 use wiring_text::Version;
 
-// The page behind its sheets, of a deck of so many cards: the drawing of these wires, this legend, what is told of these wheels and of the
-// wires, and the cycles of the trace.
+// The page behind its cards, of which these are shown: the drawing of these wires, this legend, what is told of these wheels, of the sums,
+// which stand at these places, of the cards and of the wires, and the cycles of a part of the trace.
 fn write_body(
     alloc: Global,
     text: &mut String,
-    cards: usize,
-    trace: &[u8],
+    chart: &[Line],
+    run: ShownRun,
+    cards: &[Card],
+    part: &TracePart,
     wires: &[PanelWire],
     legend: &str,
+    totals: &[TitledAccount],
     told: &[ToldWheel],
+    sums: &[PageSum],
+    places: &[SumPlace],
 ) -> Result<(), AllocError>
-    ensures { OnOk result (GainsBody cards trace.now wires.now legend.now told.now (string_bytes text.old) (string_bytes text.new)) }
+    requires cards { run.cards.first + length cards.now < 2 ^ 64 }
+    requires accounts { AreAccounts totals.now }
+    requires part { part.now.before < 2 ^ 32 }
+    ensures { OnOk result (GainsBody chart.now run cards.now part.now wires.now legend.now totals.now told.now sums.now places.now (string_bytes text.old) (string_bytes text.new)) }
 {
     write_drawing(text, wires)?;
     text.push_str(legend)?;
     write_stage_open(text)?;
-    write_begin(text, told, wires, trace)?;
-    write_told_sections(text, told)?;
+    write_begin(text, told, sums, run.cards.first, cards, wires, part)?;
+    write_told_sections(text, run.cards, places, totals, told)?;
+    write_sum_sections(alloc, text, run.cards, sums)?;
+    write_card_sections(alloc, text, chart, run, &part.text, sums, cards)?;
     write_wire_sections(alloc, text, wires, told)?;
-    write_shown_cycles(alloc, text, cards, trace)?;
+    write_shown_cycles(alloc, text, part)?;
     write_document_close(text)
 }
 
-// The page of a setup and a deck, with those who ask for wires, the heading of a chart with these lines, these wires and this legend.
-fn page(
+// The page of a setup and a deck, with those who ask for wires, the totals that are known, the heading and the fields of a chart, these wires
+// and this legend, around a page of the report or none.
+pub(crate) fn page(
     alloc: Global,
     setup: &Setup,
     asked: &[(String, Setup)],
+    totals: &[TitledAccount],
     cards: &[Card],
     chart: &[Line],
     wires: &[PanelWire],
     legend: &str,
+    around: Option<u32>,
 ) -> Result<String, AllocError>
-    requires { length cards.now ≤ most_cards }
-    ensures { IfOk result (λ text. IsPage setup.now asked.now cards.now chart.now wires.now legend.now (string_bytes text)) }
+    requires few { length cards.now ≤ most_cards }
+    requires accounts { AreAccounts totals.now }
+    ensures { IfOk result (λ text. IsPage setup.now asked.now totals.now cards.now chart.now wires.now legend.now around (string_bytes text)) }
 {
-    let printed = simulate(alloc, setup, cards)?;
-    let trace = traced(alloc, setup, cards)?;
-    let lines = shown(cards.len(), &printed);
-    let found = find_lines(alloc, setup, cards, lines)?;
-    let told = told_wheels(alloc, setup, asked, cards, lines)?;
+    let shown = lines_shown(alloc, setup, cards, around)?;
+    let part = traced(alloc, setup, cards, around, &shown.found)?;
+    let told = told_wheels(alloc, setup, asked, cards, &shown.lines, &shown.found)?;
+    let sums = page_sums(alloc, setup, totals, cards, &told)?;
+    let places = sum_places(alloc, &sums)?;
     let counts = RunCounts {
         cards: cards.len(),
-        lines: printed.len(),
+        lines: part.lines,
         wires: wires.len(),
     };
+    let run = shown_run(around, cards.len(), &part);
+    let cards_shown = shown_cards(around, cards);
     let form_lines = u32::from(setup.tape().lines());
     let mut text = String::new(alloc);
     write_head(&mut text, heading_of(chart), counts)?;
-    write_sheets_part(&mut text, cards.len(), lines, &found, form_lines)?;
-    write_body(alloc, &mut text, cards.len(), &trace, wires, legend, &told)?;
+    write_sheets_part(
+        &mut text,
+        run.cards,
+        around,
+        cards.len(),
+        &shown.lines,
+        &shown.found,
+        form_lines,
+    )?;
+    write_cards_part(alloc, &mut text, chart, run.cards.first, cards_shown)?;
+    write_body(
+        alloc,
+        &mut text,
+        chart,
+        run,
+        cards_shown,
+        &part,
+        wires,
+        legend,
+        totals,
+        &told,
+        &sums,
+        &places,
+    )?;
     Ok(text)
 }
 
 /// The page of a chart with its plan and its setup, and a deck of at most 999,999 cards, as a file of XHTML: the chart's first heading as
 /// the title, with how many cards, lines and wires there are; the pages that the machine prints, wired so, each line with a word for its
-/// cycle; the drawing of the panel with each wire of the setup once; the legend of the chart, in a version of the language of wiring charts;
-/// for each printed character its explanation, which names the lines of the chart that ask for its wires, for each wire what came through
-/// it, and for each cycle of the run what happened in it. `source` is the text of the chart. Of a deck of more than 200 cards the first two
-/// pages and the first 200 cycles are shown, and the page says so. Its only refusal is memory.
+/// cycle; the cards with their holes and the chart's fields; the drawing of the panel with each wire of the setup once; the legend of the
+/// chart, in a version of the language of wiring charts; for each printed character its explanation, which names the lines of the chart that
+/// ask for its wires; for each figure that comes from a counter the sum behind it; for each card its cycles, the sums it went into and what
+/// its fields hold, for each wire what came through it, and for each cycle of the run what happened in it. `source` is the text of the chart.
+///
+/// With `around` a page of the report is shown, the one before it and the one behind it, and the cycles from the card of their first line to
+/// that of their last one, 1000 at most, but no cards. Without it all is shown, but of a deck of more than 200 cards the first two pages, the
+/// first 200 cards and the first 200 cycles. Where not all is shown, the page says so. Its only refusal is memory.
 pub fn show_chart(
     alloc: Global,
     version: Version,
@@ -100,17 +149,29 @@ pub fn show_chart(
     setup: &Setup,
     source: &[u8],
     cards: &[Card],
+    around: Option<u32>,
 ) -> Result<String, AllocError>
     requires plan { ServesChart chart.now.lines plan.now }
     requires few { length cards.now ≤ most_cards }
-    ensures { IfOk result (λ text. ShowsChart version chart.now.lines plan.now setup.now source.now cards.now (string_bytes text)) }
+    ensures { IfOk result (λ text. ShowsChart version chart.now.lines plan.now setup.now source.now cards.now around (string_bytes text)) }
 {
     let wires = chart_wires(alloc, chart, plan, setup)?;
     let mut legend = String::new(alloc);
     write_legend_open(&mut legend)?;
     write_legend(alloc, &mut legend, version, chart, plan, source)?;
     let asked = line_setups(alloc, chart, plan, source)?;
-    page(alloc, setup, &asked, cards, chart.lines(), &wires, &legend)
+    let totals = totals_of(alloc, chart, plan)?;
+    page(
+        alloc,
+        setup,
+        &asked,
+        &totals,
+        cards,
+        chart.lines(),
+        &wires,
+        &legend,
+        around,
+    )
 }
 
 // A wire that no line of a chart asks for.
@@ -146,20 +207,21 @@ fn write_wiring(text: &mut String, source: &[u8]) -> Result<(), AllocError>
 }
 
 /// The page of a panel that is wired as a wiring chart says, and a deck of at most 999,999 cards, as [`show_chart`] gives that of a chart:
-/// the title tells how many cards there are, no line of a chart asks for the wires, and the wiring chart stands in place of the legend.
-/// `source` is its text. Its only refusal is memory.
+/// the title tells how many cards there are, no line of a chart asks for the wires, no fields are marked on the cards, and the wiring chart
+/// stands in place of the legend. `source` is its text. Its only refusal is memory.
 pub fn show_panel(
     alloc: Global,
     setup: &Setup,
     source: &[u8],
     cards: &[Card],
+    around: Option<u32>,
 ) -> Result<String, AllocError>
     requires { length cards.now ≤ most_cards }
-    ensures { IfOk result (λ text. ShowsPanel setup.now source.now cards.now (string_bytes text)) }
+    ensures { IfOk result (λ text. ShowsPanel setup.now source.now cards.now around (string_bytes text)) }
 {
     let pairs = setup.wires(alloc)?;
     let wires = unasked_wires(alloc, &pairs)?;
     let mut legend = String::new(alloc);
     write_wiring(&mut legend, source)?;
-    page(alloc, setup, &[], cards, &[], &wires, &legend)
+    page(alloc, setup, &[], &[], cards, &[], &wires, &legend, around)
 }

@@ -1,2 +1,4 @@
 pub mod Pieces
 mod Running
+mod PartCycles
+mod PartRuns

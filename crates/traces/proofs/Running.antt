@@ -1,5 +1,5 @@
 -- A traced run, between two of its cycles.
-use Rattle.std.proofs.Common.{◌≡◌, ◌∙◌, sym, ap, subst, refl, ℕ, ◌+◌, ◌*◌, ◌<◌, ◌≤◌, List, [], ◌∷◌, ◌++◌, Option, Some, None, length, arith}
+use Rattle.std.proofs.Common.{◌≡◌, ◌∙◌, append_assoc, sym, ap, subst, refl, ℕ, ◌+◌, ◌*◌, ◌<◌, ◌≤◌, List, [], ◌∷◌, ◌++◌, Option, Some, None, length, arith}
 use Rattle.std.proofs.KnownBytes.{Appends-kept, Appends-nil, Appends-trans}
 use Rattle.std.specs.Io.KnownBytes.{Appends, Keeps}
 use Rattle.std.specs.List.{flat_map}
@@ -9,14 +9,15 @@ use Rattle.setups.specs.Wiring.{Wiring}
 use Rattle.net.specs.Nets.{IsNetOf}
 use Rattle.net.specs.declared.cycle.Cycle.{Cycle}
 use Rattle.net.specs.declared.cycle.Cycle.TheVariants.{RunIn, Card, Prog, Head}
-use Rattle.machine.specs.Cycles.{Reached, line_of}
+use Rattle.machine.specs.Cycles.{CycleRun, Reached, line_of}
 use Rattle.machine.specs.Ends.{EndsCycle}
 use Rattle.machine.specs.Machine.{MachineState, ended}
-use Rattle.machine.specs.Runs.{InRun, cards_moved, cycle_due, made_ready, run_at_start}
+use Rattle.machine.specs.Runs.{InRun, MachineLines, RunsBy, cards_moved, cycle_due, made_ready, run_at_start}
 use Rattle.machine.specs.Stepped.{Stepped, IsUnbegun}
 use Rattle.machine.proofs.FewCycles.{IsSupplied, ahead, ahead-falls, still-supplied}
 use Rattle.machine.proofs.Keeps.{CycleRun-ends}
 use Rattle.traces.specs.Lines.{cycle_line, cycle_name, put_behind, units_told}
+use Rattle.traces.specs.Parts.{CyclesTo, ToldCycle, next}
 use Rattle.traces.specs.Told.{line_told}
 use Rattle.traces.specs.Traces.{TracedTo, begun, behind_cycle, card_in, more}
 use Rattle.traces.specs.Tracing.{HasTraced, TracesCycle, WritesTrace, in_run}
@@ -28,6 +29,11 @@ pub record Stands (wiring : Wiring) (deck : List (List ℕ)) (stepped : Stepped)
   pub supplied : IsSupplied stepped.machine
   pub few : card + ahead (in_run stepped hopper) ≤ 28 * length deck + 1
   pub traced : HasTraced wiring deck card (in_run stepped hopper) was is
+
+-- with the lines that a run prints from here on, the lines so far are those of the run over the deck
+abbrev pub PrintsOn : Wiring → List (List ℕ) → InRun → List PlacedLine → Type 0
+PrintsOn wiring deck run lines =
+    (later : List Cycle) (others : List PlacedLine) → RunsBy (CycleRun wiring) later run others → MachineLines wiring deck (lines ++ others)
 
 start-supplied : (wiring : Wiring) (deck : List (List ℕ)) → IsSupplied (run_at_start wiring deck).machine
 start-supplied wiring [] = λ none. refl
@@ -119,6 +125,39 @@ module _ (wiring : Wiring) (deck : List (List ℕ)) (stepped ready after : Stepp
             (subst (λ (l : List ℕ). Appends is new l) traces.written written);
       };
     }
+
+    told_next : (cycles : List ToldCycle) → CyclesTo wiring deck card run cycles
+        → CyclesTo wiring deck (card_in cycle card) (in_run after left) (cycles ++ record { card = card_in cycle card; line = line } ∷ [])
+    told_next cycles told =
+        let one = next cycle card run cycles traces.behind_points told due reached in
+        let same : behind_cycle cycle run traces.behind_points ≡ in_run after left =
+        ap (λ (m : MachineState). record { machine = m; hopper = (made_ready cycle run).hopper }) (sym traces.is_new) ∙ same_run in
+        subst (λ (l : List ℕ). CyclesTo wiring deck (card_in cycle card) (in_run after left)
+        (cycles ++ record { card = card_in cycle card; line = l } ∷ [])) (sym traces.written)
+        (subst (λ (r : InRun). CyclesTo wiring deck (card_in cycle card) r
+        (cycles ++ record { card = card_in cycle card; line = cycle_line cycle (card_in cycle card) traces.behind_points } ∷ [])) same one)
+
+    -- the cycle is told behind those before it
+    pub cycles_more : (cycles : List ToldCycle) → CyclesTo wiring deck card (in_run stepped hopper) cycles
+        → CyclesTo wiring deck number (in_run after left) (cycles ++ record { card = number; line = line } ∷ [])
+    cycles_more cycles told =
+        subst (λ (n : ℕ). CyclesTo wiring deck n (in_run after left) (cycles ++ record { card = n; line = line } ∷ [])) (sym numbered)
+        (told_next cycles told)
+
+    -- the lines of a run whose first ones are placed already go on with that of the cycle
+    pub prints_more : (lines : List PlacedLine) → PrintsOn wiring deck (in_run stepped hopper) lines
+        → PrintsOn wiring deck (in_run after left) (lines ++ line_of after.machine)
+    unfolding RunsBy
+    prints_more lines goes_on later others rest =
+        subst (MachineLines wiring deck) (sym (append_assoc lines (line_of after.machine) others))
+        (goes_on (cycle ∷ later) (line_of after.machine ++ others) (
+          after.machine,
+          others,
+          due,
+          record { at_end = traces.behind_points; reached = reached; is_new = traces.is_new },
+          subst (λ (r : InRun). RunsBy (CycleRun wiring) later r others) (sym same_run) rest,
+          refl,
+        ))
 
     -- with the line of the cycle written
     pub Stands-more : Appends is new line → Stands wiring deck after number left was new

@@ -2,3 +2,5 @@ pub mod Told
 pub mod Lines
 pub mod Traces
 pub mod Tracing
+pub mod Parts
+pub mod Listing

@@ -19,7 +19,7 @@ use std::io;
 use std::io::Write;
 
 // The cards move on by one. Answers what is left in the hopper.
-fn move_on<'a>(machine: &mut SteppedMachine, hopper: &'a [Card]) -> &'a [Card]
+pub(crate) fn move_on<'a>(machine: &mut SteppedMachine, hopper: &'a [Card]) -> &'a [Card]
     ensures moved { in_run machine.new result.now ≡ cards_moved machine.old.machine hopper.now }
     ensures net { machine.new.net ≡ machine.old.net }
 {
@@ -36,7 +36,11 @@ fn move_on<'a>(machine: &mut SteppedMachine, hopper: &'a [Card]) -> &'a [Card]
 }
 
 // Just before a card cycle the cards move on. Answers what is left in the hopper.
-fn make_ready<'a>(machine: &mut SteppedMachine, cycle: Cycle, hopper: &'a [Card]) -> &'a [Card]
+pub(crate) fn make_ready<'a>(
+    machine: &mut SteppedMachine,
+    cycle: Cycle,
+    hopper: &'a [Card],
+) -> &'a [Card]
     ensures ready { in_run machine.new result.now ≡ made_ready cycle (in_run machine.old hopper.now) }
     ensures net { machine.new.net ≡ machine.old.net }
 {
@@ -47,7 +51,7 @@ fn make_ready<'a>(machine: &mut SteppedMachine, cycle: Cycle, hopper: &'a [Card]
 }
 
 // How many cards were read, in a cycle.
-fn card_in(cycle: Cycle, card: u32) -> u32
+pub(crate) fn card_in(cycle: Cycle, card: u32) -> u32
     requires { card + 1 < 2 ^ 32 }
     ensures { result ≡ card_in cycle card }
 {
@@ -58,7 +62,7 @@ fn card_in(cycle: Cycle, card: u32) -> u32
 }
 
 // Runs a cycle, and makes its line in the place of another. What is told of the cycle is made in the place of something else.
-fn run_cycle(
+pub(crate) fn run_cycle(
     machine: &mut SteppedMachine,
     cycle: Cycle,
     card: u32,

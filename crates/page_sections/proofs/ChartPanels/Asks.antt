@@ -1,6 +1,6 @@
 -- The lines that ask for a wire, and wires with their lines.
-use Rattle.std.proofs.Common.{◌≡◌, ◌≢◌, ◌⊎◌, ◌↔◌, inl, inr, ◌∙◌, refl, sym, ap, subst, arith, eqb, Bool, true, false, true≢false, ℕ, ◌+◌, ◌<◌, ◌≤◌, List, [], ◌∷◌, ◌++◌, Some, length, take, get_or}
-use Rattle.std.specs.Prelude.{All, IsTrue, map, slice_get}
+use Rattle.std.proofs.Common.{◌≡◌, ◌≢◌, inl, inr, ◌∙◌, refl, sym, ap, subst, arith, eqb, Bool, true, false, true≢false, ℕ, ◌+◌, ◌<◌, ◌≤◌, List, [], ◌∷◌, ◌++◌, Some, length, take, get_or}
+use Rattle.std.specs.Prelude.{slice_get}
 use Rattle.std.proofs.lemmas.Bool.{eqb-true, eq-eqb}
 use Rattle.std.proofs.lemmas.List.{map-append, take_all, take_more}
 use Rattle.std.proofs.lemmas.List.Elements.{All-append, All-cons, All-nil}
@@ -12,7 +12,7 @@ use Rattle.plans.specs.Plans.{Lists}
 use Rattle.setups.specs.Wiring.{Wiring, HasWire}
 use Rattle.wire_gen.specs.OfLine.{IsSetupOfLine}
 use Rattle.wiring_table.specs.Wires.{LineWire}
-use Rattle.page_sections.specs.ChartPanels.Asking.{AreAsked, HasItsLine, IsAsked, IsFirstAsking, IsLineOf, NoneAsks, NoneBefore, ends}
+use Rattle.page_sections.specs.ChartPanels.Asking.{AreAsked, HasItsLine, IsAsked, IsLineOf, NoneBefore, ends}
 
 -- no line stands before the first one
 pub none_before : (lines : List Line) (plan : Lists) (exit entry : Hub) → NoneBefore lines plan exit entry 0

@@ -34,10 +34,10 @@ fn write_next(text: &mut String, number: usize, shown: usize) -> Result<(), Allo
 
 #[tactic(auto, unfolding(crate::specs::CycleSections::Sections::before_text))]
 // The link to the cycle before.
-fn write_before(text: &mut String, number: usize) -> Result<(), AllocError>
-    ensures { OnOk result (string_bytes text.new ≡ string_bytes text.old ++ before_text number) }
+fn write_before(text: &mut String, number: usize, first: usize) -> Result<(), AllocError>
+    ensures { OnOk result (string_bytes text.new ≡ string_bytes text.old ++ before_text number first) }
 {
-    if 1 < number {
+    if first < number {
         write_link(text, number - 1)?;
         text.push_str("cycle before</a> ")
     } else {
@@ -64,11 +64,17 @@ fn write_place(text: &mut String, number: usize, all: usize) -> Result<(), Alloc
 
 #[tactic(auto, unfolding(crate::specs::CycleSections::Sections::links_text))]
 // What stands above the words of an element.
-fn write_links(text: &mut String, number: usize, shown: usize, all: usize) -> Result<(), AllocError>
-    ensures { OnOk result (string_bytes text.new ≡ string_bytes text.old ++ links_text number shown all) }
+fn write_links(
+    text: &mut String,
+    number: usize,
+    first: usize,
+    shown: usize,
+    all: usize,
+) -> Result<(), AllocError>
+    ensures { OnOk result (string_bytes text.new ≡ string_bytes text.old ++ links_text number first shown all) }
 {
     write_next(text, number, shown)?;
-    write_before(text, number)?;
+    write_before(text, number, first)?;
     write_back(text)?;
     write_place(text, number, all)
 }
@@ -106,21 +112,23 @@ fn write_section(
     alloc: Global,
     text: &mut String,
     number: usize,
+    first: usize,
     shown: usize,
     all: usize,
     line: &[u8],
 ) -> Result<(), AllocError>
-    ensures { OnOk result (string_bytes text.new ≡ string_bytes text.old ++ section_text number shown all line.now) }
+    ensures { OnOk result (string_bytes text.new ≡ string_bytes text.old ++ section_text number first shown all line.now) }
 {
     write_open(text, number)?;
-    write_links(text, number, shown, all)?;
+    write_links(text, number, first, shown, all)?;
     write_words(alloc, text, line)?;
     write_close(text)
 }
 
 /// How many cycles a trace tells of: it has a line for each.
 pub fn count_cycles(trace: &[u8]) -> usize
-    ensures { result ≡ length (lines_of trace.now) }
+    ensures lines { result ≡ length (lines_of trace.now) }
+    ensures few { result ≤ length trace.now }
 {
     let mut count = 0;
     let mut rest = trace;
@@ -132,27 +140,28 @@ pub fn count_cycles(trace: &[u8]) -> usize
 }
 
 #[tactic(auto, unfolding(crate::specs::CycleSections::Sections::cycles_text))]
-/// Writes the elements of the first `most` cycles of a trace, one for each of its lines in their order, or of all where there are no more.
-/// Each has links to the next cycle that is shown, to the one before and to the element `report`, tells which of all cycles of the trace it
-/// is, and has the words of the line, in rows. The element of the third cycle has the id `cycle3`.
+/// Writes the elements of the cycles of a part of a trace, one for each of its lines in their order: `before` cycles come before them, and
+/// `all` there are in the whole run. Each has links to the next cycle of the part, to the one before and to the element `report`, tells which
+/// of all cycles it is, and has the words of the line, in rows. The element of the third cycle of the run has the id `cycle3`.
 ///
 /// Fails only where no memory is left; a front of the elements may then have been written.
 pub fn write_cycles(
     alloc: Global,
     text: &mut String,
-    trace: &[u8],
-    most: usize,
+    part: &[u8],
+    before: usize,
+    all: usize,
 ) -> Result<(), AllocError>
-    ensures { OnOk result (string_bytes text.new ≡ string_bytes text.old ++ cycles_text most trace.now) }
+    requires { before < 2 ^ 32 }
+    ensures { OnOk result (string_bytes text.new ≡ string_bytes text.old ++ cycles_text before all part.now) }
 {
-    let all = count_cycles(trace);
-    let shown = all.min(most);
-    let mut rest = trace;
-    for passed in 0..most {
-        let Some((line, after)) = next_line(rest) else {
-            return Ok(());
-        };
-        write_section(alloc, text, passed + 1, shown, all, line)?;
+    let first = before + 1;
+    let shown = before + count_cycles(part);
+    let mut number = first;
+    let mut rest = part;
+    while let Some((line, after)) = next_line(rest) {
+        write_section(alloc, text, number, first, shown, all, line)?;
+        number += 1;
         rest = after;
     }
     Ok(())

@@ -10,6 +10,7 @@ use explanations::FoundLine;
 use markup::push_escaped;
 use net::Cycle;
 use numerals::{push_between, push_numbered};
+use page_links::{Shown, write_card_word};
 use page_text::{last_page, without_trailing_blanks};
 use placed_lines::PlacedLine;
 use std::alloc::AllocError;
@@ -112,12 +113,17 @@ fn write_total_word(text: &mut String, level: u8) -> Result<(), AllocError>
 }
 
 // The word for a cycle that printed a line. The card is that of a card cycle.
-fn write_cycle_word(text: &mut String, cycle: Cycle, card: u32) -> Result<(), AllocError>
-    ensures { OnOk result (string_bytes text.new ≡ string_bytes text.old ++ cycle_word cycle card) }
+fn write_cycle_word(
+    text: &mut String,
+    shown: Shown,
+    cycle: Cycle,
+    card: u32,
+) -> Result<(), AllocError>
+    ensures { OnOk result (string_bytes text.new ≡ string_bytes text.old ++ cycle_word shown cycle card) }
 {
     match cycle {
         Cycle::RunIn => text.push_str("run-in"),
-        Cycle::Card => push_numbered(text, "card ", card),
+        Cycle::Card => write_card_word(text, shown, card as usize),
         Cycle::Prog(level, _) => write_total_word(text, level.number()),
         Cycle::Head(_) => text.push_str("head"),
     }
@@ -126,15 +132,16 @@ fn write_cycle_word(text: &mut String, cycle: Cycle, card: u32) -> Result<(), Al
 // The word at a place; none where none of the cycles printed there.
 fn write_word_at(
     text: &mut String,
+    shown: Shown,
     found: &[FoundLine],
     page: u64,
     line: u32,
 ) -> Result<(), AllocError>
-    ensures { OnOk result (string_bytes text.new ≡ string_bytes text.old ++ word_at found.now page line) }
+    ensures { OnOk result (string_bytes text.new ≡ string_bytes text.old ++ word_at shown found.now page line) }
 {
     for one in found {
         if one.kept.line.page == page && one.kept.line.line == line {
-            return write_cycle_word(text, one.kept.cycle, one.cards);
+            return write_cycle_word(text, shown, one.kept.cycle, one.cards);
         }
     }
     Ok(())
@@ -154,14 +161,15 @@ fn write_row_open(text: &mut String, page: u64, line: u32) -> Result<(), AllocEr
 // The front of a row, with its word.
 fn write_word(
     text: &mut String,
+    shown: Shown,
     found: &[FoundLine],
     page: u64,
     line: u32,
 ) -> Result<(), AllocError>
-    ensures { OnOk result (string_bytes text.new ≡ string_bytes text.old ++ word_text found.now page line) }
+    ensures { OnOk result (string_bytes text.new ≡ string_bytes text.old ++ word_text shown found.now page line) }
 {
     write_row_open(text, page, line)?;
-    write_word_at(text, found, page, line)?;
+    write_word_at(text, shown, found, page, line)?;
     text.push_str("</b>")
 }
 
@@ -169,18 +177,19 @@ fn write_word(
 // The word and the characters of a row, as an element of its own where a line stands there.
 fn write_printed_row(
     text: &mut String,
+    shown: Shown,
     found: &[FoundLine],
     page: u64,
     line: u32,
     characters: &[u8],
 ) -> Result<(), AllocError>
     requires { length characters.now ≤ 120 }
-    ensures { OnOk result (string_bytes text.new ≡ string_bytes text.old ++ written_row found.now page line characters.now) }
+    ensures { OnOk result (string_bytes text.new ≡ string_bytes text.old ++ written_row shown found.now page line characters.now) }
 {
     if characters.is_empty() {
         return Ok(());
     }
-    write_word(text, found, page, line)?;
+    write_word(text, shown, found, page, line)?;
     write_characters(text, page, line, without_trailing_blanks(characters))?;
     text.push_str("</span>")
 }
@@ -202,14 +211,15 @@ fn text_at(lines: &[PlacedLine], page: u64, line: u32) -> &[u8]
 // A row.
 fn write_row(
     text: &mut String,
+    shown: Shown,
     lines: &[PlacedLine],
     found: &[FoundLine],
     page: u64,
     line: u32,
 ) -> Result<(), AllocError>
-    ensures { OnOk result (string_bytes text.new ≡ string_bytes text.old ++ row_text lines.now found.now page line) }
+    ensures { OnOk result (string_bytes text.new ≡ string_bytes text.old ++ row_text shown lines.now found.now page line) }
 {
-    write_printed_row(text, found, page, line, text_at(lines, page, line))?;
+    write_printed_row(text, shown, found, page, line, text_at(lines, page, line))?;
     text.push_str("\n")
 }
 
@@ -217,16 +227,17 @@ fn write_row(
 // The rows of a sheet.
 fn write_rows(
     text: &mut String,
+    shown: Shown,
     lines: &[PlacedLine],
     found: &[FoundLine],
     long: u32,
     page: u64,
 ) -> Result<(), AllocError>
     requires { long ≤ 144 }
-    ensures { OnOk result (string_bytes text.new ≡ string_bytes text.old ++ flat_map (row_text lines.now found.now page) (range_with_len 1 long)) }
+    ensures { OnOk result (string_bytes text.new ≡ string_bytes text.old ++ flat_map (row_text shown lines.now found.now page) (range_with_len 1 long)) }
 {
     for passed in 0..long {
-        write_row(text, lines, found, page, passed + 1)?;
+        write_row(text, shown, lines, found, page, passed + 1)?;
     }
     Ok(())
 }
@@ -242,37 +253,42 @@ fn write_sheet_open(text: &mut String, page: u64) -> Result<(), AllocError>
 // A sheet.
 fn write_sheet(
     text: &mut String,
+    shown: Shown,
     lines: &[PlacedLine],
     found: &[FoundLine],
     long: u32,
     page: u64,
 ) -> Result<(), AllocError>
     requires { long ≤ 144 }
-    ensures { OnOk result (string_bytes text.new ≡ string_bytes text.old ++ sheet_text lines.now found.now long page) }
+    ensures { OnOk result (string_bytes text.new ≡ string_bytes text.old ++ sheet_text shown lines.now found.now long page) }
 {
     write_sheet_open(text, page)?;
-    write_rows(text, lines, found, long, page)?;
+    write_rows(text, shown, lines, found, long, page)?;
     text.push_str("</pre>\n")
 }
 
-#[tactic(auto, unfolding(crate::specs::ReportSheets::Sheets::sheets_text), using(markup::proofs::Pieces::range_none, markup::proofs::Pieces::range_more))]
-/// Writes the pages of lines on forms of `form_lines` lines, at most 144: a sheet for each page from page 1 to the last one that has a
+#[tactic(auto, unfolding(crate::specs::ReportSheets::Sheets::sheets_text), using(crate::proofs::ReportSheets::sheets_none, crate::proofs::ReportSheets::sheets_more))]
+/// Writes the pages of lines on forms of `form_lines` lines, at most 144: a sheet for each page from page `first` to the last one that has a
 /// line, with a row for each line of the form. A printed character links to the element that is named for its page, its line and its
 /// wheel, as `p1l2w3`; a row with a line is the element of its page and its line, as `p1l2`, and begins with a word for the cycle that
-/// printed it, by those that were found: `head`, `card 3`, `total 1`, `final`.
+/// printed it, by those that were found: `head`, `card 3`, `total 1`, `final`. The card links to its element, if it is among those that are
+/// shown.
 ///
 /// Of two lines at one place the first is shown. Fails only where no memory is left; a front of the sheets may then have been written.
 pub fn write_sheets(
     text: &mut String,
+    shown: Shown,
     lines: &[PlacedLine],
     found: &[FoundLine],
     form_lines: u32,
+    first: u64,
 ) -> Result<(), AllocError>
-    requires { form_lines ≤ 144 }
-    ensures { OnOk result (string_bytes text.new ≡ string_bytes text.old ++ sheets_text lines.now found.now form_lines) }
+    requires form { form_lines ≤ 144 }
+    requires first { 1 ≤ first }
+    ensures { OnOk result (string_bytes text.new ≡ string_bytes text.old ++ sheets_text shown lines.now found.now form_lines first) }
 {
-    for passed in 0..last_page(lines) {
-        write_sheet(text, lines, found, form_lines, passed + 1)?;
+    for passed in 0..last_page(lines).saturating_sub(first - 1) {
+        write_sheet(text, shown, lines, found, form_lines, first + passed)?;
     }
     Ok(())
 }

@@ -3,14 +3,19 @@
 ghost use Rattle.std.specs.Prelude.{◌≡◌, ◌++◌, codes, OnOk};
 ghost use Rattle.std.specs.List.{flat_map};
 ghost use Rattle.std.specs.String.{string_bytes};
-ghost use Rattle.page_sections.specs.WheelSections.Sections.{back_text, name_open, section_close, section_open, section_text, told_section, told_sections, way_text, words_text};
+ghost use Rattle.wheel_ledgers.specs.Totals.{AreAccounts};
+ghost use Rattle.page_sections.specs.WheelSections.Sections.{back_text, card_text, name_open, rest_text, section_close, section_open, told_open, told_section, told_sections, way_text, words_text};
 
 use crate::report_sheets::{write_row_name, write_wheel_name};
 use crate::wheel_sections::told::ToldWheel;
+use explanations::Explanation;
 use hubs::Hub;
 use markup::push_escaped;
+use page_links::{Shown, write_card_link};
 use panel_drawing::{write_picture_open, write_way};
 use std::alloc::AllocError;
+use sum_places::{SumPlace, sum_behind, write_sum_link};
+use wheel_ledgers::TitledAccount;
 
 #[tactic(auto, unfolding(crate::specs::WheelSections::Sections::way_text))]
 // The way at a row.
@@ -56,13 +61,34 @@ fn write_back(text: &mut String, page: u64, line: u32) -> Result<(), AllocError>
     text.push_str("\">back</a>")
 }
 
+// The link to the card of the cycle that printed the line, if it has an element.
+fn write_card(text: &mut String, shown: Shown, card: u32) -> Result<(), AllocError>
+    ensures { OnOk result (string_bytes text.new ≡ string_bytes text.old ++ card_text shown card) }
+{
+    let number = card as usize;
+    if shown.has(number) {
+        text.push_str(" ")?;
+        write_card_link(text, number)
+    } else {
+        Ok(())
+    }
+}
+
 #[tactic(auto, unfolding(crate::specs::WheelSections::Sections::section_open))]
 // The front of an element.
-fn write_open(text: &mut String, page: u64, line: u32, wheel: u8) -> Result<(), AllocError>
-    ensures { OnOk result (string_bytes text.new ≡ string_bytes text.old ++ section_open page line wheel) }
+fn write_open(
+    text: &mut String,
+    shown: Shown,
+    page: u64,
+    line: u32,
+    wheel: u8,
+    card: u32,
+) -> Result<(), AllocError>
+    ensures { OnOk result (string_bytes text.new ≡ string_bytes text.old ++ section_open shown page line wheel card) }
 {
     write_name(text, page, line, wheel)?;
-    write_back(text, page, line)
+    write_back(text, page, line)?;
+    write_card(text, shown, card)
 }
 
 #[tactic(auto, unfolding(crate::specs::WheelSections::Sections::words_text))]
@@ -82,48 +108,72 @@ pub fn write_section_close(text: &mut String) -> Result<(), AllocError>
     text.push_str("</svg></section>\n")
 }
 
-#[tactic(auto, unfolding(crate::specs::WheelSections::Sections::section_text))]
-// The element of a wheel, with these words and these ways.
-fn write_section(
-    text: &mut String,
-    page: u64,
-    line: u32,
-    wheel: u8,
-    words: &[u8],
-    rows: &[Option<Vec<Hub>>],
-) -> Result<(), AllocError>
-    ensures { OnOk result (string_bytes text.new ≡ string_bytes text.old ++ section_text page line wheel words.now rows.now) }
+// What stands in the element of a wheel behind its front: these words and these ways.
+fn write_rest(text: &mut String, words: &[u8], rows: &[Option<Vec<Hub>>]) -> Result<(), AllocError>
+    ensures { OnOk result (string_bytes text.new ≡ string_bytes text.old ++ rest_text words.now rows.now) }
 {
-    write_open(text, page, line, wheel)?;
     write_words(text, words)?;
     write_picture_open(text)?;
     write_ways(text, rows)?;
     write_section_close(text)
 }
 
-// The element of a wheel that is told of.
-fn write_told(text: &mut String, told: &ToldWheel) -> Result<(), AllocError>
-    ensures { OnOk result (string_bytes text.new ≡ string_bytes text.old ++ told_section told.now) }
+#[tactic(auto, unfolding(crate::specs::WheelSections::Sections::told_open))]
+// The front of the element of a wheel that is told of.
+fn write_told_open(
+    text: &mut String,
+    shown: Shown,
+    sums: &[SumPlace],
+    totals: &[TitledAccount],
+    why: &Explanation,
+) -> Result<(), AllocError>
+    requires { AreAccounts totals.now }
+    ensures { OnOk result (string_bytes text.new ≡ string_bytes text.old ++ told_open shown sums.now totals.now why.now) }
 {
-    write_section(
+    write_open(
         text,
-        told.why.line.page,
-        told.why.line.line,
-        told.why.wheel,
-        told.words.as_bytes(),
-        &told.why.rows,
-    )
+        shown,
+        why.line.page,
+        why.line.line,
+        why.wheel,
+        why.cards,
+    )?;
+    write_sum_link(text, sums, sum_behind(totals, why))
+}
+
+// The element of a wheel that is told of.
+fn write_told(
+    text: &mut String,
+    shown: Shown,
+    sums: &[SumPlace],
+    totals: &[TitledAccount],
+    told: &ToldWheel,
+) -> Result<(), AllocError>
+    requires { AreAccounts totals.now }
+    ensures { OnOk result (string_bytes text.new ≡ string_bytes text.old ++ told_section shown sums.now totals.now told.now) }
+{
+    write_told_open(text, shown, sums, totals, &told.why)?;
+    write_rest(text, told.words.as_bytes(), &told.why.rows)
 }
 
 #[tactic(auto, using(markup::proofs::Pieces::one_more))]
-/// Writes the elements of wheels that are told of, in their order: each with the words of its explanation, and its ways over the panel.
+/// Writes the elements of wheels that are told of, in their order: each with the words of its explanation, and its ways over the panel. It
+/// links to the card to which the cycle of its line belongs, if that is one of those that are shown, and to the sum behind it by these
+/// totals, if that is one of `sums`, which have elements.
 ///
 /// Fails only where no memory is left; a front of the elements may then have been written.
-pub fn write_told_sections(text: &mut String, told: &[ToldWheel]) -> Result<(), AllocError>
-    ensures { OnOk result (string_bytes text.new ≡ string_bytes text.old ++ told_sections told.now) }
+pub fn write_told_sections(
+    text: &mut String,
+    shown: Shown,
+    sums: &[SumPlace],
+    totals: &[TitledAccount],
+    told: &[ToldWheel],
+) -> Result<(), AllocError>
+    requires { AreAccounts totals.now }
+    ensures { OnOk result (string_bytes text.new ≡ string_bytes text.old ++ told_sections shown sums.now totals.now told.now) }
 {
     for one in told {
-        write_told(text, one)?;
+        write_told(text, shown, sums, totals, one)?;
     }
     Ok(())
 }

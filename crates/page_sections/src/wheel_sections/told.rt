@@ -1,16 +1,14 @@
 //! What is told of the printed characters of lines.
 
-ghost use Rattle.std.specs.Prelude.{◌≡◌, ◌≤◌, ◌<◌, ◌+◌, [], All, IfOk, OnOk, length};
+ghost use Rattle.std.specs.Prelude.{◌≡◌, ◌≤◌, ◌<◌, ◌+◌, [], IfOk, OnOk};
 ghost use Rattle.std.specs.List.{flat_map, range_with_len};
-ghost use Rattle.card_code.specs.MostCards.{most_cards};
-ghost use Rattle.explanations.specs.Pages.{IsFoundLine};
-ghost use Rattle.explanations.specs.PlacedInRun.{PrintsLine};
+ghost use Rattle.explanations.specs.Pages.{AreFoundLines, IsFoundLine};
 ghost use Rattle.page_sections.specs.WheelSections.Helper.{AreWaysOfLine, GainsTold, IsToldOf};
 ghost use Rattle.page_sections.specs.WheelSections.Told.{AreTold, printed_by, printed_on, printed_places};
 
 use card_code::Card;
 use explanation_text::wheel_text;
-use explanations::{Explanation, FoundLine, LineWays, find_lines};
+use explanations::{Explanation, FoundLine, LineWays};
 use placed_lines::PlacedLine;
 use setups::Setup;
 use std::alloc::{AllocError, Global};
@@ -105,33 +103,26 @@ fn push_line(
     push_wheels(alloc, told, setup, asked, cards, placed, &line)
 }
 
-/// What is told of the printed characters of lines that a setup of the panel prints of a deck of at most 999,999 cards: for each its
-/// explanation and the words of it, in the order of the lines and of their wheels. `asked` names who asks for wires, as for
-/// [`explanation_text::explain_text`]. Where the lines are the first ones of the run, the deck is run once, up to the last of them. Fails
-/// only where no memory is left.
+/// What is told of the printed characters of lines that a setup of the panel prints of a deck: for each its explanation and the words of it,
+/// in the order of the lines and of their wheels. `found` has the cycle that placed each line, and `asked` names who asks for wires, as for
+/// [`explanation_text::explain_text`]. Fails only where no memory is left.
 pub fn told_wheels(
     alloc: Global,
     setup: &Setup,
     asked: &[(String, Setup)],
     cards: &[Card],
     lines: &[PlacedLine],
+    found: &[FoundLine],
 ) -> Result<Vec<ToldWheel>, AllocError>
-    requires few { length cards.now ≤ most_cards }
-    requires printed { All (PrintsLine setup.now cards.now) lines.now }
+    requires { AreFoundLines setup.now cards.now lines.now found.now }
     ensures { IfOk result (λ told. AreTold setup.now asked.now cards.now (printed_places lines.now) told.items) }
 {
-    let found = find_lines(alloc, setup, cards, lines)?;
     let mut told = Vec::new(alloc);
     for place in 0..lines.len() {
-        push_line(
-            alloc,
-            &mut told,
-            setup,
-            asked,
-            cards,
-            &lines[place],
-            &found[place],
-        )?;
+        let Some(one) = found.get(place) else {
+            unreachable!();
+        };
+        push_line(alloc, &mut told, setup, asked, cards, &lines[place], one)?;
     }
     Ok(told)
 }

@@ -14,7 +14,7 @@ returns-in_err-planned-clause-refused c =
 pub returns-clause-shown : goal.returns-clause-shown
 returns-clause-shown c =
     planned_shown c.chart_page.result string_bytes c.args.chart.now c.args.deck.now c.as_slice.result.now
-    c.in_ok-planned.planned.cards.items c.as_slice.ensures.value c.in_ok-planned.ensures.deck c.in_ok-planned.planned.compiled c.requires
+    c.in_ok-planned.planned.cards.items c.as_slice.ensures.value c.in_ok-planned.ensures.deck c.args.around c.in_ok-planned.planned.compiled c.requires
     c.in_ok-planned.ensures.compiles c.in_ok-planned.ensures.runnable c.chart_page.ensures.shows
 
 pub returns-clause-refused : goal.returns-clause-refused

@@ -13,10 +13,10 @@ returns-in_err-wired-clause-refused c =
 
 pub returns-clause-shown : goal.returns-clause-shown
 returns-clause-shown c =
-    wired_shown c.panel_page.result string_bytes c.args.wiring.now c.args.deck.now c.as_slice.result.now c.in_ok-wired.wired.cards.items
-    c.as_slice.ensures.value c.in_ok-wired.ensures.deck c.in_ok-wired.wired.setup c.requires c.in_ok-wired.ensures.reads
-    c.panel_page.ensures.shows
+    wired_shown c.wired_page.result string_bytes c.args.wiring.now c.args.deck.now c.as_slice.result.now c.in_ok-wired.wired.cards.items
+    c.as_slice.ensures.value c.in_ok-wired.ensures.deck c.args.around c.in_ok-wired.wired.setup c.requires c.in_ok-wired.ensures.reads
+    c.wired_page.ensures.shows
 
 pub returns-clause-refused : goal.returns-clause-refused
 returns-clause-refused c =
-    memory_refuses c.panel_page.result c.args.wiring.now c.args.deck.now c.panel_page.ensures.memory
+    memory_refuses c.wired_page.result c.args.wiring.now c.args.deck.now c.wired_page.ensures.memory

@@ -1,34 +1,33 @@
-use Rattle.std.proofs.Common.{◌≡◌, ◌∙◌, ◌++◌, ap, arith, subst, sym, ℕ, List, length}
-use Rattle.std.specs.Prelude.{All}
+use Rattle.std.proofs.Common.{◌≡◌, ◌∙◌, ◌++◌, ap, subst, sym, ℕ, List, length}
+use Rattle.std.specs.Prelude.{All, map}
 use Rattle.std.specs.String.{string_bytes}
 use Rattle.explanations.specs.Pages.{AreFoundLines}
-use Rattle.explanations.specs.PlacedInRun.{PrintsLine}
 use Rattle.explanations.specs.declared.found.FoundLine.{FoundLine}
+use Rattle.page_links.specs.declared.shown.ShownRun.{ShownRun}
 use Rattle.placed_lines.specs.declared.placed_line.PlacedLine.{PlacedLine}
 use Rattle.setups.specs.Tapes.{CarriageTape}
 use Rattle.page_sections.specs.WheelSections.Told.{AreTold, printed_places}
 use Rattle.page_sections.specs.declared.wheel_sections.told.ToldWheel.{ToldWheel}
+use Rattle.sum_places.specs.declared.places.SumPlace.{SumPlace}
+use Rattle.sum_sections.specs.Sums.{AreSums, IsExplained, place_of}
+use Rattle.sum_sections.specs.declared.sums.PageSum.{PageSum}
+use Rattle.traces.specs.Parts.{IsTracePart}
+use Rattle.show_page.specs.Choice.{cycles_shown}
 use Rattle.show_page.specs.Helper.{GainsBody, GainsHead}
-use Rattle.show_page.specs.Page.{counts_of, sheets_part, shown}
+use Rattle.show_page.specs.Page.{cards_part, sheets_part}
+use Rattle.show_page.specs.Shown.{shown_cards, shown_run}
 use Rattle.show_page.specs.Titles.{heading_of}
-use Rattle.show_page.proofs.Parts.{page_whole, shown_prints}
+use Rattle.show_page.proofs.Parts.{page_whole, told_explained}
 use Rattle.show_page.proofs.show.page.Goals as goal
 
-pub find_lines-requires-clause-printed : goal.find_lines-requires-clause-printed
-find_lines-requires-clause-printed c =
-    let cards = length c.args.cards.now in
-    let printed = c.in_ok-printed.printed.items in
-    let same : c.shown-lines.result.now ≡ shown cards printed = c.shown-lines.ensures ∙ ap (shown cards) c.deref.ensures.value in
-    subst (λ (l : List PlacedLine). All (PrintsLine c.args.setup.now c.args.cards.now) l) (sym same)
-    (shown_prints c.args.setup.now c.args.cards.now cards printed c.in_ok-printed.ensures.lines)
+pub told_wheels-requires : goal.told_wheels-requires
+told_wheels-requires c =
+    rw (c.deref-2.ensures.value, c.deref-3.ensures.value) c.in_ok-shown.ensures.found_are
 
-pub told_wheels-requires-clause-printed : goal.told_wheels-requires-clause-printed
-told_wheels-requires-clause-printed c =
-    let cards = length c.args.cards.now in
-    let printed = c.in_ok-printed.printed.items in
-    let same : c.shown-lines.result.now ≡ shown cards printed = c.shown-lines.ensures ∙ ap (shown cards) c.deref.ensures.value in
-    subst (λ (l : List PlacedLine). All (PrintsLine c.args.setup.now c.args.cards.now) l) (sym same)
-    (shown_prints c.args.setup.now c.args.cards.now cards printed c.in_ok-printed.ensures.lines)
+pub page_sums-requires-clause-explained : goal.page_sums-requires-clause-explained
+page_sums-requires-clause-explained c =
+    subst (λ (l : List ToldWheel). All (λ one. IsExplained c.args.setup.now c.args.cards.now one.why) l) (sym c.deref-4.ensures.value)
+    (told_explained c.args.setup.now c.args.asked.now c.args.cards.now c.in_ok-told.told.items c.in_ok-told.ensures.each)
 
 pub returns : goal.returns
 returns c =
@@ -37,34 +36,53 @@ returns c =
     let chart = c.args.chart.now in
     let wires = c.args.wires.now in
     let legend = c.args.legend.now in
+    let around = c.args.around in
+    let totals = c.args.totals.now in
     let cards = length deck in
-    let printed = c.in_ok-printed.printed.items in
-    let found = c.in_ok-found.found.items in
+    let placed = c.in_ok-shown.shown.lines.items in
+    let found = c.in_ok-shown.shown.found.items in
     let told = c.in_ok-told.told.items in
-    let trace = c.in_ok-trace.trace.items in
-    let same : c.shown-lines.result.now ≡ shown cards printed = c.shown-lines.ensures ∙ ap (shown cards) c.deref.ensures.value in
+    let part = c.in_ok-part.part in
     let long : c.from-form_lines.result ≡ setup.tape.lines =
     c.from-form_lines.ensures ∙ c.lines.ensures.value ∙ ap (λ (t : CarriageTape). t.lines) c.tape.ensures.value in
-    let ok = c.in_ok-printed.printed.ok in
-    let held = c.len.ensures in
-    let many : c.len.result ≡ length printed = omega (arith, ok, held) in
+    let sums = c.in_ok-sums.sums.items in
+    let run : c.shown_run-run.result ≡ shown_run around cards part = c.shown_run-run.ensures in
+    let at_places : c.deref-10.result.now ≡ map place_of sums =
+    c.deref-10.ensures.value ∙ c.in_ok-places.ensures ∙ ap (λ (l : List PageSum). map place_of l) c.deref-5.ensures.value in
     let none = string_bytes c.new-text.result in
     let one = string_bytes c.write_head.new.text in
     let two = string_bytes c.write_sheets_part.new.text in
+    let three = string_bytes c.write_cards_part.new.text in
     let new = string_bytes c.write_body.new.text in
-    page_whole setup c.args.asked.now deck chart printed found wires told trace legend none one two new
-    c.in_ok-printed.ensures.lines
-    (subst (λ (l : List PlacedLine). AreFoundLines setup deck l found) same c.in_ok-found.ensures)
-    c.in_ok-trace.ensures
-    (subst (λ (l : List PlacedLine). AreTold setup c.args.asked.now deck (printed_places l) told) same c.in_ok-told.ensures)
+    page_whole setup c.args.asked.now totals deck chart around placed found part wires told sums legend none one two three new
+    c.in_ok-shown.ensures
+    (subst (λ (f : List FoundLine). IsTracePart setup deck (cycles_shown around cards f) part) c.deref.ensures.value
+    c.in_ok-part.ensures.part)
+    (subst (λ (l : List PlacedLine). AreTold setup c.args.asked.now deck (printed_places l) told) c.deref-2.ensures.value
+    c.in_ok-told.ensures)
+    (subst (λ (l : List ToldWheel). AreSums setup totals deck l sums) c.deref-4.ensures.value c.in_ok-sums.ensures)
     c.new-text.ensures.bytes
-    (subst (λ (h : List ℕ). GainsHead h (counts_of deck printed wires) none one) c.heading_of.ensures
-    (subst (λ (n : ℕ). GainsHead c.heading_of.result.now (record { cards = cards; lines = n; wires = length wires }) none one)
-    many c.in_ok-write_head.ensures))
-    (subst (λ (n : ℕ). two ≡ one ++ sheets_part cards (shown cards printed) found n) long
-    (subst (λ (l : List PlacedLine). two ≡ one ++ sheets_part cards l found c.from-form_lines.result) same
-    (subst (λ (f : List FoundLine). two ≡ one ++ sheets_part cards c.shown-lines.result.now f c.from-form_lines.result)
-    c.deref-2.ensures.value c.in_ok-write_sheets_part.ensures)))
-    (subst (λ (l : List ToldWheel). GainsBody cards trace wires legend l two new) c.deref-4.ensures.value
-    (subst (λ (t : List ℕ). GainsBody cards t wires legend c.deref-4.result.now two new) c.deref-3.ensures.value
-    c.in_ok-write_body.ensures))
+    (subst (λ (h : List ℕ). GainsHead h (record { cards = cards; lines = part.lines; wires = length wires }) none one)
+    c.heading_of.ensures c.in_ok-write_head.ensures)
+    (subst (λ (r : ShownRun). two ≡ one ++ sheets_part r.cards around cards placed found setup.tape.lines) run
+    (subst (λ (n : ℕ). two ≡ one ++ sheets_part c.shown_run-run.result.cards around cards placed found n) long
+    (subst (λ (l : List PlacedLine). two ≡ one ++ sheets_part c.shown_run-run.result.cards around cards l found c.from-form_lines.result)
+    c.deref-6.ensures.value
+    (subst (λ (f : List FoundLine).
+    two ≡ one ++ sheets_part c.shown_run-run.result.cards around cards c.deref-6.result.now f c.from-form_lines.result)
+    c.deref-7.ensures.value c.in_ok-write_sheets_part.ensures))))
+    (subst (λ (r : ShownRun). three ≡ two ++ cards_part chart r.cards.first (shown_cards around deck)) run
+    (subst (λ (l : List (List ℕ)). three ≡ two ++ cards_part chart c.shown_run-run.result.cards.first l)
+    c.shown_cards-cards_shown.ensures.value c.in_ok-write_cards_part.ensures))
+    (subst (λ (r : ShownRun). GainsBody chart r (shown_cards around deck) part wires legend totals told sums (map place_of sums) three new) run
+    (subst (λ (l : List SumPlace).
+    GainsBody chart c.shown_run-run.result (shown_cards around deck) part wires legend totals told sums l three new) at_places
+    (subst (λ (l : List PageSum).
+    GainsBody chart c.shown_run-run.result (shown_cards around deck) part wires legend totals told l c.deref-10.result.now three new)
+    c.deref-9.ensures.value
+    (subst (λ (l : List ToldWheel).
+    GainsBody chart c.shown_run-run.result (shown_cards around deck) part wires legend totals l c.deref-9.result.now c.deref-10.result.now
+    three new) c.deref-8.ensures.value
+    (subst (λ (l : List (List ℕ)).
+    GainsBody chart c.shown_run-run.result l part wires legend totals c.deref-8.result.now c.deref-9.result.now c.deref-10.result.now
+    three new) c.shown_cards-cards_shown.ensures.value c.in_ok-write_body.ensures)))))

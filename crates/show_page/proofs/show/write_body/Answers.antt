@@ -1,5 +1,6 @@
-use Rattle.std.proofs.Common.{◌≡◌, ◌++◌}
+use Rattle.std.proofs.Common.{◌≡◌, ◌++◌, subst, ℕ, List}
 use Rattle.std.specs.String.{string_bytes}
+use Rattle.card_sections.specs.Sections.{sections_text}
 use Rattle.markup.proofs.Pieces.{where_ok}
 use Rattle.show_page.specs.Frame.{document_close}
 use Rattle.show_page.specs.Helper.{GainsBody}
@@ -14,13 +15,24 @@ returns c =
     let three = string_bytes c.write_stage_open.new.text in
     let four = string_bytes c.write_begin.new.text in
     let five = string_bytes c.write_told_sections.new.text in
-    let six = string_bytes c.write_wire_sections.new.text in
-    let seven = string_bytes c.write_shown_cycles.new.text in
+    let six = string_bytes c.write_sum_sections.new.text in
+    let seven = string_bytes c.write_card_sections.new.text in
+    let eight = string_bytes c.write_wire_sections.new.text in
+    let nine = string_bytes c.write_shown_cycles.new.text in
     let new = string_bytes c.write_document_close.new.text in
+    let totals = c.args.totals.now in
     let told = c.args.told.now in
-    where_ok (new ≡ seven ++ document_close) (GainsBody c.args.cards c.args.trace.now c.args.wires.now c.args.legend.now told old new)
+    let sums = c.args.sums.now in
+    let places = c.args.places.now in
+    let chart = c.args.chart.now in
+    let cards = c.args.cards.now in
+    let part = c.args.part.now in
+    where_ok (new ≡ nine ++ document_close)
+    (GainsBody chart c.args.run cards part c.args.wires.now c.args.legend.now totals told sums places old new)
     c.write_document_close.result
-    (body_whole c.args.cards c.args.wires.now told c.args.trace.now c.args.legend.now old one two three four five six seven new
-    c.in_ok-write_drawing.ensures c.in_ok-push_str.ensures.bytes c.in_ok-write_stage_open.ensures c.in_ok-write_begin.ensures
-    c.in_ok-write_told_sections.ensures c.in_ok-write_wire_sections.ensures c.in_ok-write_shown_cycles.ensures)
+    (body_whole chart c.args.run cards part c.args.wires.now totals told sums places c.args.legend.now old one two three four
+    five six seven eight nine new c.in_ok-write_drawing.ensures c.in_ok-push_str.ensures.bytes c.in_ok-write_stage_open.ensures
+    c.in_ok-write_begin.ensures c.in_ok-write_told_sections.ensures c.in_ok-write_sum_sections.ensures (subst (λ (t : List ℕ). seven ≡ six ++ sections_text chart c.args.run t sums cards) c.deref.ensures.value
+    c.in_ok-write_card_sections.ensures)
+    c.in_ok-write_wire_sections.ensures c.in_ok-write_shown_cycles.ensures)
     c.write_document_close.ensures

@@ -1,7 +1,6 @@
-use Rattle.std.proofs.Common.{List, ap, get_or, length, subst, sym, ◌+◌, ◌∙◌, ◌≡◌, arith, take, ◌<◌}
+use Rattle.std.proofs.Common.{List, ap, get_or, length, subst, sym, ◌∙◌, ◌≡◌, ◌<◌}
 use Rattle.std.specs.String.{string_bytes}
 use Rattle.charts.specs.declared.chart.Line.{Line}
-use Rattle.markup.specs.Pieces.{GainsEach}
 use Rattle.markup.proofs.Pieces.{each_item, each_none}
 use Rattle.page_sections.specs.ChartPanels.Legends.{IsLegendSection}
 use Rattle.page_sections.proofs.chart_panels.legends.write_legend.Goals as goal

@@ -5,4 +5,4 @@ use Rattle.page_sections.proofs.wheel_sections.sections.write_told_sections.Give
 
 -- the elements so far are written
 abbrev pub invariant-loop-one : goal.invariant-loop-one
-invariant-loop-one l = string_bytes l.text ≡ string_bytes l.initial.text ++ told_sections (take l.one-index l.told)
+invariant-loop-one l = string_bytes l.text ≡ string_bytes l.initial.text ++ told_sections l.shown l.sums l.totals (take l.one-index l.told)

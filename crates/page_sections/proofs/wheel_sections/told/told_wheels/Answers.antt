@@ -1,4 +1,5 @@
 use Rattle.std.proofs.Common.{List, [], arith, subst, sym}
+use Rattle.std.proofs.lemmas.Bool.{false≢true}
 use Rattle.page_sections.specs.WheelSections.Helper.{GainsTold}
 use Rattle.page_sections.specs.declared.wheel_sections.told.ToldWheel.{ToldWheel}
 use Rattle.page_sections.proofs.WheelSections.Gains.{found_is, found_long, lines_more, told_none, told_of_all}
@@ -19,14 +20,13 @@ returns c =
     told_of_all c.args.setup.now c.args.asked.now c.args.cards.now c.args.lines.now c.loop-place.place c.loop-place.told.items
     c.loop-place-test.false c.loop-place.invariant
 
-pub index-requires : goal.index-requires
-index-requires c =
+pub unreachable-requires : goal.unreachable-requires
+unreachable-requires c =
     let less = c.loop-place-test.true in
-    let long = found_long c.args.setup.now c.args.cards.now c.args.lines.now c.in_ok-found.found.items c.in_ok-found.ensures in
-    let ok = c.in_ok-found.found.ok in
-    omega (arith, less, long, ok)
+    let long = found_long c.args.setup.now c.args.cards.now c.args.lines.now c.args.found.now c.requires in
+    false≢true (c.in_default.ensures.lookup.2 (omega (arith, less, long)))
 
 pub push_line-requires : goal.push_line-requires
 push_line-requires c =
-    found_is c.args.setup.now c.args.cards.now c.args.lines.now c.in_ok-found.found.items c.loop-place.place _ c.index.result.now
-    c.in_ok-found.ensures c.loop-place-test.true c.index.ensures
+    found_is c.args.setup.now c.args.cards.now c.args.lines.now c.args.found.now c.loop-place.place _ c.in-Some.one.now
+    c.requires c.loop-place-test.true c.in-Some.ensures.lookup.1

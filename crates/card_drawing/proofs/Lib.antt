@@ -1,0 +1,2 @@
+mod Punched
+pub mod Written

@@ -1,0 +1,54 @@
+-- What the fields of a chart have on a card: a row of a table for each, with its name, its columns and the characters in them.
+use Rattle.std.specs.Prelude.{ℕ, ◌-◌, List, [], ◌++◌, codes, decimal, drop, take}
+use Rattle.std.specs.List.{flat_map}
+use Rattle.charts.specs.Field.{columns_of}
+use Rattle.charts.specs.Name.{name_text}
+use Rattle.charts.specs.declared.chart.Line.{Line}
+use Rattle.charts.specs.declared.statement.Field.{Field}
+use Rattle.charts.specs.declared.statement.Statement.{Statement}
+use Rattle.charts.specs.declared.statement.Statement.TheVariants as says
+use Rattle.card_drawing.specs.Drawings.{characters_of}
+use Rattle.markup.specs.Escapes.{escaped}
+
+-- the characters of a field, of those of a card
+abbrev pub field_characters : (characters : List ℕ) → Field → List ℕ
+field_characters characters field = take (columns_of field) (drop (field.first - 1) characters)
+
+-- a field: its name, which links to the line of the chart, and its columns
+unfoldable pub field_open : (number : ℕ) → List ℕ
+field_open number = codes "<tr><th><a href=\"#line" ++ decimal number ++ codes "\">"
+
+unfoldable pub first_text : ℕ → List ℕ
+first_text first = codes "</a></th><td>columns " ++ decimal first
+
+unfoldable pub last_text : ℕ → List ℕ
+last_text last = codes " to " ++ decimal last ++ codes "</td><td><code>"
+
+abbrev pub columns_text : (first last : ℕ) → List ℕ
+columns_text first last = first_text first ++ last_text last
+
+unfoldable pub named_open : (number : ℕ) → (name : List ℕ) → List ℕ
+named_open number name = field_open number ++ escaped (name_text name)
+
+unfoldable pub field_close : List ℕ
+field_close = codes "</code></td></tr>\n"
+
+unfoldable pub field_text : (characters : List ℕ) → (number : ℕ) → Field → List ℕ
+field_text characters number field =
+    named_open number field.name ++ columns_text field.first field.last
+    ++ escaped (field_characters characters field) ++ field_close
+
+-- the field that a line of the chart names
+abbrev pub field_of : (characters : List ℕ) → (number : ℕ) → Statement → List ℕ
+field_of characters number (says.Field field) = field_text characters number field
+field_of characters number other = []
+
+abbrev pub line_field : (characters : List ℕ) → Line → List ℕ
+line_field characters line = field_of characters line.number line.statement
+
+-- all fields of a chart, on a card
+unfoldable pub fields_text : List Line → (characters : List ℕ) → List ℕ
+fields_text lines characters = codes "<table>\n" ++ flat_map (line_field characters) lines ++ codes "</table>"
+
+unfoldable pub card_fields : List Line → (card : List ℕ) → List ℕ
+card_fields lines card = fields_text lines (characters_of card)

@@ -1,0 +1,4 @@
+pub mod Decks
+pub mod Fields
+pub mod Sections
+pub mod Stations

@@ -1,0 +1,156 @@
+//! What the fields of a chart have on a card.
+
+ghost use Rattle.std.specs.Prelude.{◌≡◌, ◌-◌, ◌++◌, codes, drop, take, OnOk};
+ghost use Rattle.std.specs.List.{flat_map};
+ghost use Rattle.std.specs.String.{string_bytes};
+ghost use Rattle.charts.specs.Field.{columns_of};
+ghost use Rattle.card_sections.specs.Fields.{card_fields, columns_text, field_characters, field_close, field_of, field_open, field_text, fields_text, first_text, last_text, line_field, named_open};
+
+use card_code::Card;
+use card_drawing::characters;
+use charts::{Field, Line, Name, Statement};
+use markup::push_escaped;
+use numerals::{push_between, push_numbered};
+use std::alloc::{AllocError, Global};
+
+// What stands behind so many characters.
+fn behind(characters: &[u8], count: usize) -> &[u8]
+    ensures { result.now ≡ drop count characters.now }
+{
+    if count < characters.len() {
+        &characters[count..]
+    } else {
+        &[]
+    }
+}
+
+// So many characters.
+fn up_to(characters: &[u8], count: usize) -> &[u8]
+    ensures { result.now ≡ take count characters.now }
+{
+    if count < characters.len() {
+        &characters[..count]
+    } else {
+        characters
+    }
+}
+
+// The characters of a field.
+fn field_characters<'a>(characters: &'a [u8], field: &Field) -> &'a [u8]
+    ensures { result.now ≡ field_characters characters.now field.now }
+{
+    up_to(
+        behind(characters, usize::from(field.first.saturating_sub(1))),
+        field.columns() as usize,
+    )
+}
+
+#[tactic(auto, unfolding(crate::specs::Fields::field_open))]
+// The front of a field.
+fn write_open(text: &mut String, number: u16) -> Result<(), AllocError>
+    ensures { OnOk result (string_bytes text.new ≡ string_bytes text.old ++ field_open number) }
+{
+    push_between(text, "<tr><th><a href=\"#line", number, "\">")
+}
+
+#[tactic(auto, unfolding(crate::specs::Fields::named_open))]
+// The front of a field, with its name.
+fn write_name(text: &mut String, number: u16, name: Name) -> Result<(), AllocError>
+    ensures { OnOk result (string_bytes text.new ≡ string_bytes text.old ++ named_open number name) }
+{
+    write_open(text, number)?;
+    push_escaped(text, name.as_bytes())
+}
+
+#[tactic(auto, unfolding(crate::specs::Fields::first_text))]
+// The first column of a field.
+fn write_first(text: &mut String, first: u16) -> Result<(), AllocError>
+    ensures { OnOk result (string_bytes text.new ≡ string_bytes text.old ++ first_text first) }
+{
+    push_numbered(text, "</a></th><td>columns ", first)
+}
+
+#[tactic(auto, unfolding(crate::specs::Fields::last_text))]
+// The last column of a field.
+fn write_last(text: &mut String, last: u16) -> Result<(), AllocError>
+    ensures { OnOk result (string_bytes text.new ≡ string_bytes text.old ++ last_text last) }
+{
+    push_between(text, " to ", last, "</td><td><code>")
+}
+
+// The columns of a field.
+fn write_columns(text: &mut String, first: u16, last: u16) -> Result<(), AllocError>
+    ensures { OnOk result (string_bytes text.new ≡ string_bytes text.old ++ columns_text first last) }
+{
+    write_first(text, first)?;
+    write_last(text, last)
+}
+
+#[tactic(auto, unfolding(crate::specs::Fields::field_close))]
+// What stands behind the characters of a field.
+fn write_field_close(text: &mut String) -> Result<(), AllocError>
+    ensures { OnOk result (string_bytes text.new ≡ string_bytes text.old ++ field_close) }
+{
+    text.push_str("</code></td></tr>\n")
+}
+
+#[tactic(auto, unfolding(crate::specs::Fields::field_text))]
+// A field, by the number of its line.
+fn write_field(
+    text: &mut String,
+    characters: &[u8],
+    number: u16,
+    field: &Field,
+) -> Result<(), AllocError>
+    ensures { OnOk result (string_bytes text.new ≡ string_bytes text.old ++ field_text characters.now number field.now) }
+{
+    write_name(text, number, field.name)?;
+    write_columns(text, field.first, field.last)?;
+    push_escaped(text, field_characters(characters, field))?;
+    write_field_close(text)
+}
+
+// The field that a line of the chart names.
+fn write_line_field(text: &mut String, characters: &[u8], line: &Line) -> Result<(), AllocError>
+    ensures { OnOk result (string_bytes text.new ≡ string_bytes text.old ++ line_field characters.now line.now) }
+{
+    match &line.statement {
+        Statement::Field(field) => write_field(text, characters, line.number, field),
+        _ => Ok(()),
+    }
+}
+
+#[tactic(auto, using(markup::proofs::Pieces::one_more))]
+// The fields of some lines.
+fn write_line_fields(text: &mut String, characters: &[u8], lines: &[Line]) -> Result<(), AllocError>
+    ensures { OnOk result (string_bytes text.new ≡ string_bytes text.old ++ flat_map (line_field characters.now) lines.now) }
+{
+    for line in lines {
+        write_line_field(text, characters, line)?;
+    }
+    Ok(())
+}
+
+#[tactic(auto, unfolding(crate::specs::Fields::fields_text))]
+// All fields, by the characters of a card.
+fn write_fields(text: &mut String, lines: &[Line], characters: &[u8]) -> Result<(), AllocError>
+    ensures { OnOk result (string_bytes text.new ≡ string_bytes text.old ++ fields_text lines.now characters.now) }
+{
+    text.push_str("<table>\n")?;
+    write_line_fields(text, characters, lines)?;
+    text.push_str("</table>")
+}
+
+#[tactic(auto, unfolding(crate::specs::Fields::card_fields))]
+// What the fields have on a card.
+pub(crate) fn write_card_fields(
+    alloc: Global,
+    text: &mut String,
+    lines: &[Line],
+    card: &Card,
+) -> Result<(), AllocError>
+    ensures { OnOk result (string_bytes text.new ≡ string_bytes text.old ++ card_fields lines.now card.now) }
+{
+    let characters = characters(alloc, card)?;
+    write_fields(text, lines, &characters)
+}

@@ -1,0 +1,171 @@
+//! What became of a card in the run: in which cycles it stood at the reading stations, and into which sums it went.
+
+ghost use Rattle.std.specs.Prelude.{◌≡◌, ◌≤◌, ◌++◌, codes, length, OnOk};
+ghost use Rattle.std.specs.String.{string_bytes};
+ghost use Rattle.card_code.specs.Lines.{lines_of};
+ghost use Rattle.card_sections.specs.Stations.{begins_with, card_run, card_stations, cycle_text, first_open, first_reading, first_text, left_behind, nth_line, second_open, second_reading, second_text, stations_text, sums_text};
+
+use card_code::next_line;
+use page_links::{Shown, write_cycle_word};
+use std::alloc::AllocError;
+use sum_sections::{PageSum, write_card_sums};
+
+// Whether a line begins with a letter.
+fn begins_with(letter: u8, line: &[u8]) -> bool
+    ensures { result ≡ begins_with letter line.now }
+{
+    match line.first() {
+        Some(first) => *first == letter,
+        None => false,
+    }
+}
+
+// How many lines with a letter are left to pass, behind a line that has it or not.
+fn left_behind(has_it: bool, left: usize) -> usize
+    ensures { result ≡ left_behind has_it left }
+{
+    if has_it { left.saturating_sub(1) } else { left }
+}
+
+// The number of a line of a trace, from 1, of those that begin with a letter; 0 where there are not so many.
+fn nth_line(letter: u8, nth: usize, trace: &[u8]) -> usize
+    ensures { result ≡ nth_line letter nth 1 (lines_of trace.now) }
+{
+    let mut left = nth;
+    let mut number: usize = 1;
+    let mut rest = trace;
+    while let Some((line, after)) = next_line(rest) {
+        let has_it = begins_with(letter, line);
+        if has_it && left == 1 {
+            return number;
+        }
+        left = left_behind(has_it, left);
+        number += 1;
+        rest = after;
+    }
+    0
+}
+
+#[tactic(auto, unfolding(crate::specs::Stations::second_reading))]
+// In which cycle a card stood at second reading.
+fn second_reading(card: usize, trace: &[u8]) -> usize
+    ensures { result ≡ second_reading card trace.now }
+{
+    nth_line(b'C', card, trace)
+}
+
+#[tactic(auto, unfolding(crate::specs::Stations::first_reading))]
+// In which cycle a card stood at first reading.
+fn first_reading(card: usize, trace: &[u8]) -> usize
+    ensures { result ≡ first_reading card trace.now }
+{
+    if card == 1 {
+        nth_line(b'R', 1, trace)
+    } else {
+        nth_line(b'C', card.saturating_sub(1), trace)
+    }
+}
+
+// A cycle, as a link if it is shown; 0 is one that isn't shown.
+fn write_cycle(text: &mut String, shown: Shown, cycle: usize) -> Result<(), AllocError>
+    ensures { OnOk result (string_bytes text.new ≡ string_bytes text.old ++ cycle_text shown cycle) }
+{
+    if cycle == 0 {
+        text.push_str("a cycle that isn't shown")
+    } else {
+        write_cycle_word(text, shown, cycle)
+    }
+}
+
+#[tactic(auto, unfolding(crate::specs::Stations::first_open))]
+// What stands before the first cycle.
+fn write_first_open(text: &mut String) -> Result<(), AllocError>
+    ensures { OnOk result (string_bytes text.new ≡ string_bytes text.old ++ first_open) }
+{
+    text.push_str("<p>The card stood at first reading in ")
+}
+
+#[tactic(auto, unfolding(crate::specs::Stations::first_text))]
+// The cycle in which a card stood at first reading.
+fn write_first(text: &mut String, shown: Shown, first: usize) -> Result<(), AllocError>
+    ensures { OnOk result (string_bytes text.new ≡ string_bytes text.old ++ first_text shown first) }
+{
+    write_first_open(text)?;
+    write_cycle(text, shown, first)
+}
+
+#[tactic(auto, unfolding(crate::specs::Stations::second_open))]
+// What stands before the second cycle.
+fn write_second_open(text: &mut String) -> Result<(), AllocError>
+    ensures { OnOk result (string_bytes text.new ≡ string_bytes text.old ++ second_open) }
+{
+    text.push_str(", and at second reading in ")
+}
+
+#[tactic(auto, unfolding(crate::specs::Stations::second_text))]
+// The cycle in which a card stood at second reading.
+fn write_second(text: &mut String, shown: Shown, second: usize) -> Result<(), AllocError>
+    ensures { OnOk result (string_bytes text.new ≡ string_bytes text.old ++ second_text shown second) }
+{
+    write_second_open(text)?;
+    write_cycle(text, shown, second)?;
+    text.push_str(".</p>\n")
+}
+
+#[tactic(auto, unfolding(crate::specs::Stations::stations_text))]
+// Both cycles.
+fn write_both(
+    text: &mut String,
+    shown: Shown,
+    first: usize,
+    second: usize,
+) -> Result<(), AllocError>
+    ensures { OnOk result (string_bytes text.new ≡ string_bytes text.old ++ stations_text shown first second) }
+{
+    write_first(text, shown, first)?;
+    write_second(text, shown, second)
+}
+
+#[tactic(auto, unfolding(crate::specs::Stations::card_stations))]
+// In which cycles a card stood at the reading stations.
+fn write_stations(
+    text: &mut String,
+    shown: Shown,
+    card: usize,
+    trace: &[u8],
+) -> Result<(), AllocError>
+    ensures { OnOk result (string_bytes text.new ≡ string_bytes text.old ++ card_stations shown card trace.now) }
+{
+    write_both(
+        text,
+        shown,
+        first_reading(card, trace),
+        second_reading(card, trace),
+    )
+}
+
+// Into which sums a card went, by its cycle at second reading.
+fn write_sums(text: &mut String, sums: &[PageSum], second: usize) -> Result<(), AllocError>
+    ensures { OnOk result (string_bytes text.new ≡ string_bytes text.old ++ sums_text sums.now second) }
+{
+    if second == 0 {
+        Ok(())
+    } else {
+        write_card_sums(text, sums, second as u64 - 1)
+    }
+}
+
+#[tactic(auto, unfolding(crate::specs::Stations::card_run))]
+// What became of a card in the run.
+pub(crate) fn write_run(
+    text: &mut String,
+    shown: Shown,
+    trace: &[u8],
+    sums: &[PageSum],
+    card: usize,
+) -> Result<(), AllocError>
+    ensures { OnOk result (string_bytes text.new ≡ string_bytes text.old ++ card_run shown trace.now sums.now card) }
+{
+    write_stations(text, shown, card, trace)?;
+    write_sums(text, sums, second_reading(card, trace))
+}

@@ -1,0 +1,22 @@
+use Rattle.std.proofs.Common.{sym, subst, List, take}
+use Rattle.std.specs.String.{string_bytes}
+use Rattle.std.proofs.lemmas.List.{take_all}
+use Rattle.explanations.specs.declared.found.FoundLine.{FoundLine}
+use Rattle.markup.specs.Pieces.{GainsEach}
+use Rattle.markup.proofs.Pieces.{each_item, each_none}
+use Rattle.cycle_steps.specs.Steps.{IsStepSection}
+use Rattle.cycle_steps.proofs.steps.write_step_sections.Goals as goal
+
+pub loop-one-init : goal.loop-one-init
+loop-one-init c = each_none (IsStepSection c.args.setup.now c.args.wires.now) (string_bytes c.args.text.now)
+
+pub loop-one-preserved : goal.loop-one-preserved
+loop-one-preserved c =
+    each_item (IsStepSection c.args.setup.now c.args.wires.now) c.args.found.now c.loop-one.one-index c.one-item.result
+    (string_bytes c.args.text.now) (string_bytes c.loop-one.text) (string_bytes c.write_section.new.text) c.loop-one-test.true
+    (sym c.one-item.is) c.loop-one.invariant (c.in_ok-write_section.ensures c.args.setup.now c.in_ok-net.ensures)
+
+pub returns : goal.returns
+returns c =
+    subst (λ (l : List FoundLine). GainsEach (IsStepSection c.args.setup.now c.args.wires.now) l (string_bytes c.args.text.now)
+    (string_bytes c.loop-one.text)) (take_all c.loop-one.one-index c.args.found.now c.loop-one-test.false) c.loop-one.invariant

@@ -1,0 +1,13 @@
+//! Links on the page of a run to what has an element there.
+//!
+//! A page shows some of the cards of a deck and some of the cycles of its run: [`ShownRun`] tells which. [`write_card_word`] and
+//! [`write_cycle_word`] name a card and a cycle, as a link if it is one of them. `specs/Links.antt` says what is written.
+#![tactic(auto)]
+
+mod links;
+mod shown;
+
+pub use links::{
+    write_card_link, write_card_name, write_card_open, write_card_word, write_cycle_word,
+};
+pub use shown::{Shown, ShownRun};

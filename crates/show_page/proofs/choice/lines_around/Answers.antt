@@ -1,0 +1,7 @@
+use Rattle.std.proofs.Common.{◌∙◌, subst, Some, ℕ, List}
+use Rattle.shown_lines.specs.Shown.{AreShown}
+use Rattle.show_page.proofs.choice.lines_around.Goals as goal
+
+pub returns : goal.returns
+returns c =
+    rw (← c.in_ok-pages.ensures, ← c.deref.ensures.value) c.lines_on_pages.ensures

@@ -1,0 +1,21 @@
+use Rattle.std.proofs.Common.{◌≡◌, ◌∙◌, ap, ℕ, List, ◌++◌, codes}
+use Rattle.std.specs.String.{string_bytes}
+use Rattle.ledger_text.specs.Entries.{gap_line}
+use Rattle.markup.specs.Escapes.{escaped}
+use Rattle.markup.proofs.Pieces.{pushed, where_ok}
+use Rattle.sum_sections.proofs.Framed.{three}
+use Rattle.wheel_ledgers.specs.Told.{words_told}
+use Rattle.sum_sections.specs.Rows.{gap_row}
+use Rattle.sum_sections.proofs.rows.write_gap_row.Goals as goal
+
+pub returns : goal.returns
+unfolding gap_row
+returns c =
+    let old = string_bytes c.args.text.now in
+    let one = string_bytes c.push_str.new.self in
+    let two = string_bytes c.push_escaped.new.text in
+    let new = string_bytes c.push_str-2.new.self in
+    where_ok (new ≡ two ++ codes "</td></tr>\n") (new ≡ old ++ gap_row c.args.total.now c.args.left_out) c.push_str-2.result
+    (three old one two new (codes "<tr><td colspan=\"3\">") (escaped (gap_line (words_told c.args.total.now) c.args.left_out)) (codes "</td></tr>\n") c.in_ok-push_str.ensures.bytes
+    (c.in_ok-push_escaped.ensures ∙ ap (λ (l : List ℕ). one ++ escaped l) (c.deref.ensures.value ∙ c.in_ok-words.ensures)))
+    (pushed c.push_str-2.result new (two ++ codes "</td></tr>\n") two c.push_str-2.ensures.bytes)

@@ -1,0 +1,20 @@
+use Rattle.std.proofs.Common.{◌≡◌, ◌∙◌, ap, ℕ, List, ◌++◌, codes}
+use Rattle.std.specs.List.{flat_map}
+use Rattle.std.specs.String.{string_bytes}
+use Rattle.ledgers.specs.declared.entry.Entry.{Entry}
+use Rattle.markup.proofs.Pieces.{and_more, where_ok}
+use Rattle.sum_sections.specs.Rows.{row_text, table_front}
+use Rattle.sum_sections.proofs.rows.write_table_front.Goals as goal
+
+pub returns : goal.returns
+unfolding table_front
+returns c =
+    let old = string_bytes c.args.text.now in
+    let one = string_bytes c.push_str.new.self in
+    let new = string_bytes c.write_rows.new.text in
+    let word = row_text c.args.shown c.args.sums.now c.args.sum.now in
+    where_ok (new ≡ one ++ flat_map word c.first.result.now) (new ≡ old ++ table_front c.args.shown c.args.sums.now c.args.sum.now)
+    c.write_rows.result
+    (λ written. and_more old one new (codes "<table class=\"sum\">\n") (flat_map word c.args.sum.now.ledger.first)
+    c.in_ok-push_str.ensures.bytes (written ∙ ap (λ (l : List Entry). one ++ flat_map word l) c.first.ensures))
+    c.write_rows.ensures

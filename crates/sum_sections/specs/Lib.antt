@@ -1,0 +1,6 @@
+pub mod Sums
+pub mod Targets
+pub mod Labels
+pub mod Rows
+pub mod Into
+pub mod Sections

@@ -1,0 +1,57 @@
+//! What a sum is called.
+
+ghost use Rattle.std.specs.Prelude.{◌≡◌, ◌++◌, codes, OnOk};
+ghost use Rattle.std.specs.String.{string_bytes};
+ghost use Rattle.sum_sections.specs.Labels.{figure_of, group_name, label_text, sum_name_text};
+
+use crate::sums::PageSum;
+use hubs::Group;
+use ledger_text::figure_at;
+use markup::push_escaped;
+use numerals::push_numbered;
+use std::alloc::AllocError;
+use wheel_ledgers::TitledAccount;
+
+// The figure on a wheel of a line; none if the wheel isn't one of 1 to 120.
+fn figure_of(line: &[u8; 120], wheel: u8) -> &[u8]
+    ensures { result.now ≡ figure_of line.now wheel }
+{
+    if 1 <= wheel && wheel <= 120 {
+        figure_at(line, wheel as usize)
+    } else {
+        &[]
+    }
+}
+
+#[tactic(auto, unfolding(crate::specs::Labels::group_name))]
+// The name of a counter group.
+fn write_group_name(text: &mut String, group: Group) -> Result<(), AllocError>
+    ensures { OnOk result (string_bytes text.new ≡ string_bytes text.old ++ group_name group) }
+{
+    push_numbered(text, "counter ", group.width)?;
+    push_numbered(text, ".", group.number)
+}
+
+// The name of a sum: that of its amount, or else of its counter group.
+fn write_sum_name_text(
+    text: &mut String,
+    total: &Option<TitledAccount>,
+    group: Group,
+) -> Result<(), AllocError>
+    ensures { OnOk result (string_bytes text.new ≡ string_bytes text.old ++ sum_name_text total.now group) }
+{
+    match total {
+        Some(total) => push_escaped(text, total.title.name.as_bytes()),
+        None => write_group_name(text, group),
+    }
+}
+
+#[tactic(auto, unfolding(crate::specs::Labels::label_text))]
+// What a sum is called: its name, and the figure that was printed.
+pub(crate) fn write_label(text: &mut String, sum: &PageSum) -> Result<(), AllocError>
+    ensures { OnOk result (string_bytes text.new ≡ string_bytes text.old ++ label_text sum.now) }
+{
+    write_sum_name_text(text, &sum.total, sum.at.group)?;
+    text.push_str(" ")?;
+    push_escaped(text, figure_of(&sum.found.line.text, sum.at.wheel))
+}

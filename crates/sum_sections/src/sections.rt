@@ -1,0 +1,179 @@
+//! The elements of sums.
+
+ghost use Rattle.std.specs.Prelude.{◌≡◌, ◌++◌, codes, IfOk, OnOk};
+ghost use Rattle.std.specs.List.{flat_map};
+ghost use Rattle.std.specs.String.{string_bytes};
+ghost use Rattle.ledger_text.specs.Names.{cycle_text};
+ghost use Rattle.sum_sections.specs.Sections.{back_text, before_text, behind_text, first_sum, front_text, head_text, open_text, section_text, sum_sections_text, sum_entry, sum_words, why_some, why_text};
+
+use crate::into::write_higher_sums;
+use crate::labels::write_label;
+use crate::rows::write_table;
+use crate::sums::PageSum;
+use ledger_text::write_cycle;
+use ledgers::FoundCycle;
+use markup::push_escaped;
+use page_links::Shown;
+use page_sections::report_sheets::write_row_name;
+use std::alloc::{AllocError, Global};
+use sum_places::{write_sum_name, write_sum_open};
+
+#[tactic(auto, unfolding(crate::specs::Sections::open_text))]
+// The front of an element, with its name.
+fn write_open(text: &mut String, sum: &PageSum) -> Result<(), AllocError>
+    ensures { OnOk result (string_bytes text.new ≡ string_bytes text.old ++ open_text sum.now) }
+{
+    text.push_str("<section id=\"")?;
+    write_sum_name(text, sum.at)?;
+    text.push_str("\">")
+}
+
+#[tactic(auto, unfolding(crate::specs::Sections::back_text))]
+// The link to the row of the figure.
+fn write_back(text: &mut String, sum: &PageSum) -> Result<(), AllocError>
+    ensures { OnOk result (string_bytes text.new ≡ string_bytes text.old ++ back_text sum.now) }
+{
+    text.push_str("<a href=\"#")?;
+    write_row_name(text, sum.at.page, sum.at.line)?;
+    text.push_str("\">back</a>\n<h2>")
+}
+
+// The name of the cycle that printed the figure.
+fn cycle_of(alloc: Global, found: FoundCycle) -> Result<Vec<u8>, AllocError>
+    ensures { IfOk result (λ words. words.items ≡ cycle_text found.cycle found.card) }
+{
+    let mut words = Vec::new(alloc);
+    match write_cycle(&mut words, found.cycle, found.card) {
+        Ok(()) => Ok(words),
+        Err(_) => Err(AllocError),
+    }
+}
+
+#[tactic(auto, unfolding(crate::specs::Sections::before_text))]
+// Which counter it is, and before which cycle.
+fn write_before(alloc: Global, text: &mut String, sum: &PageSum) -> Result<(), AllocError>
+    ensures { OnOk result (string_bytes text.new ≡ string_bytes text.old ++ before_text sum.now) }
+{
+    let cycle = cycle_of(alloc, sum.found)?;
+    text.push_str("</h2>\n<p>Counter ")?;
+    push_escaped(text, &sum.groups)?;
+    text.push_str(" before ")?;
+    push_escaped(text, &cycle)?;
+    text.push_str(":</p>\n")
+}
+
+#[tactic(auto, unfolding(crate::specs::Sections::head_text))]
+// What a sum is called.
+fn write_head(text: &mut String, sum: &PageSum) -> Result<(), AllocError>
+    ensures { OnOk result (string_bytes text.new ≡ string_bytes text.old ++ head_text sum.now) }
+{
+    write_open(text, sum)?;
+    write_back(text, sum)?;
+    write_label(text, sum)
+}
+
+#[tactic(auto, unfolding(crate::specs::Sections::front_text))]
+// What stands before the rows.
+fn write_front(alloc: Global, text: &mut String, sum: &PageSum) -> Result<(), AllocError>
+    ensures { OnOk result (string_bytes text.new ≡ string_bytes text.old ++ front_text sum.now) }
+{
+    write_head(text, sum)?;
+    write_before(alloc, text, sum)
+}
+
+#[tactic(auto, unfolding(crate::specs::Sections::why_some))]
+// Why the cycle ran that printed the figure.
+fn write_why_some(text: &mut String, why: &[u8]) -> Result<(), AllocError>
+    ensures { OnOk result (string_bytes text.new ≡ string_bytes text.old ++ why_some why.now) }
+{
+    text.push_str("<p>Why it was printed then:</p>\n<pre>")?;
+    push_escaped(text, why)?;
+    text.push_str("</pre>\n")
+}
+
+// The same, if it is told.
+fn write_why(text: &mut String, why: &[u8]) -> Result<(), AllocError>
+    ensures { OnOk result (string_bytes text.new ≡ string_bytes text.old ++ why_text why.now) }
+{
+    if why.is_empty() {
+        Ok(())
+    } else {
+        write_why_some(text, why)
+    }
+}
+
+#[tactic(auto, unfolding(crate::specs::Sections::behind_text))]
+// What stands behind the rows: into which sums it went, and why it was printed then.
+fn write_behind(text: &mut String, sums: &[PageSum], sum: &PageSum) -> Result<(), AllocError>
+    ensures { OnOk result (string_bytes text.new ≡ string_bytes text.old ++ behind_text sums.now sum.now) }
+{
+    write_higher_sums(text, sums, sum)?;
+    write_why(text, &sum.why)?;
+    text.push_str("</section>\n")
+}
+
+#[tactic(auto, unfolding(crate::specs::Sections::section_text))]
+// The element of a sum.
+fn write_section(
+    alloc: Global,
+    text: &mut String,
+    shown: Shown,
+    sums: &[PageSum],
+    sum: &PageSum,
+) -> Result<(), AllocError>
+    ensures { OnOk result (string_bytes text.new ≡ string_bytes text.old ++ section_text shown sums.now sum.now) }
+{
+    write_front(alloc, text, sum)?;
+    write_table(alloc, text, shown, sums, sum)?;
+    write_behind(text, sums, sum)
+}
+
+#[tactic(auto, using(markup::proofs::Pieces::one_more))]
+/// Writes the elements of the sums of a page: what each is called, its counter, a row for each cycle in which something was added or
+/// subtracted, into which higher sums it went, and why it was printed then. Rows link to the cards that are shown, and to the lower totals among the sums.
+///
+/// Fails only if no memory is left; a front of the elements may then have been written.
+pub fn write_sum_sections(
+    alloc: Global,
+    text: &mut String,
+    shown: Shown,
+    sums: &[PageSum],
+) -> Result<(), AllocError>
+    ensures { OnOk result (string_bytes text.new ≡ string_bytes text.old ++ sum_sections_text shown sums.now) }
+{
+    for sum in sums {
+        write_section(alloc, text, shown, sums, sum)?;
+    }
+    Ok(())
+}
+
+#[tactic(auto, unfolding(crate::specs::Sections::sum_words))]
+// The words of a link to a sum.
+fn write_words(text: &mut String) -> Result<(), AllocError>
+    ensures { OnOk result (string_bytes text.new ≡ string_bytes text.old ++ sum_words) }
+{
+    text.push_str(
+        "A sum</a>: the cards or lower totals that made it, and what the counter held after each</li>\n",
+    )
+}
+
+#[tactic(auto, unfolding(crate::specs::Sections::sum_entry))]
+// An entry of a list that links to a sum.
+fn write_entry(text: &mut String, sum: &PageSum) -> Result<(), AllocError>
+    ensures { OnOk result (string_bytes text.new ≡ string_bytes text.old ++ sum_entry sum.now) }
+{
+    text.push_str("<li>")?;
+    write_sum_open(text, sum.at)?;
+    write_words(text)
+}
+
+/// Writes an entry of a list that links to the first of some sums, if there is one. Fails only if no memory is left; a front of it may then
+/// have been written.
+pub fn write_first_sum(text: &mut String, sums: &[PageSum]) -> Result<(), AllocError>
+    ensures { OnOk result (string_bytes text.new ≡ string_bytes text.old ++ first_sum sums.now) }
+{
+    match sums.first() {
+        Some(sum) => write_entry(text, sum),
+        None => Ok(()),
+    }
+}
