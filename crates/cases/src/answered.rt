@@ -6,7 +6,7 @@ ghost use Rattle.card_code.specs.CardCode.{rows_of};
 use anyhow::Result;
 use browser_pages::show_to_end;
 use chart_calls::chart_to_end;
-use check_calls::{check_deck_to_end, show_deck_to_end};
+use check_calls::{check_deck_to_end, check_groups_to_end, show_deck_to_end};
 use commands::{replay_by_orders, serve};
 use decks_in_row::DecksInRow;
 use devices::limited::LimitedReader;
@@ -165,6 +165,21 @@ impl Served {
         served
     }
 
+    /// The check of a chart and a deck, and the control keys that come back.
+    pub fn check_groups<R: Read + Drop>(alloc: Global, chart: &[u8], deck: R) -> Served {
+        let mut served = Served::new(alloc);
+        served.status = check_groups_to_end(
+            alloc,
+            chart,
+            "my.deck",
+            deck,
+            &mut served.output,
+            &mut served.told,
+        )
+        .status;
+        served
+    }
+
     /// Every fault of a chart, or, if it has none, the bad cards of a deck, each shown.
     pub fn show_deck<R: Read + Drop>(alloc: Global, chart: &[u8], deck: R) -> Served {
         let listed = Served::list_faults(alloc, chart);
@@ -229,14 +244,20 @@ impl Served {
         served
     }
 
-    /// The page for a browser.
-    pub fn show<R: Read + Drop>(alloc: Global, text: &[u8], deck: R) -> Served {
+    /// The page for a browser, around a page of the report or none.
+    pub fn show<R: Read + Drop>(
+        alloc: Global,
+        text: &[u8],
+        deck: R,
+        around: Option<u32>,
+    ) -> Served {
         let mut served = Served::new(alloc);
         served.status = show_to_end(
             alloc,
             text,
             "my.deck",
             deck,
+            around,
             &mut served.output,
             &mut served.told,
         )

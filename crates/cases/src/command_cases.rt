@@ -7,9 +7,9 @@
 //! in place of a wiring chart; `(unreadable)` and `(1000000 blank cards)` in place of a deck; and last of all `(unwritable)`, where the
 //! output can't be written.
 //! A command `replay --orders` has its orders behind it, given as a text is; `fault` has its number behind it, `fields` that of the card, and
-//! `explain`, `ledger` and `ledger --all` the page, the line and the wheel.
-//! A `check deck` checks the deck too, where `check` leaves it alone, a `check all` tells every fault of the chart, and a `check all deck` shows
-//! the bad cards of the deck if there is none.
+//! `explain`, `explain --whole`, `ledger` and `ledger --all` the page, the line and the wheel.
+//! A `check deck` checks the deck too, where `check` leaves it alone, a `check groups` also tells the control keys that come back, a `check all`
+//! tells every fault of the chart, and a `check all deck` shows the bad cards of the deck if there is none.
 //! Behind `run pages` stand the first and the last page that are printed.
 //! A `run decks` has its decks in a row, divided by `~`, and `fold` its character behind it, or nothing for a blank.
 //! The rows of `show` are refused; its pages stand in `shown_cases`.
@@ -169,8 +169,11 @@ fn told_at(command: &str) -> Option<(Question, Place)> {
     if let Some(place) = command.strip_prefix("ledger --all ").and_then(place_of) {
         return Some((Question::Ledger { all: true }, place));
     }
+    if let Some(place) = command.strip_prefix("explain --whole ").and_then(place_of) {
+        return Some((Question::Explanation { whole: true }, place));
+    }
     let place = command.strip_prefix("explain ").and_then(place_of)?;
-    Some((Question::Explanation, place))
+    Some((Question::Explanation { whole: false }, place))
 }
 
 // What a replay by orders gives.
@@ -247,8 +250,9 @@ fn answer<R: Read + Drop>(rt: &HostRuntime, command: &str, text: &[u8], deck: R)
         "trace" => Ok(Served::trace(alloc, text, deck)),
         "check all" => Ok(Served::list_faults(alloc, text)),
         "check deck" => Ok(Served::check_deck(alloc, text, deck)),
+        "check groups" => Ok(Served::check_groups(alloc, text, deck)),
         "check all deck" => Ok(Served::show_deck(alloc, text, deck)),
-        "show" => Ok(Served::show(alloc, text, deck)),
+        "show" => Ok(Served::show(alloc, text, deck, None)),
         _ => worded(rt, command, text, deck),
     }
 }

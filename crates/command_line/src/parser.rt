@@ -156,6 +156,13 @@ const PAGES: Word = Word::Value {
     help: "prints page N alone, or pages N to M by N-M, once the whole deck has run",
 };
 
+const AROUND: Word = Word::Value {
+    name: "AROUND",
+    long: "page",
+    value: "N",
+    help: "shows page N, the one before it and the one behind it, with the cycles from the card of their first line to that of their last one",
+};
+
 const CHECK_FIRST: Word = Word::Flag {
     name: "CHECK_FIRST",
     long: "check-first",
@@ -204,6 +211,12 @@ const FAULT: Word = Word::Number {
     size: Size::U8,
 };
 
+const WHOLE: Word = Word::Flag {
+    name: "WHOLE",
+    long: "whole",
+    help: "tells sums down to the holes of cards",
+};
+
 const ALL: Word = Word::Flag {
     name: "ALL",
     long: "all",
@@ -213,7 +226,13 @@ const ALL: Word = Word::Flag {
 const ALL_FAULTS: Word = Word::Flag {
     name: "ALL",
     long: "all",
-    help: "tells every fault of the planning chart by its line, and not only the first; if it has none, the bad cards of the deck are shown",
+    help: "tells every fault of the chart by its line, and not only the first; the chart may be a wiring chart; if it has none, the bad cards of the deck are shown",
+};
+
+const GROUPS: Word = Word::Flag {
+    name: "GROUPS",
+    long: "groups",
+    help: "tells the control keys that come back in the deck, which then isn't sorted by its control fields; each with its cards",
 };
 
 /// The commands in the order of the help.
@@ -226,7 +245,7 @@ pub(crate) static COMMANDS: &[CommandRow] = &[
     CommandRow {
         name: "check",
         about: "Checks a planning chart, and all cards of a deck",
-        words: &[ALL_FAULTS, CHART, DECK_TOO],
+        words: &[ALL_FAULTS, GROUPS, CHART, DECK_TOO],
     },
     CommandRow {
         name: "layout",
@@ -271,7 +290,7 @@ pub(crate) static COMMANDS: &[CommandRow] = &[
     CommandRow {
         name: "explain",
         about: "Prints why a wheel of a printed line printed its character",
-        words: &[TEXT, DECK, PAGE, LINE, WHEEL],
+        words: &[WHOLE, TEXT, DECK, PAGE, LINE, WHEEL],
     },
     CommandRow {
         name: "ledger",
@@ -286,7 +305,7 @@ pub(crate) static COMMANDS: &[CommandRow] = &[
     CommandRow {
         name: "show",
         about: "Prints one page for a browser: the pages of a deck, the panel and one way of each impulse",
-        words: &[OUTPUT, TEXT, DECK],
+        words: &[AROUND, OUTPUT, TEXT, DECK],
     },
     CommandRow {
         name: "fold",

@@ -53,6 +53,11 @@ pub enum Wanted<'a> {
         chart: &'a str,
         deck: &'a str,
     },
+    /// All cards of a deck that a planning chart can't be run with, or, if there is none, the control keys that come back.
+    GroupDeck {
+        chart: &'a str,
+        deck: &'a str,
+    },
     /// The lines of a planning chart's report, drawn.
     Layout {
         chart: &'a str,
@@ -110,6 +115,8 @@ pub enum Wanted<'a> {
         page: u64,
         line: u32,
         wheel: u32,
+        /// Whether ledgers are told down to the holes of cards.
+        whole: bool,
     },
     /// The sum behind the figure on a wheel of a line that is printed of a deck, by a planning chart or a wiring chart; of a long one all
     /// entries or only some.
@@ -130,6 +137,8 @@ pub enum Wanted<'a> {
     Show {
         text: &'a str,
         deck: &'a str,
+        /// The page of the report around which pages are shown, from 1.
+        around: Option<u32>,
         /// The file that is written in place of standard output.
         output: Option<&'a str>,
     },
@@ -218,8 +227,14 @@ enum Mistake {
     InputTwice,
     /// The pages are neither a number from 1 nor two with a hyphen between them, the lower first.
     NoPages,
+    /// The page to be shown is no number from 1.
+    NoPage,
     /// A deck is named where a hint is to be told.
     HintOfDeck,
+    /// Keys that come back are asked for, and no deck is named.
+    GroupsOfNone,
+    /// Keys that come back are asked for, and every fault too.
+    GroupsOfAll,
     /// Memory ran out.
     Memory,
 }
@@ -236,7 +251,10 @@ impl Mistake {
         match self {
             Mistake::InputTwice => "error: - is standard input, and stands for one file at most\n",
             Mistake::NoPages => "error: --page takes the number of a page, or two as 3-5\n",
+            Mistake::NoPage => "error: --page of show takes the number of a page\n",
             Mistake::HintOfDeck => "error: --hint and --deck can't be asked for together\n",
+            Mistake::GroupsOfNone => "error: --groups takes a deck too\n",
+            Mistake::GroupsOfAll => "error: --groups and --all can't be asked for together\n",
             Mistake::Memory => "error: out of memory\n",
         }
     }
@@ -272,6 +290,12 @@ fn pages_of(word: &str) -> Option<Pages> {
     Some(pages)
 }
 
+// The page that a word names.
+fn page_of(word: &str) -> Option<u32> {
+    let page: u32 = word.parse().ok()?;
+    if page < 1 { None } else { Some(page) }
+}
+
 // What is asked for by the words of a run.
 fn run_wanted<'a>(alloc: Global, given: &ArgMatches<'a>) -> Result<Wanted<'a>, Mistake> {
     let mut decks = Vec::new(alloc);
@@ -291,15 +315,33 @@ fn run_wanted<'a>(alloc: Global, given: &ArgMatches<'a>) -> Result<Wanted<'a>, M
     }))
 }
 
-// What is asked for by the words of a check, with a deck or without, or of every fault.
-fn check_wanted<'a>(given: &ArgMatches<'a>) -> Wanted<'a> {
+// What is asked for by the words that show a deck.
+fn show_wanted<'a>(given: &ArgMatches<'a>) -> Result<Wanted<'a>, Mistake> {
+    let around = match given.get_str("AROUND") {
+        Some(word) => Some(page_of(word).ok_or(Mistake::NoPage)?),
+        None => None,
+    };
+    Ok(Wanted::Show {
+        text: file_of(given, "TEXT"),
+        deck: file_of(given, "DECK"),
+        around,
+        output: given.get_str("OUTPUT"),
+    })
+}
+
+// What is asked for by the words of a check, with a deck or without, of every fault or of the keys that come back.
+fn check_wanted<'a>(given: &ArgMatches<'a>) -> Result<Wanted<'a>, Mistake> {
     let chart = file_of(given, "CHART");
     let all = given.get_flag("ALL");
+    let groups = given.get_flag("GROUPS");
     match given.get_str("DECK") {
-        Some(deck) if all => Wanted::ShowDeck { chart, deck },
-        Some(deck) => Wanted::CheckDeck { chart, deck },
-        None if all => Wanted::ListFaults { chart },
-        None => Wanted::Check { chart },
+        Some(_) if all && groups => Err(Mistake::GroupsOfAll),
+        Some(deck) if all => Ok(Wanted::ShowDeck { chart, deck }),
+        Some(deck) if groups => Ok(Wanted::GroupDeck { chart, deck }),
+        Some(deck) => Ok(Wanted::CheckDeck { chart, deck }),
+        None if groups => Err(Mistake::GroupsOfNone),
+        None if all => Ok(Wanted::ListFaults { chart }),
+        None => Ok(Wanted::Check { chart }),
     }
 }
 
@@ -345,7 +387,7 @@ fn command_wanted<'a>(
 ) -> Result<Wanted<'a>, Mistake> {
     Ok(match name {
         "run" => run_wanted(alloc, given)?,
-        "check" => check_wanted(given),
+        "check" => check_wanted(given)?,
         "layout" => Wanted::Layout {
             chart: file_of(given, "CHART"),
         },
@@ -371,6 +413,7 @@ fn command_wanted<'a>(
             page: given.get_one("PAGE").unwrap_or(0),
             line: given.get_one("LINE").unwrap_or(0),
             wheel: given.get_one("WHEEL").unwrap_or(0),
+            whole: given.get_flag("WHOLE"),
         },
         "ledger" => Wanted::Ledger {
             text: file_of(given, "TEXT"),
@@ -384,11 +427,7 @@ fn command_wanted<'a>(
             text: file_of(given, "TEXT"),
             deck: file_of(given, "DECK"),
         },
-        "show" => Wanted::Show {
-            text: file_of(given, "TEXT"),
-            deck: file_of(given, "DECK"),
-            output: given.get_str("OUTPUT"),
-        },
+        "show" => show_wanted(given)?,
         "fold" => Wanted::Fold {
             text: file_of(given, "TEXT"),
             with: given.get_str("WITH"),

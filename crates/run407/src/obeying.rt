@@ -8,7 +8,7 @@ use crate::watched::Watched;
 use crate::words::tell_waiting;
 use browser_pages::show_to_end;
 use chart_calls::chart_to_end;
-use check_calls::{check_deck_to_end, show_deck_to_end};
+use check_calls::{check_deck_to_end, check_groups_to_end, print_large_totals, show_deck_to_end};
 use command_line::Wanted;
 use commands::{
     Command, Ending, Fault, chart_and_deck, read_whole, replay_by_orders_to_end, run_to_end,
@@ -24,6 +24,9 @@ use std::alloc::Global;
 use text_lists::list_text_to_end;
 use trace_calls::trace_to_end;
 use whole_runs::run_whole_to_end;
+
+/// The status of a text or a deck that is refused.
+const REFUSED: u8 = 3;
 
 /// Does what the words ask for. Texts are read whole, and decks and an output are opened, before a fault of any of them is told.
 ///
@@ -65,13 +68,18 @@ pub fn obey<'a>(rt: &HostRuntime, wanted: Wanted<'a>) -> Result<Ending, Fault<'a
         }
         Wanted::ShowDeck { chart, deck } => {
             let text = read(rt, chart)?;
-            let cards = open(rt, deck)?;
             let text = text.as_slice();
             if has_faults(alloc, text) {
                 list_text_to_end(alloc, text, out, faults)
             } else {
-                show_deck_to_end(alloc, text, deck, cards, out, faults)
+                let cards = read(rt, deck)?;
+                show_deck(rt, text, deck, cards.as_slice())
             }
+        }
+        Wanted::GroupDeck { chart, deck } => {
+            let text = read(rt, chart)?;
+            let cards = open(rt, deck)?;
+            check_groups_to_end(alloc, text.as_slice(), deck, cards, out, faults)
         }
         Wanted::Layout { chart } => {
             let text = read(rt, chart)?;
@@ -147,9 +155,10 @@ pub fn obey<'a>(rt: &HostRuntime, wanted: Wanted<'a>) -> Result<Ending, Fault<'a
             page,
             line,
             wheel,
+            whole,
         } => {
             let place = Place { page, line, wheel };
-            tell(rt, text, deck, place, Question::Explanation)?
+            tell(rt, text, deck, place, Question::Explanation { whole })?
         }
         Wanted::Ledger {
             text,
@@ -167,11 +176,24 @@ pub fn obey<'a>(rt: &HostRuntime, wanted: Wanted<'a>) -> Result<Ending, Fault<'a
             let cards = open(rt, deck)?;
             trace_to_end(alloc, panel.as_slice(), deck, cards, out, faults)
         }
-        Wanted::Show { text, deck, output } => {
+        Wanted::Show {
+            text,
+            deck,
+            around,
+            output,
+        } => {
             let panel = read(rt, text)?;
             let cards = open(rt, deck)?;
             let mut page = Output::open(rt, output)?;
-            let done = show_to_end(alloc, panel.as_slice(), deck, cards, &mut page, faults);
+            let done = show_to_end(
+                alloc,
+                panel.as_slice(),
+                deck,
+                cards,
+                around,
+                &mut page,
+                faults,
+            );
             page.finish(rt, done)
         }
         Wanted::Fold { text, with } => fold(rt, text, with)?,
@@ -185,6 +207,20 @@ fn has_faults(alloc: Global, chart: &[u8]) -> bool {
     let mut listed = Vec::new(alloc);
     let mut told = Vec::new(alloc);
     list_text_to_end(alloc, chart, &mut listed, &mut told).status != 0
+}
+
+// Shows the bad cards of a deck, and how large the totals are that don't fit.
+fn show_deck(rt: &HostRuntime, text: &[u8], path: &str, cards: &[u8]) -> Ending {
+    let out = &mut rt.stdout();
+    let faults = &mut rt.stderr();
+    let shown = show_deck_to_end(rt.alloc(), text, path, cards, out, faults);
+    if shown.status != REFUSED {
+        return shown;
+    }
+    match print_large_totals(rt.alloc(), text, cards, out) {
+        Ok(()) => shown,
+        Err(fault) => commands::tell(&fault, faults),
+    }
 }
 
 // Does a command that reads no deck.
