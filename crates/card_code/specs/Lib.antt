@@ -2,6 +2,5 @@ pub mod CardCode
 pub mod Deck
 pub mod Lines
 pub mod MostCards
-pub mod Punching
 pub mod Rows
 pub mod Tables

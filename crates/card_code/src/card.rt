@@ -1,7 +1,7 @@
 //! A punched card.
 
-ghost use Rattle.std.specs.Prelude.{◌≡◌, ◌-◌, ◌<◌, ◌≤◌, ℕ, List, length, replicate, slice_index, true};
-ghost use Rattle.card_code.specs.Rows.{is_row_set};
+ghost use Rattle.std.specs.Prelude.{◌≡◌, ◌-◌, ◌≤◌, ℕ, List, length, replicate, slice_index, IfNone, IfSome};
+ghost use Rattle.card_code.specs.Deck.{IsCardOf, IsOddColumn};
 
 use crate::column::Column;
 use std::marker::Model;
@@ -37,16 +37,21 @@ impl Card {
         }
     }
 
-    // The card with these rows in its columns, the first ones being those of column 1.
-    pub(crate) fn of_rows(rows: &[u16; CARD_COLUMNS]) -> Self
-        requires { (k : ℕ) → k < 80 → is_row_set (slice_index rows.now k) ≡ true }
-        ensures { result ≡ rows.now }
+    // Punches a line in the place of what was punched before. Answers the column of the first byte that is no deck character, from 1; the
+    // card is that of the line if each is one.
+    pub(crate) fn punch(&mut self, line: &[u8]) -> Option<u32>
+        requires { length line.now ≤ 80 }
+        ensures card { IfNone result (IsCardOf line.now self.new) }
+        ensures odd { IfSome result (IsOddColumn line.now) }
     {
-        let mut card = Card::blank();
-        for k in 0..CARD_COLUMNS {
-            card.columns[k] = Column::of_rows(rows[k]);
+        *self = Card::blank();
+        for place in 0..line.len() {
+            match Column::of_char(char::from(line[place])) {
+                Some(column) => self.columns[place] = column,
+                None => return Some(place as u32 + 1),
+            }
         }
-        card
+        None
     }
 
     /// Its columns, the first one being column 1.

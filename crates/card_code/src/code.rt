@@ -1,9 +1,9 @@
 //! The card code as tables, read both ways by one look-up.
 
-ghost use Rattle.std.specs.Prelude.{◌≡◌, ◌<◌, ◌%◌, ◌↔◌, ℕ, length, slice_index, true, Contains, IfSome, IsTrue};
+ghost use Rattle.std.specs.Prelude.{◌≡◌, ◌<◌, ◌%◌, ◌↔◌, ℕ, length, true, Contains, IfSome, IsTrue};
 ghost use Rattle.card_code.specs.CardCode.{code, deck_character, is_one_to_one, rows_of};
 ghost use Rattle.card_code.specs.Rows.{is_row_set};
-ghost use Rattle.card_code.specs.Tables.{entry, listed, matching};
+ghost use Rattle.card_code.specs.Tables.{listed, matching};
 
 /// What stands for the rows of a character that is no deck character.
 const NONE: u16 = 0xffff;
@@ -87,13 +87,6 @@ pub fn rows_of_character(character: char) -> Option<u16>
     listed_rows(&LISTED, character)
 }
 
-/// The rows of a byte, or 0xffff where it is no deck character.
-pub fn rows_of_byte(byte: u8) -> u16
-    ensures { entry result ≡ rows_of byte }
-{
-    row_in(&LISTED, byte)
-}
-
 /// The deck character of a set of rows, or `None` where no character has exactly these.
 pub fn character_of_rows(rows: u16) -> Option<u8>
     ensures { result ≡ deck_character rows }
@@ -113,13 +106,6 @@ fn listed_rows(table: &[u16; 256], character: char) -> Option<u16>
         NONE => None,
         rows => Some(rows),
     }
-}
-
-/// What a table has at the place of a byte.
-fn row_in(table: &[u16; 256], byte: u8) -> u16
-    ensures { result ≡ slice_index table.now byte }
-{
-    table[byte as usize]
 }
 
 /// The character at the place of a set of rows, or `None` where that place has another set.

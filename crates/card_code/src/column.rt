@@ -34,14 +34,6 @@ impl Column {
         Column { rows: 0 }
     }
 
-    // The column with these rows.
-    pub(crate) fn of_rows(rows: u16) -> Self
-        requires { is_row_set rows ≡ true }
-        ensures { result ≡ rows }
-    {
-        Column { rows }
-    }
-
     /// The column that a deck character is punched as, or `None` for a character that is none.
     pub fn of_char(character: char) -> Option<Self>
         ensures { result ≡ rows_of character }

@@ -1,23 +1,17 @@
 //! Decks of cards as text.
 
-ghost use Rattle.std.specs.Prelude.{◌≡◌, ◌≢◌, ◌≤◌, ℕ, ◌⊎◌, List, length, replicate, IfErr, IfOk, IsErrOf, IsOkAnd};
+ghost use Rattle.std.specs.Prelude.{◌≡◌, ◌≢◌, ℕ, ◌⊎◌, List, IfErr, IfOk, IsErrOf, IsOkAnd, OnOk};
 ghost use Rattle.card_code.specs.declared.deck.DeckFault.{DeckFault};
-ghost use Rattle.card_code.specs.Punching.{ArePunchable, HasPunched};
-ghost use Rattle.card_code.specs.Deck.{Deck, HasDeckFault, HasLineFault, IsCardOf, IsOddColumn};
+ghost use Rattle.card_code.specs.Deck.{Deck, HasDeckFault, HasLineFault, IsCardOf};
 ghost use Rattle.card_code.specs.declared.deck.DeckFault.TheVariants.{Memory};
 
 use crate::card::{CARD_COLUMNS, Card};
-use crate::code::rows_of_byte;
-use crate::column::Column;
 use crate::lines::next_line;
 use std::alloc::{AllocFailed, Global};
 use thiserror::Error;
 
 /// The most cards of a deck.
 pub const MOST_CARDS: usize = 999_999;
-
-// No set of rows is as large as this: only what stands for none is.
-const NO_ROWS: u16 = 0x8000;
 
 /// Why a deck text is refused.
 #[derive(Clone, Copy, Debug, PartialEq, Eq, Error)]
@@ -108,45 +102,29 @@ pub fn read_card(number: u32, line: &[u8]) -> Result<Card, DeckFault>
     ensures card { IfOk result (λ card. IsCardOf line.now card) }
     ensures fault { IfErr result (λ fault. HasLineFault line.now number fault) }
 {
+    let mut card = Card::blank();
+    punch_line(number, line, &mut card)?;
+    Ok(card)
+}
+
+/// Punches the line with the number `number`, from 1, into a card, in the place of what was punched in it. At a fault the card has some
+/// columns of the line alone.
+///
+/// # Errors
+///
+/// As of [`read_card`].
+pub fn punch_line(number: u32, line: &[u8], card: &mut Card) -> Result<(), DeckFault>
+    ensures card { OnOk result (IsCardOf line.now card.new) }
+    ensures fault { IfErr result (λ fault. HasLineFault line.now number fault) }
+{
     if line.len() > CARD_COLUMNS {
         return Err(DeckFault::CardTooLong { line: number });
     }
-    let mut rows = [0; CARD_COLUMNS];
-    if punch(line, &mut rows) >= NO_ROWS {
-        return Err(DeckFault::NoSuchCharacter {
+    match card.punch(line) {
+        Some(column) => Err(DeckFault::NoSuchCharacter {
             line: number,
-            column: odd_column(line),
-        });
+            column,
+        }),
+        None => Ok(()),
     }
-    Ok(Card::of_rows(&rows))
-}
-
-/// Puts the rows of each byte of a line in its column, and answers all of them joined, so that it is asked once whether one of the
-/// bytes is no deck character.
-fn punch(line: &[u8], rows: &mut [u16; CARD_COLUMNS]) -> u16
-    requires short { length line.now ≤ 80 }
-    requires blank { rows.old ≡ replicate 80 0 }
-    ensures { HasPunched (length line.now) line.now result rows.new }
-{
-    let mut joined = 0;
-    for place in 0..line.len() {
-        let found = rows_of_byte(line[place]);
-        rows[place] = found;
-        joined |= found;
-    }
-    joined
-}
-
-/// The column of the first byte that is no deck character, in a line that has one.
-fn odd_column(line: &[u8]) -> u32
-    requires short { length line.now ≤ 80 }
-    requires odd { ¬ ArePunchable line.now }
-    ensures { IsOddColumn line.now result }
-{
-    for place in 0..line.len() {
-        if Column::of_char(char::from(line[place])).is_none() {
-            return place as u32 + 1;
-        }
-    }
-    unreachable!()
 }

@@ -26,6 +26,6 @@ pub use card::{CARD_COLUMNS, Card};
 pub use card_by_card::{check_deck, next_card};
 pub use code::code_is_one_to_one;
 pub use column::Column;
-pub use deck::{DeckFault, MOST_CARDS, deck_text_is_unambiguous, read_card, read_deck};
+pub use deck::{DeckFault, MOST_CARDS, deck_text_is_unambiguous, punch_line, read_card, read_deck};
 pub use lines::{next_line, without_cr};
 pub use row::{ROWS, Row};

@@ -1,5 +1,5 @@
 -- The next card, or the fault in its place.
-use Rattle.std.proofs.Common.{◌≡◌, ◌∙◌, ℕ, ◌+◌, ◌<◌, List, [], ◌∷◌, ◌++◌, length, take, drop, Option, Some, None, Result, Ok, Err, IfOk, IfSome, is_some, refl, sym, ap, subst, arith, append-nil, append_assoc, take-append-drop}
+use Rattle.std.proofs.Common.{◌≡◌, ◌∙◌, ℕ, ◌+◌, ◌<◌, List, [], ◌∷◌, ◌++◌, length, take, drop, Option, Some, None, Result, Ok, Err, OnOk, IfSome, is_some, refl, sym, ap, subst, arith, append-nil, append_assoc, take-append-drop}
 use Rattle.std.proofs.Math.Seq.{take-length, drop-length}
 use Rattle.std.proofs.lemmas.Bool.Decides.{nat_tests}
 use Rattle.std.proofs.lemmas.Bool.{false≢true}
@@ -111,11 +111,15 @@ still_known (Some bytes) None text kept known = absurd kept
 still_known (Some bytes) (Some same) text kept known = ap Some kept ∙ known
 
 -- what is said of a card that was found
-pub of_found : {C E : Type 0} (P Q : C → Type 0) → ((card : C) → P card → Q card) → (found : Result (Option C) E)
-    → IfOk found (λ card. IfSome card P) → IfOk found (λ card. IfSome card Q)
-of_found P Q more (Ok None) is = tt
-of_found P Q more (Ok (Some card)) is = more card is
-of_found P Q more (Err fault) is = tt
+pub of_card : {C : Type 0} (P Q : C → Type 0) → ((card : C) → P card → Q card) → (found : Option C) → IfSome found P → IfSome found Q
+of_card P Q more None is = tt
+of_card P Q more (Some card) is = more card is
+
+-- and where no fault was told
+pub of_found : {C D E : Type 0} (P Q : C → Type 0) → ((card : C) → P card → Q card) → (taken : Result D E) (found : Option C)
+    → OnOk taken (IfSome found P) → OnOk taken (IfSome found Q)
+of_found P Q more (Ok done) found is = of_card P Q more found is
+of_found P Q more (Err fault) found is = tt
 
 -- the number of cards before it by another word
 pub given_as : {come : Option (List ℕ)} (one other : ℕ) (text card : List ℕ) → one ≡ other → GivesCard one text card come

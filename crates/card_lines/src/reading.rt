@@ -14,8 +14,7 @@ ghost use Rattle.card_lines.specs.declared.front.Front.TheVariants as stands;
 use crate::buffer::Buffer;
 use crate::fault::ReadFault;
 use crate::front::{Front, look_at};
-use arrayvec::ArrayVec;
-use card_code::{CARD_COLUMNS, Card, DeckFault, MOST_CARDS, read_card, without_cr};
+use card_code::{Card, DeckFault, MOST_CARDS, punch_line, read_card, without_cr};
 use devices::{DeviceFailed, Source};
 use std::marker::Model;
 
@@ -109,29 +108,74 @@ impl<S: Source + Drop> CardLines<S> {
         ensures counted { S.reads self.new.source ≤ S.reads self.old.source + 82 }
         ensures same { S.borrow self.new.source ≡ S.borrow self.old.source }
     {
+        let mut next = None;
+        match self.next_into(&mut next) {
+            Ok(()) => Ok(next),
+            Err(fault) => Err(fault),
+        }
+    }
+
+    /// Puts the next card in the place of another one, or of `None`; `None` where no line is left, and then always. A line is punched into
+    /// the card that it replaces, so that no card is copied. What stands there after a fault is not told.
+    ///
+    /// It reads only while it holds no whole line, and none that is surely too long, at most 82 times, and never again after the
+    /// end of the source or a fault.
+    ///
+    /// # Errors
+    ///
+    /// `Read` where the source fails; else `Deck` where the line is the one after 999,999 cards (`TooManyCards`), has more than 80
+    /// characters (`CardTooLong`) or one that is no deck character (`NoSuchCharacter`). After each of these `Failed`, always.
+    pub fn next_into(&mut self, next: &mut Option<Card>) -> Result<(), ReadFault>
+        ensures card { OnOk result (IfSome next.new (λ card. (text : List ℕ) → still_to_come S.left self.old ≡ Some text →
+            GivesCard self.old.given text card (still_to_come S.left self.new))) }
+        ensures one_more { OnOk result (IfSome next.new (λ _. self.new.given ≡ self.old.given + 1)) }
+        ensures few { self.new.given ≤ most_cards }
+        ensures none { OnOk result (IfNone next.new ((text : List ℕ) → still_to_come S.left self.old ≡ Some text →
+            lines_of text ≡ [])) }
+        ensures all { OnOk result (IfNone next.new (IsAtEnd (S.left self.new.source))) }
+        ensures kept { MatchResult result (λ _. IfNone next.new (Keeps (still_to_come S.left self.old) (still_to_come S.left self.new)))
+            (λ _. Keeps (still_to_come S.left self.old) (still_to_come S.left self.new)) }
+        ensures over { OnOk result (IfNone next.new (IsOver self.new)) }
+        ensures none_again { IsOver self.old → IsOk result × (next.new ≡ None) × (self.new ≡ self.old) }
+        ensures fault { self.old.has_failed ≡ false → IfErr result (λ fault. (text : List ℕ) →
+            still_to_come S.left self.old ≡ Some text → HasFaultNext self.old.given text fault) }
+        ensures read { self.old.has_failed ≡ false → IfErr result (λ fault. (line : ℕ) → fault ≡ read.Read line →
+            (line ≡ self.old.given + 1) × (S.has_failed self.new.source ≡ true)) }
+        ensures part { self.old.has_failed ≡ false → IfErr result (λ fault. (line : ℕ) → fault ≡ read.Read line →
+            IsPart self.new.held) }
+        ensures told { IfErr result (λ _. self.new.has_failed ≡ true) }
+        ensures well { OnOk result (self.new.has_failed ≡ false) }
+        ensures again { self.old.has_failed ≡ true → IfErr result (λ fault. fault ≡ read.Failed) }
+        ensures no_card_again { self.old.has_failed ≡ true → IsErr result }
+        ensures unread_again { self.old.has_failed ≡ true → self.new ≡ self.old }
+        ensures unread { IsSettled self.old.held → self.new.source ≡ self.old.source }
+        ensures ended { self.old.at_end ≡ true → self.new.source ≡ self.old.source }
+        ensures counted { S.reads self.new.source ≤ S.reads self.old.source + 82 }
+        ensures same { S.borrow self.new.source ≡ S.borrow self.old.source }
+    {
         if self.has_failed {
             return Err(ReadFault::Failed);
         }
-        let next = self.take_card();
-        self.has_failed = next.is_err();
-        next
+        let taken = self.take_card(next);
+        self.has_failed = taken.is_err();
+        taken
     }
 }
 
 impl<S: Source + Drop> CardLines<S> {
-    // The next card, where no fault was told.
-    fn take_card(&mut self) -> Result<Option<Card>, ReadFault>
+    // Puts the next card in its place, where no fault was told.
+    fn take_card(&mut self, next: &mut Option<Card>) -> Result<(), ReadFault>
         requires { self.old.has_failed ≡ false }
-        ensures card { IfOk result (λ found. IfSome found (λ card. (text : List ℕ) → still_to_come S.left self.old ≡ Some text →
+        ensures card { OnOk result (IfSome next.new (λ card. (text : List ℕ) → still_to_come S.left self.old ≡ Some text →
             GivesCard self.old.given text card (still_to_come S.left self.new))) }
-        ensures one_more { IfOk result (λ found. IfSome found (λ _. self.new.given ≡ self.old.given + 1)) }
-        ensures none { IfOk result (λ found. IfNone found ((text : List ℕ) → still_to_come S.left self.old ≡ Some text →
+        ensures one_more { OnOk result (IfSome next.new (λ _. self.new.given ≡ self.old.given + 1)) }
+        ensures none { OnOk result (IfNone next.new ((text : List ℕ) → still_to_come S.left self.old ≡ Some text →
             lines_of text ≡ [])) }
-        ensures all { IfOk result (λ found. IfNone found (IsAtEnd (S.left self.new.source))) }
-        ensures kept { MatchResult result (λ found. IfNone found (Keeps (still_to_come S.left self.old) (still_to_come S.left self.new)))
+        ensures all { OnOk result (IfNone next.new (IsAtEnd (S.left self.new.source))) }
+        ensures kept { MatchResult result (λ _. IfNone next.new (Keeps (still_to_come S.left self.old) (still_to_come S.left self.new)))
             (λ _. Keeps (still_to_come S.left self.old) (still_to_come S.left self.new)) }
-        ensures at_end { IfOk result (λ found. IfNone found ((self.new.at_end ≡ true) × (without_cr self.new.held ≡ []))) }
-        ensures none_again { IsOver self.old → (result ≡ Ok None) × (self.new ≡ self.old) }
+        ensures at_end { OnOk result (IfNone next.new ((self.new.at_end ≡ true) × (without_cr self.new.held ≡ []))) }
+        ensures none_again { IsOver self.old → IsOk result × (next.new ≡ None) × (self.new ≡ self.old) }
         ensures fault { IfErr result (λ fault. (text : List ℕ) →
             still_to_come S.left self.old ≡ Some text → HasFaultNext self.old.given text fault) }
         ensures read { IfErr result (λ fault. (line : ℕ) → fault ≡ read.Read line →
@@ -148,12 +192,15 @@ impl<S: Source + Drop> CardLines<S> {
             });
         };
         match front {
-            Front::Line(end) => self.take_line(end, end + 1),
+            Front::Line(end) => self.take_line(end, end + 1, next),
             Front::TooLong => Err(self.too_long()),
-            Front::Part if without_cr(self.held.bytes()).is_empty() => Ok(None),
+            Front::Part if without_cr(self.held.bytes()).is_empty() => {
+                *next = None;
+                Ok(())
+            }
             Front::Part => {
                 let end = self.held.bytes().len();
-                self.take_line(end, end)
+                self.take_line(end, end, next)
             }
         }
     }
@@ -181,13 +228,18 @@ impl<S: Source + Drop> CardLines<S> {
         }
     }
 
-    // The card of the line that is the first `end` bytes held, which with its LF, if it has one, are the first `used`.
-    fn take_line(&mut self, end: usize, used: usize) -> Result<Option<Card>, ReadFault>
+    // Puts the card of the line in its place that is the first `end` bytes held, which with its LF, if it has one, are the first `used`.
+    fn take_line(
+        &mut self,
+        end: usize,
+        used: usize,
+        next: &mut Option<Card>,
+    ) -> Result<(), ReadFault>
         requires first { (rest : List ℕ) → S.left self.old.source ≡ Some rest → HasFirstLine self.old.held end used rest }
         requires within { used ≤ length self.old.held }
         requires end { end ≤ used }
-        ensures some { IfOk result IsSome }
-        ensures card { IfOk result (λ found. IfSome found (λ card. (text : List ℕ) → still_to_come S.left self.old ≡ Some text →
+        ensures some { OnOk result (IsSome next.new) }
+        ensures card { OnOk result (IfSome next.new (λ card. (text : List ℕ) → still_to_come S.left self.old ≡ Some text →
             GivesCard self.old.given text card (still_to_come S.left self.new))) }
         ensures one_more { OnOk result (self.new.given ≡ self.old.given + 1) }
         ensures fault { IfErr result (λ fault. (text : List ℕ) →
@@ -199,10 +251,10 @@ impl<S: Source + Drop> CardLines<S> {
         if self.given == MOST_CARDS as u32 {
             return Err(DeckFault::TooManyCards.into());
         }
-        let card = card_of(self.given + 1, without_cr(&self.held.bytes()[..end]))?;
+        put_card(self.given + 1, without_cr(&self.held.bytes()[..end]), next)?;
         self.held.use_up(used);
         self.given += 1;
-        Ok(Some(card))
+        Ok(())
     }
 
     // The fault of a line that is surely too long.
@@ -222,14 +274,17 @@ impl<S: Source + Drop> CardLines<S> {
     }
 }
 
-// The card of the line with this number.
-fn card_of(number: u32, bytes: &[u8]) -> Result<Card, DeckFault>
-    ensures card { IfOk result (λ card. IsCardOf bytes.now card) }
-    ensures fault { IfErr result (λ fault. HasLineFault bytes.now number fault) }
+// Puts the card of the line with this number in the place of another, or of none.
+fn put_card(number: u32, line: &[u8], next: &mut Option<Card>) -> Result<(), DeckFault>
+    ensures some { OnOk result (IsSome next.new) }
+    ensures card { OnOk result (IfSome next.new (IsCardOf line.now)) }
+    ensures fault { IfErr result (λ fault. HasLineFault line.now number fault) }
 {
-    let mut line = ArrayVec::<u8, CARD_COLUMNS>::new();
-    if line.try_extend_from_slice(bytes).is_err() {
-        return Err(DeckFault::CardTooLong { line: number });
+    match next {
+        Some(card) => punch_line(number, line, card),
+        None => {
+            *next = Some(read_card(number, line)?);
+            Ok(())
+        }
     }
-    read_card(number, line.as_slice())
 }

@@ -6,7 +6,7 @@ use Rattle.std.proofs.lemmas.Bool.Decides.{nat_tests}
 use Rattle.card_code.proofs.Pieces.{lines_at_first}
 use Rattle.card_code.specs.CardCode.{code, rows_of}
 use Rattle.card_code.specs.Lines.{lines_of, without_cr}
-use Rattle.card_code.specs.Punching.{ArePunchable}
+use Rattle.folding.specs.Punchable.{ArePunchable}
 use Rattle.folding.proofs.Punched.{folded_is_punchable}
 use Rattle.folding.specs.Folded.{folded_line, folded_text}
 

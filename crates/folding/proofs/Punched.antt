@@ -4,7 +4,7 @@ use Rattle.std.specs.Prelude.{IsSome, codes}
 use Rattle.std.proofs.lemmas.Bool.Decides.{nat_tests}
 use Rattle.std.proofs.lemmas.Bool.{false≢true}
 use Rattle.card_code.specs.CardCode.{code, rows_of}
-use Rattle.card_code.specs.Punching.{ArePunchable}
+use Rattle.folding.specs.Punchable.{ArePunchable}
 use Rattle.folding.specs.Changes.{change_of, is_small}
 use Rattle.folding.specs.Folded.{blanks_to_stop, changed_to, folded_from}
 use Rattle.folding.specs.declared.changes.Change.TheVariants as change

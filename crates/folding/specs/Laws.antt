@@ -2,7 +2,7 @@
 use Rattle.std.specs.Prelude.{◌≡◌, ℕ, List, IsSome, map}
 use Rattle.card_code.specs.CardCode.{rows_of}
 use Rattle.card_code.specs.Lines.{lines_of}
-use Rattle.card_code.specs.Punching.{ArePunchable}
+use Rattle.folding.specs.Punchable.{ArePunchable}
 use Rattle.folding.specs.Folded.{folded_line, folded_text}
 
 -- All that stands in a folded line can be punched.

@@ -1,4 +1,5 @@
 pub mod Changes
 pub mod Folded
 pub mod Laws
+pub mod Punchable
 pub mod Told

@@ -4,15 +4,16 @@ ghost use Rattle.std.specs.Prelude.{◌≡◌, map};
 
 use crate::closed::Closed;
 use crate::groups::{comes_to_nines, nines};
-use crate::lines::placed_line;
+use crate::lines::{append_placed, placed_line};
 use crate::units::Units;
 use card_code::Row;
 use net::{Cycle, Net, POINTS, Picture, Point, RowSets};
 use placed_lines::PlacedLine;
 use selectors::{steady_contacts, with_carries, with_splits};
+use std::alloc::AllocError;
 
 impl Units {
-    ghost use Rattle.std.specs.Prelude.{◌≡◌, true, false, option_to_list};
+    ghost use Rattle.std.specs.Prelude.{◌≡◌, ◌++◌, true, false, option_to_list, OnErr, OnOk};
     ghost use Rattle.std.specs.Option.{ForSome};
     ghost use Rattle.setups.specs.Wiring.{Wiring};
     ghost use Rattle.net.specs.Nets.{IsNetOf};
@@ -28,47 +29,47 @@ impl Units {
     ghost use Rattle.machine.specs.Keeps.{Keeps};
     ghost use Rattle.machine.specs.AllRows.{RunsRows};
 
-    // A cycle: its points, and then its end.
-    pub(crate) fn run_cycle(&mut self, net: &Net, cycle: Cycle)
+    // A cycle: its points, and then its end. The sets are room for those of its rows, whatever they had before.
+    pub(crate) fn run_cycle(&mut self, net: &Net, sets: &mut RowSets, cycle: Cycle)
         ensures ran { (wiring : Wiring) → IsNetOf wiring net.now → CycleRun wiring cycle self.old self.new }
         ensures ends { EndsCycle cycle self.old self.new }
     {
-        self.run_points(net, cycle);
+        self.run_points(net, sets, cycle);
         self.end_cycle(cycle);
     }
 
     // The points of a cycle. Where no wire leads to a contact, no closed contact is looked for.
-    pub(crate) fn run_points(&mut self, net: &Net, cycle: Cycle)
+    pub(crate) fn run_points(&mut self, net: &Net, sets: &mut RowSets, cycle: Cycle)
         ensures reached { (wiring : Wiring) → IsNetOf wiring net.now → Reached wiring cycle 14 self.old self.new }
         ensures keeps { Keeps cycle self.old self.new }
     {
         if net.is_direct() {
-            self.run_direct_points(net, cycle);
+            self.run_direct_points(net, sets, cycle);
         } else {
             let closed = self.closed(cycle);
-            self.run_led_points(net, &closed, cycle);
+            self.run_led_points(net, &closed, sets, cycle);
         }
     }
 
     // The points of a cycle, where no wire leads to a contact.
-    fn run_direct_points(&mut self, net: &Net, cycle: Cycle)
+    fn run_direct_points(&mut self, net: &Net, sets: &mut RowSets, cycle: Cycle)
         requires { (wiring : Wiring) → IsNetOf wiring net.now → LeadsToNoContact wiring }
         ensures reached { (wiring : Wiring) → IsNetOf wiring net.now → Reached wiring cycle 14 self.old self.new }
         ensures keeps { Keeps cycle self.old self.new }
     {
         self.run_end(net, None, cycle, Point::C);
-        self.run_direct_rows(net, cycle);
+        self.run_direct_rows(net, sets, cycle);
         self.run_end(net, None, cycle, Point::K);
     }
 
     // The points of a cycle, where wires lead to contacts.
-    fn run_led_points(&mut self, net: &Net, closed: &Closed, cycle: Cycle)
+    fn run_led_points(&mut self, net: &Net, closed: &Closed, sets: &mut RowSets, cycle: Cycle)
         requires { AreSteady cycle closed.now self.old }
         ensures reached { (wiring : Wiring) → IsNetOf wiring net.now → Reached wiring cycle 14 self.old self.new }
         ensures keeps { Keeps cycle self.old self.new }
     {
         self.run_end(net, Some(closed), cycle, Point::C);
-        self.run_led_rows(net, closed, cycle);
+        self.run_led_rows(net, closed, sets, cycle);
         self.run_end(net, Some(closed), cycle, Point::K);
     }
 
@@ -82,6 +83,11 @@ impl Units {
     {
         let mut emitted = Picture::new();
         self.emit(cycle, point, &mut emitted);
+        // Nothing is impulsed then.
+        if emitted.is_empty() {
+            self.sense(cycle, point, &emitted);
+            return;
+        }
         let mut picture = Picture::new();
         self.impulse_end(net, closed, cycle, point, &emitted, &mut picture);
         self.sense(cycle, point, &picture);
@@ -143,29 +149,29 @@ impl Units {
     }
 
     // The points of the rows all at once, where no wire leads to a contact.
-    fn run_direct_rows(&mut self, net: &Net, cycle: Cycle)
+    fn run_direct_rows(&mut self, net: &Net, rows: &mut RowSets, cycle: Cycle)
         requires { (wiring : Wiring) → IsNetOf wiring net.now → LeadsToNoContact wiring }
         ensures ran { (wiring : Wiring) → IsNetOf wiring net.now → RunsRows wiring cycle self.old self.new }
         ensures keeps { Keeps cycle self.old self.new }
     {
-        let mut rows = RowSets::new();
-        self.emit_rows(cycle, &mut rows);
-        net.spread(&mut rows);
-        self.sense_rows(cycle, &rows);
+        rows.clear();
+        self.emit_rows(cycle, rows);
+        net.spread(rows);
+        self.sense_rows(cycle, rows);
     }
 
     // The points of the rows, where wires lead to contacts. They are taken all at once where no impulse passes one contact behind another,
     // else one by one.
-    fn run_led_rows(&mut self, net: &Net, closed: &Closed, cycle: Cycle)
+    fn run_led_rows(&mut self, net: &Net, closed: &Closed, sets: &mut RowSets, cycle: Cycle)
         requires { AreSteady cycle closed.now self.old }
         ensures ran { (wiring : Wiring) → IsNetOf wiring net.now → RunsRows wiring cycle self.old self.new }
         ensures keeps { Keeps cycle self.old self.new }
         ensures steady { AreSteady cycle closed.now self.new }
     {
-        let mut sets = RowSets::new();
-        self.emit_rows(cycle, &mut sets);
-        if net.spread_through(&closed.digits, &closed.zones, &mut sets) {
-            self.sense_rows(cycle, &sets);
+        sets.clear();
+        self.emit_rows(cycle, sets);
+        if net.spread_through(&closed.digits, &closed.zones, sets) {
+            self.sense_rows(cycle, sets);
         } else {
             self.step_rows(net, closed, cycle);
         }
@@ -234,6 +240,14 @@ impl Units {
                 }
             }
         }
+    }
+
+    // Puts the line that the cycle that ended last placed, if it placed one, after the others.
+    pub(crate) fn append_line(&self, lines: &mut Vec<PlacedLine>) -> Result<(), AllocError>
+        ensures appended { OnOk result (lines.new.items ≡ lines.old.items ++ line_of self.now) }
+        ensures refused { OnErr result (lines.new.items ≡ lines.old.items) }
+    {
+        append_placed(lines, &self.carriage, &self.wheels)
     }
 
     // The line that the cycle that ended last placed, if it placed one.

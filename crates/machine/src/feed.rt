@@ -1,9 +1,8 @@
 //! A feed: the next card, or the end, and the cycles that follow.
 
-use crate::lines::append_line;
 use crate::units::Units;
 use card_code::Card;
-use net::{Cycle, Net};
+use net::{Cycle, Net, RowSets};
 use placed_lines::PlacedLine;
 use std::alloc::AllocError;
 
@@ -70,7 +69,14 @@ impl Units {
     }
 
     // Runs the cycle that is due, and answers whether something still waits.
-    fn run_due(&mut self, net: &Net, cycle: Cycle, waits: bool, next: &Option<Card>) -> bool
+    fn run_due(
+        &mut self,
+        net: &Net,
+        sets: &mut RowSets,
+        cycle: Cycle,
+        waits: bool,
+        next: &Option<Card>,
+    ) -> bool
         requires { due_in (record { machine = self.old; waits = waits; next = next.now }) ≡ Some cycle }
         ensures step { (wiring : Wiring)
             → IsNetOf wiring net.now
@@ -80,7 +86,7 @@ impl Units {
             (record { machine = self.new; waits = result; next = next.now }) }
     {
         let waits = self.take(cycle, waits, next);
-        self.run_cycle(net, cycle);
+        self.run_cycle(net, sets, cycle);
         waits
     }
 
@@ -88,6 +94,7 @@ impl Units {
     pub(crate) fn feed(
         &mut self,
         net: &Net,
+        sets: &mut RowSets,
         next: &Option<Card>,
         out: &mut Vec<PlacedLine>,
     ) -> Result<(), AllocError>
@@ -96,8 +103,8 @@ impl Units {
     {
         let mut waits = self.begin(next);
         while let Some(cycle) = self.due_in(waits, next) {
-            waits = self.run_due(net, cycle, waits, next);
-            append_line(out, self.placed_line())?;
+            waits = self.run_due(net, sets, cycle, waits, next);
+            self.append_line(out)?;
         }
         Ok(())
     }

@@ -26,7 +26,7 @@ mod units;
 pub use fault::FeedFault;
 pub use groups::groups_at_start;
 pub use kept::{KeptCycle, KeptPoint};
-pub use lines::{append_line, placed_line};
+pub use lines::{append_line, append_placed, placed_line};
 pub use machine::Machine;
 pub use placed_lines::{LINE_WHEELS, PlacedLine};
 pub use rows::end_all;

@@ -32,3 +32,24 @@ pub fn append_line(lines: &mut Vec<PlacedLine>, line: Option<PlacedLine>) -> Res
     }
     Ok(())
 }
+
+/// Puts the line that the cycle that ended last placed, if it placed one, after the others, and copies it but once.
+///
+/// Fails only where memory was refused; the lines then stay as they were.
+pub fn append_placed(
+    lines: &mut Vec<PlacedLine>,
+    carriage: &Carriage,
+    wheels: &Wheels,
+) -> Result<(), AllocError>
+    ensures appended { OnOk result (lines.new.items ≡ lines.old.items ++ line_at carriage.now.printed wheels.now.line) }
+    ensures refused { OnErr result (lines.new.items ≡ lines.old.items) }
+{
+    if let Some((page, line)) = carriage.printed() {
+        lines.push(PlacedLine {
+            page,
+            line,
+            text: *wheels.line(),
+        })?;
+    }
+    Ok(())
+}

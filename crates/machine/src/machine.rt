@@ -4,7 +4,7 @@ use crate::fault::FeedFault;
 use crate::kept::KeptCycle;
 use crate::units::Units;
 use card_code::{Card, MOST_CARDS};
-use net::Net;
+use net::{Net, RowSets};
 use placed_lines::PlacedLine;
 use setups::Setup;
 use std::alloc::{AllocError, Global};
@@ -16,6 +16,8 @@ use std::marker::Model;
 /// cycle, since the rest of that feed isn't run.
 pub struct Machine {
     net: Net,
+    // Room for the rows of a cycle, so that it is not made anew for each.
+    sets: RowSets,
     units: Units,
     // How many cards were fed.
     cards: u32,
@@ -28,6 +30,7 @@ impl Drop for Machine {
     fn drop(self) {
         let Machine {
             net: _net,
+            sets: _sets,
             units: _units,
             cards: _cards,
             is_ended: _is_ended,
@@ -72,6 +75,7 @@ impl Machine {
     {
         Ok(Machine {
             net: Net::of(alloc, setup)?,
+            sets: RowSets::new(),
             units: Units::new(setup),
             cards: 0,
             is_ended: false,
@@ -100,14 +104,34 @@ impl Machine {
         ensures memory { result ≡ Err Memory → GainsPrefix self.old.net self.old.machine next out.old.items out.new.items }
         ensures spoiled { result ≡ Err Memory → self.new.is_spoiled ≡ true }
     {
-        if let Some(fault) = self.refusal(&next) {
+        self.feed_next(&next, out)
+    }
+
+    /// The same, where the next card stays with the caller.
+    pub fn feed_next(
+        &mut self,
+        next: &Option<Card>,
+        out: &mut Vec<PlacedLine>,
+    ) -> Result<(), FeedFault>
+        ensures lines { OnOk result (GainsFeed self.old.net self.old.machine next.now self.new.machine out.old.items out.new.items) }
+        ensures goes_on { OnOk result (self.new ≡ fed next.now self.new.machine self.old) }
+        ensures accepted { OnOk result (refusal self.old next.now ≡ None) }
+        ensures faults { IfErr result (λ fault. (fault ≡ Memory) ⊎ (refusal self.old next.now ≡ Some fault)) }
+        ensures refused { (fault : FeedFault) → refusal self.old next.now ≡ Some fault → result ≡ Err fault }
+        ensures unchanged { (fault : FeedFault) → refusal self.old next.now ≡ Some fault → self.new ≡ self.old }
+        ensures no_lines { (fault : FeedFault) → refusal self.old next.now ≡ Some fault → out.new.items ≡ out.old.items }
+        ensures memory { result ≡ Err Memory → GainsPrefix self.old.net self.old.machine next.now out.old.items out.new.items }
+        ensures spoiled { result ≡ Err Memory → self.new.is_spoiled ≡ true }
+    {
+        if let Some(fault) = self.refusal(next) {
             return Err(fault);
         }
-        if self.units.feed(&self.net, &next, out).is_err() {
+        let fed = self.units.feed(&self.net, &mut self.sets, next, out);
+        if fed.is_err() {
             self.is_spoiled = true;
             return Err(FeedFault::Memory);
         }
-        self.count(&next);
+        self.count(next);
         Ok(())
     }
 

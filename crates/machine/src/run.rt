@@ -7,7 +7,7 @@ ghost use Rattle.machine.specs.Runs.{MachineLines};
 
 use crate::units::Units;
 use card_code::Card;
-use net::Net;
+use net::{Net, RowSets};
 use placed_lines::PlacedLine;
 use setups::Setup;
 use std::alloc::{AllocError, Global};
@@ -25,10 +25,11 @@ pub fn simulate(alloc: Global, setup: &Setup, cards: &[Card]) -> Result<Vec<Plac
     let _form = setup.known();
     let net = Net::of(alloc, setup)?;
     let mut units = Units::new(setup);
+    let mut sets = RowSets::new();
     let mut lines = Vec::new(alloc);
     for card in cards {
-        units.feed(&net, &Some(*card), &mut lines)?;
+        units.feed(&net, &mut sets, &Some(*card), &mut lines)?;
     }
-    units.feed(&net, &None, &mut lines)?;
+    units.feed(&net, &mut sets, &None, &mut lines)?;
     Ok(lines)
 }

@@ -3,7 +3,7 @@
 use crate::units::Units;
 use card_code::Card;
 use counters::Group;
-use net::{Cycle, Net};
+use net::{Cycle, Net, RowSets};
 use placed_lines::PlacedLine;
 use selectors::Pilots;
 use setups::Setup;
@@ -78,7 +78,7 @@ impl SteppedMachine {
             → Reached wiring cycle 14 self.old.machine self.new.machine }
         ensures net { self.new.net ≡ self.old.net }
     {
-        self.units.run_points(&self.net, cycle);
+        self.units.run_points(&self.net, &mut RowSets::new(), cycle);
     }
 
     /// The end of a cycle, behind its points.

@@ -51,6 +51,19 @@ picture_more wiring exits closed shut picture also only is hub = (
     follows from to on (inr contact) =
         (is to).1 (led_on from to ((is from).0 on) (inr (contact.0, only from to contact.0 on contact.1)))
 
+-- where nothing emits nothing is impulsed
+nothing_impulsed : (wiring : Wiring) (exits closed : Hub → Bool) → ((hub : Hub) → exits hub ≡ false) → {hub : Hub}
+    → IsImpulsed wiring exits closed hub → ⊥
+nothing_impulsed wiring exits closed silent (emitting hub there emits) = false≢true (sym (silent hub) ∙ emits)
+nothing_impulsed wiring exits closed silent (led_on from to at leads) = nothing_impulsed wiring exits closed silent at
+
+-- so its picture is empty too
+pub empty_picture : (wiring : Wiring) (exits closed : Hub → Bool) → ((hub : Hub) → exits hub ≡ false) → IsPicture wiring exits closed exits
+empty_picture wiring exits closed silent hub = (
+  λ emits. absurd (false≢true (sym (silent hub) ∙ emits)),
+  λ at. absurd (nothing_impulsed wiring exits closed silent at),
+)
+
 -- no hub is an exit and an entry
 pub no_exit_is_entry : (hub : Hub) → is_exit_hub hub ≡ true → is_entry_hub hub ≡ true → ⊥
 no_exit_is_entry hub exit entry = by (row_of (letters_of hub)).is_exit (is_hub_in_range hub) exit entry where

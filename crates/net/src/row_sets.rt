@@ -39,6 +39,13 @@ impl RowSets {
         }
     }
 
+    /// Takes all rows away.
+    pub fn clear(&mut self)
+        ensures { (row : ℕ) (hub : Hub) → has_row_at self.new row hub ≡ false }
+    {
+        self.places.clear();
+    }
+
     /// Adds the row at a place to the set of a hub. A hub out of range changes nothing.
     #[inline(always)]
     pub fn insert(&mut self, hub: Hub, place: usize)

@@ -6,6 +6,7 @@ pub mod Eights
 pub mod SixteenLemmas
 pub mod RibbonLemmas
 pub mod Touched
+pub mod Cleared
 pub mod BundleLemmas
 pub mod BankLemmas
 pub mod AlikeWires

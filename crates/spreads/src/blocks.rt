@@ -8,6 +8,9 @@ use crate::sets::PANEL_PLACES;
 // How many places a block has.
 const PLACES_IN_BLOCK: usize = 32;
 
+// The number of the last block.
+pub(crate) const LAST_BLOCK: usize = 60;
+
 // All blocks.
 pub(crate) const ALL_BLOCKS: u64 = u64::MAX;
 

@@ -1,9 +1,10 @@
 //! Sets of rows, one for each place.
 
-ghost use Rattle.std.specs.Prelude.{◌≡◌, ℕ, ◌-◌, ◌<◌, ◌&&◌, ◌||◌, nat_le, length};
+ghost use Rattle.std.specs.Prelude.{◌≡◌, ℕ, ◌-◌, ◌/◌, ◌<◌, ◌==◌, ◌&&◌, ◌||◌, nat_le, not, length};
+ghost use Rattle.spreads.specs.Blocks.{AreTouched};
 ghost use Rattle.spreads.specs.Links.{has_at};
 
-use crate::blocks::{block_of, blocks_from};
+use crate::blocks::{LAST_BLOCK, block_of, blocks_from};
 use std::marker::Model;
 
 /// How many places the panel has, and so how many sets there are. A set of bits has room for some more places.
@@ -77,6 +78,14 @@ impl PlaceSets {
         &self.sets[first..]
     }
 
+    /// Takes all rows away. Only the blocks that may have rows are cleared.
+    pub fn clear(&mut self)
+        ensures { (place row : ℕ) → has_at self.new place row ≡ false }
+    {
+        clear_blocks(&mut self.sets, self.touched);
+        self.touched = 0;
+    }
+
     /// Whether it is told that no place has a row.
     pub fn are_empty(&self) -> bool
         ensures { result ≡ true → (place row : ℕ) → has_at self.now place row ≡ false }
@@ -103,5 +112,42 @@ fn join(all: &mut [u16; PANEL_PLACES], first: usize, sets: &[u16])
     let count = sets.len().min(PANEL_PLACES - first);
     for k in 0..count {
         all[first + k] |= sets[k];
+    }
+}
+
+// Clears these blocks, where no place of the others has a row.
+fn clear_blocks(sets: &mut [u16; PANEL_PLACES], blocks: u64)
+    requires { AreTouched blocks sets.old }
+    ensures { AreTouched 0 sets.new }
+{
+    let mut left = blocks;
+    while left != 0 {
+        let block = left.trailing_zeros() as usize;
+        left &= !(1 << block);
+        clear_block(sets, block);
+    }
+}
+
+// Clears the sets of a block. The last block has sixteen places alone.
+fn clear_block(sets: &mut [u16; PANEL_PLACES], block: usize)
+    ensures rows { (place row : ℕ) → has_at sets.new place row ≡ (has_at sets.old place row && not (place / 32 == block)) }
+    ensures long { length sets.new ≡ PANEL_PLACES }
+{
+    if block <= LAST_BLOCK {
+        clear_sixteen(sets, 2 * block);
+    }
+    if block < LAST_BLOCK {
+        clear_sixteen(sets, 2 * block + 1);
+    }
+}
+
+// Clears sixteen sets that follow one another.
+fn clear_sixteen(sets: &mut [u16; PANEL_PLACES], sixteen: usize)
+    requires { sixteen < 121 }
+    ensures rows { (place row : ℕ) → has_at sets.new place row ≡ (has_at sets.old place row && not (place / 16 == sixteen)) }
+    ensures long { length sets.new ≡ PANEL_PLACES }
+{
+    for k in 0..16 {
+        sets[16 * sixteen + k] = 0;
     }
 }

@@ -30,12 +30,14 @@ use setups::Setup;
 use std::alloc::Global;
 
 // What a run holds between two cards: the machine, which was fed all cards that were read; the sums of all of them but the last; the last
-// one, if there was one; and how many there were. The lines are those of the last feed, in room that is taken once.
+// one, if there was one; and how many there were. The next card is punched into the place that it has, and the lines of a feed are put into
+// room that is taken once.
 #[derive(Drop)]
 pub(crate) struct Run {
     machine: Machine,
     sums: OpenSums,
     last: Option<Card>,
+    next: Option<Card>,
     pub count: u32,
     lines: Vec<PlacedLine>,
 }
@@ -53,6 +55,7 @@ pub(crate) fn begin(alloc: Global, chart: &Chart, setup: &Setup) -> Result<Run, 
         machine: Machine::new(alloc, setup)?,
         sums: OpenSums::new(chart),
         last: None,
+        next: None,
         count: 0,
         lines: Vec::new(alloc),
     })
@@ -78,15 +81,14 @@ pub(crate) fn step<S: Source + Drop, W: Sink + Drop>(
     ensures source { S.borrow cards.new.source ≡ S.borrow cards.old.source }
     ensures sink { W.borrow pages.new.out.sink ≡ W.borrow pages.old.out.sink }
 {
-    let mut next = None;
-    next_valid(chart, cards, run.count, &mut next)?;
-    if let Some(misfit) = try_totals(&mut run.sums, chart, &run.last, &next) {
+    next_valid(chart, cards, run.count, &mut run.next)?;
+    if let Some(misfit) = try_totals(&mut run.sums, chart, &run.last, &run.next) {
         return Err(StreamCause::Misfit { misfit });
     }
-    feed(&mut run.machine, &next, &mut run.lines)?;
+    feed(&mut run.machine, &run.next, &mut run.lines)?;
     pages.add_all(&run.lines)?;
-    let is_last = next.is_none();
-    run.last = next;
+    let is_last = run.next.is_none();
+    run.last = run.next;
     if is_last {
         return Ok(false);
     }
@@ -94,8 +96,7 @@ pub(crate) fn step<S: Source + Drop, W: Sink + Drop>(
     Ok(true)
 }
 
-// Puts the next card in its place, if it is valid for the chart, or `None` at the end of the deck; `number` cards were read before. A card
-// that were answered would be copied more often.
+// Puts the next card in its place, if it is valid for the chart, or `None` at the end of the deck; `number` cards were read before.
 fn next_valid<S: Source + Drop>(
     chart: &Chart,
     cards: &mut CardLines<S>,
@@ -118,9 +119,8 @@ fn next_valid<S: Source + Drop>(
     ensures failed { IfErr result (λ fault. (line : ℕ) → fault ≡ cause.Card (read.Read line) → S.has_failed cards.new.source ≡ true) }
     ensures same { S.borrow cards.new.source ≡ S.borrow cards.old.source }
 {
-    match cards.next_card() {
-        Ok(found) => *next = found,
-        Err(fault) => return Err(fault.into()),
+    if let Err(fault) = cards.next_into(next) {
+        return Err(fault.into());
     }
     if let Some(card) = &*next {
         if let Err(fault) = valid_card(chart, card) {
@@ -164,5 +164,7 @@ fn feed(
     ensures refused { IfErr result (λ fault. fault ≡ cause.Memory) }
 {
     lines.clear();
-    machine.feed(*next, lines).map_err(|_| StreamCause::Memory)
+    machine
+        .feed_next(next, lines)
+        .map_err(|_| StreamCause::Memory)
 }

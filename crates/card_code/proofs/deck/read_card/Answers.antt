@@ -1,13 +1,7 @@
-use Rattle.std.proofs.Common.{refl}
-use Rattle.card_code.proofs.Punches.{punched-card, punched-lawful, punched-odd}
+use Rattle.std.proofs.lemmas.Result.{err_from_is_err_and}
 use Rattle.card_code.proofs.deck.read_card.Goals as goal
 
-pub odd_column-requires-clause-odd : goal.odd_column-requires-clause-odd
-odd_column-requires-clause-odd c = punched-odd _ _ _ _ refl c.punch.ensures c.if-punch-ge-NO_ROWS.true
-
-pub of_rows-requires : goal.of_rows-requires
-of_rows-requires c = punched-lawful _ _ _ _ refl c.punch.ensures c.if-punch-ge-NO_ROWS.false
-
-pub returns-clause-card : goal.returns-clause-card
-returns-clause-card c =
-    rw c.of_rows.ensures (punched-card _ _ _ _ refl c.punch.ensures c.if-punch-ge-NO_ROWS.false c.if-line-gt-CARD_COLUMNS.false)
+pub returns-in_err-punch_line-clause-fault : goal.returns-in_err-punch_line-clause-fault
+returns-in_err-punch_line-clause-fault c =
+    let p = err_from_is_err_and c.from_residual.result c.from_residual.ensures.1 in
+    rw (p.1, p.2) c.in_err-punch_line.ensures.fault

@@ -6,28 +6,28 @@ use Rattle.streamed_runs.proofs.run.next_valid.Goals as goal
 
 pub returns-in-Err-valid_card-clause-read : goal.returns-in-Err-valid_card-clause-read
 returns-in-Err-valid_card-clause-read g c = λ text before come counted.
-    invalid_next g.S.Source.left c.args.chart.now text before c.next_card.new.self c.in-Ok.found c.in-Some.card c.in-Err-valid_card.fault
+    invalid_next g.S.Source.left c.args.chart.now text before c.next_into.new.self c.next_into.new.next c.in-Some.card c.in-Err-valid_card.fault
     c.args.number
     counted c.in-Some.is c.in-Err-valid_card.ensures.first
-    (reads_on g.S.Source.left text before c.args.cards.now c.next_card.new.self c.in-Ok.found
-    (subst (λ n. n ≤ most_cards) (sym counted) c.requires.few) c.in-Ok.ensures.card c.in-Ok.ensures.none come)
+    (reads_on g.S.Source.left text before c.args.cards.now c.next_into.new.self c.next_into.new.next
+    (subst (λ n. n ≤ most_cards) (sym counted) c.requires.few) c.in_default.ensures.card c.in_default.ensures.none come)
 
 pub returns-clause-read : goal.returns-clause-read
 returns-clause-read g c = λ text before come counted.
-    reads_on g.S.Source.left text before c.args.cards.now c.next_card.new.self c.in-Ok.found
-    (subst (λ n. n ≤ most_cards) (sym counted) c.requires.few) c.in-Ok.ensures.card c.in-Ok.ensures.none come
+    reads_on g.S.Source.left text before c.args.cards.now c.next_into.new.self c.next_into.new.next
+    (subst (λ n. n ≤ most_cards) (sym counted) c.requires.few) c.in_default.ensures.card c.in_default.ensures.none come
 
 pub returns-in-Err-clause-up_to : goal.returns-in-Err-clause-up_to
 returns-in-Err-clause-up_to g c = λ text before come.
     rw c.into.ensures
-    (fault_up_to g.S.Source.left text before c.args.cards.now c.next_card.new.self c.in-Err.fault c.in-Err.ensures.kept
+    (fault_up_to g.S.Source.left text before c.args.cards.now c.next_into.new.self c.in-Err.fault c.in-Err.ensures.kept
     (c.in-Err.ensures.part c.requires.well) come)
 
 pub returns-in-Err-valid_card-clause-up_to : goal.returns-in-Err-valid_card-clause-up_to
 returns-in-Err-valid_card-clause-up_to g c = λ text before come.
     up_to_other text before cause.Write (cause.Invalid c.in-Err-valid_card.fault (c.args.number + 1)) _ no_invalid_read
-    (found_up_to g.S.Source.left text before c.args.cards.now c.next_card.new.self c.in-Ok.found c.in-Ok.ensures.card c.in-Ok.ensures.kept come)
+    (found_up_to g.S.Source.left text before c.args.cards.now c.next_into.new.self c.next_into.new.next c.in_default.ensures.card c.in_default.ensures.kept come)
 
 pub returns-clause-up_to : goal.returns-clause-up_to
 returns-clause-up_to g c = λ text before come.
-    found_up_to g.S.Source.left text before c.args.cards.now c.next_card.new.self c.in-Ok.found c.in-Ok.ensures.card c.in-Ok.ensures.kept come
+    found_up_to g.S.Source.left text before c.args.cards.now c.next_into.new.self c.next_into.new.next c.in_default.ensures.card c.in_default.ensures.kept come

@@ -27,7 +27,7 @@ returns-in-Line-clause-card g c =
     of_found _ _
     (λ card gave text known. given_as _ _ text card c.in-Ok.ensures.given
     (gave text (still_known _ _ text c.in-Ok.ensures.text known)))
-    c.take_line.result c.take_line.ensures.card
+    c.take_line.result c.take_line.new.next c.take_line.ensures.card
 
 pub returns-in-Part-clause-none : goal.returns-in-Part-clause-none
 returns-in-Part-clause-none g c = λ text known.
@@ -44,4 +44,4 @@ returns-in-Part-2-clause-card g c =
     of_found _ _
     (λ card gave text known. given_as _ _ text card c.in-Ok.ensures.given
     (gave text (still_known _ _ text c.in-Ok.ensures.text known)))
-    c.take_line-in-Part-2.result c.take_line-in-Part-2.ensures.card
+    c.take_line-in-Part-2.result c.take_line-in-Part-2.new.next c.take_line-in-Part-2.ensures.card

@@ -1,4 +1,5 @@
-use Rattle.std.proofs.Common.{option_to_list, sym, ◌∙◌}
+use Rattle.std.proofs.Common.{refl, sym, ◌∙◌}
+use Rattle.machine.specs.Cycles.{line_of}
 use Rattle.machine.specs.Feeds.{Fed, begun}
 use Rattle.machine.proofs.FeedSteps.{ends-falls}
 use Rattle.machine.proofs.Going.{Gone-more, Gone-all}
@@ -16,8 +17,8 @@ loop-cycle-preserved c =
     let old : Fed = record { machine = c.loop-cycle.self; waits = c.loop-cycle.waits; next = c.args.next.now } in
     let new : Fed = record { machine = c.run_due-waits.new.self; waits = c.run_due-waits.result; next = c.args.next.now } in
     Gone-more c.args.net.now (begun c.args.self.now c.args.next.now) c.args.out.now.items old c.loop-cycle.out.items
-    c.in-Some.cycle new (option_to_list c.placed_line.result) c.append_line.new.lines.items c.loop-cycle.invariant
-    c.run_due-waits.ensures.step c.placed_line.ensures c.in_ok-append_line.ensures.appended
+    c.in-Some.cycle new (line_of c.run_due-waits.new.self) c.append_line.new.lines.items c.loop-cycle.invariant
+    c.run_due-waits.ensures.step refl c.in_ok-append_line.ensures.appended
 
 pub returns-clause-fed : goal.returns-clause-fed
 returns-clause-fed c =

@@ -13,7 +13,7 @@ returns-clause-ran c wiring is_net =
     rows-direct wiring c.args.cycle c.args.self.now c.sense_rows.new.self c.emit_rows.new.sets c.spread.new.sets
     (c.requires wiring is_net)
     (λ row hub. c.emit_rows.ensures.rows row hub
-    ∙ ap (λ b. b || emits c.args.self.now c.args.cycle (Row row) hub) (c.new-rows.ensures (passing_place row) hub))
+    ∙ ap (λ b. b || emits c.args.self.now c.args.cycle (Row row) hub) (c.clear.ensures (passing_place row) hub))
     (c.spread.ensures wiring is_net) c.sense_rows.ensures
 
 pub returns-clause-keeps : goal.returns-clause-keeps

@@ -13,14 +13,14 @@ pub spread_through-requires : goal.spread_through-requires
 spread_through-requires c =
     contacts-silent c.args.self.now c.args.cycle c.emit_rows.new.sets
     (λ row hub. c.emit_rows.ensures.rows row hub
-    ∙ ap (λ b. b || emits c.args.self.now c.args.cycle (Row row) hub) (c.new-sets.ensures (passing_place row) hub))
+    ∙ ap (λ b. b || emits c.args.self.now c.args.cycle (Row row) hub) (c.clear.ensures (passing_place row) hub))
 
 pub returns-then-spread_through-clause-ran : goal.returns-then-spread_through-clause-ran
 returns-then-spread_through-clause-ran c wiring is_net =
     rows-run wiring c.args.cycle c.args.closed.now c.args.self.now c.sense_rows.new.self c.emit_rows.new.sets c.spread_through.new.sets
     c.emit_rows.ensures.ordered c.requires
     (λ row hub. c.emit_rows.ensures.rows row hub
-    ∙ ap (λ b. b || emits c.args.self.now c.args.cycle (Row row) hub) (c.new-sets.ensures (passing_place row) hub))
+    ∙ ap (λ b. b || emits c.args.self.now c.args.cycle (Row row) hub) (c.clear.ensures (passing_place row) hub))
     (c.spread_through.ensures c.if-spread_through.true wiring is_net) c.sense_rows.ensures
 
 pub returns-then-spread_through-clause-keeps : goal.returns-then-spread_through-clause-keeps
