@@ -10,11 +10,11 @@ use Rattle.ledgers.specs.Ledgers.{card_in, ready}
 use Rattle.machine.specs.Machine.{MachineState, closes, emits}
 use Rattle.net.specs.Impulsed.{IsImpulsed, emitting, led_on}
 use Rattle.net.specs.declared.cycle.Cycle.{Cycle}
-use Rattle.net.specs.declared.cycle.Cycle.TheVariants.{Card}
+use Rattle.net.specs.declared.cycle.Cycle.TheVariants.{RunIn, Card, Prog, Head}
 use Rattle.net.specs.declared.cycle.Point.TheVariants.{Row}
 use Rattle.origins.proofs.Standing.{cards-numbered, points-stations}
 use Rattle.origins.specs.Cards.{CardsStand}
-use Rattle.origins.specs.Holes.{column_to, first_of, hole_at, hole_in, hole_to, leads_to}
+use Rattle.origins.specs.Holes.{column_to, first_of, hole_at, hole_in, hole_in_cycle, hole_to, leads_to}
 use Rattle.origins.specs.declared.holes.Hole.{Hole}
 use Rattle.origins.specs.declared.holes.Station.{Station}
 use Rattle.origins.specs.declared.holes.Station.TheVariants.{First, Second}
@@ -87,9 +87,9 @@ last-of-two b is = is
 
 -- from a brush that emits an impulse goes along the wire
 module _ (wiring : Wiring) (row : CardRow) (entry : Hub) (now : MachineState) where
-  led : (exit : Hub) → stations_emits now.stations Card (Row row) exit ≡ true → is_wired wiring exit entry ≡ true
-      → IsImpulsed wiring (emits now Card (Row row)) (closes now Card (Row row)) entry
-  led exit sends wired =
+  led : (cycle : Cycle) (exit : Hub) → stations_emits now.stations cycle (Row row) exit ≡ true → is_wired wiring exit entry ≡ true
+      → IsImpulsed wiring (emits now cycle (Row row)) (closes now cycle (Row row)) entry
+  led cycle exit sends wired =
       let wire : HasWire wiring exit entry = (HasWire-is_wired wiring exit entry).0 wired in
       led_on exit entry (emitting exit (in_range exit wire.number wire.numbered) (all-emit _ _ _ _ _ _ _ _ _ _ _ sends)) (inl wire)
 
@@ -97,14 +97,14 @@ module _ (wiring : Wiring) (row : CardRow) (entry : Hub) (now : MachineState) wh
       → IsImpulsed wiring (emits now Card (Row row)) (closes now Card (Row row)) entry
   from-second card column stands leads =
       let both = and_parts (is_punched_at card row column) (is_wired wiring (SR column) entry) leads in
-      led (SR column)
+      led Card (SR column)
       (last-of-two _ (ap (λ (c : Option (List ℕ)). is_punched_at c row column) stands ∙ both.0)) both.1
 
   from-first : (card : Option (List ℕ)) (column : ℕ) → now.stations.first ≡ card → leads_to wiring card First row entry column ≡ true
       → IsImpulsed wiring (emits now Card (Row row)) (closes now Card (Row row)) entry
   from-first card column stands leads =
       let both = and_parts (is_punched_at card row column) (is_wired wiring (FR column) entry) leads in
-      led (FR column)
+      led Card (FR column)
       (first-of-two _ _ (ap (λ (c : Option (List ℕ)). is_punched_at c row column) stands ∙ both.0)) both.1
 
 -- in a card cycle
@@ -119,19 +119,43 @@ in-card-cycle wiring deck card row entry hole now stand told = by (has-hole wiri
         from-second wiring row entry now (slice_get deck (suc card - 1)) found.0 (stand.second ∙ ap (slice_get deck) before) found.1
     by (inr found) = from-first wiring row entry now (slice_get deck (suc card)) found.0 stand.first found.1
 
+-- in the run-in
+in-run-in : (wiring : Wiring) (deck : List (List ℕ)) (card : ℕ) (row : CardRow) (entry : Hub) (hole : Hole) (now : MachineState)
+    → CardsStand deck card now → hole_at wiring (slice_get deck card) First row entry ≡ Some hole
+    → IsImpulsed wiring (emits now RunIn (Row row)) (closes now RunIn (Row row)) entry
+in-run-in wiring deck card row entry hole now stand told = by (column_to wiring (slice_get deck card) First row entry 80) refl told
+  where
+    by : (column : Option ℕ) → column_to wiring (slice_get deck card) First row entry 80 ≡ column → hole_in First column ≡ Some hole
+        → IsImpulsed wiring (emits now RunIn (Row row)) (closes now RunIn (Row row)) entry
+    by (Some column) is same =
+        let leads = column-leads wiring (slice_get deck card) First row entry 80 column is in
+        let both = and_parts (is_punched_at (slice_get deck card) row column) (is_wired wiring (FR column) entry) leads in
+        led wiring row entry now RunIn (FR column)
+        (ap (λ (c : Option (List ℕ)). is_punched_at c row column) stand.first ∙ both.0) both.1
+    by None is same = absurd (none-is hole same)
+
+-- in any cycle
+in-cycle : (wiring : Wiring) (deck : List (List ℕ)) (row : CardRow) (entry : Hub) (hole : Hole) (now : MachineState) (cycle : Cycle) (card : ℕ)
+    → CardsStand deck (card_in cycle card) now → hole_in_cycle wiring deck cycle (card_in cycle card) row entry ≡ Some hole
+    → IsImpulsed wiring (emits now cycle (Row row)) (closes now cycle (Row row)) entry
+in-cycle wiring deck row entry hole now RunIn card stand told = in-run-in wiring deck card row entry hole now stand told
+in-cycle wiring deck row entry hole now Card card stand told =
+    let next : card + 1 ≡ suc card = omega arith in
+    in-card-cycle wiring deck card row entry hole now (subst (λ (n : ℕ). CardsStand deck n now) next stand)
+    (ap (λ (n : ℕ). hole_to wiring deck n row entry) (sym next) ∙ told)
+in-cycle wiring deck row entry hole now (Prog level ordinal) card stand told = absurd (none-is hole told)
+in-cycle wiring deck row entry hole now (Head heading) card stand told = absurd (none-is hole told)
+
 -- in a run
 pub holes-impulse : HolesImpulseEntries
-holes-impulse wiring deck passed has row entry hole points now is told reached =
+holes-impulse wiring deck passed has row entry hole points now told reached =
     let stations : now.stations ≡ has.behind.stations =
     points-stations wiring has.cycle points (ready has.cycle has.along) now reached
     ∙ sym (points-stations wiring has.cycle 14 (ready has.cycle has.along) has.behind has.goes.reached) in
     let stand = cards-numbered wiring deck passed has in
-    let here : CardsStand deck (card_in has.cycle has.along.card) now = record {
+    in-cycle wiring deck row entry hole now has.cycle has.along.card
+    (record {
       second = ap (λ (s : StationCards). s.second) stations ∙ stand.second;
       first = ap (λ (s : StationCards). s.first) stations ∙ stand.first;
-    } in
-    let next : has.along.card + 1 ≡ suc has.along.card = omega arith in
-    let read : card_in has.cycle has.along.card ≡ suc has.along.card = ap (λ (c : Cycle). card_in c has.along.card) is ∙ next in
-    subst (λ (c : Cycle). IsImpulsed wiring (emits now c (Row row)) (closes now c (Row row)) entry) (sym is)
-    (in-card-cycle wiring deck has.along.card row entry hole now (subst (λ (n : ℕ). CardsStand deck n now) read here)
-    (ap (λ (n : ℕ). hole_to wiring deck n row entry) (sym read) ∙ told))
+    })
+    told

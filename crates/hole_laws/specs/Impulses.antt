@@ -7,18 +7,17 @@ use Rattle.ledgers.specs.Running.{HasCycle}
 use Rattle.machine.specs.Cycles.{Reached}
 use Rattle.machine.specs.Machine.{MachineState, closes, emits}
 use Rattle.net.specs.Impulsed.{IsImpulsed}
-use Rattle.net.specs.declared.cycle.Cycle.TheVariants.{Card}
 use Rattle.net.specs.declared.cycle.Point.TheVariants.{Row}
-use Rattle.origins.specs.Holes.{hole_to}
+use Rattle.origins.specs.Holes.{hole_in_cycle}
 use Rattle.origins.specs.declared.holes.Hole.{Hole}
 use Rattle.setups.specs.Wiring.{Wiring}
 
--- In a card cycle of a run, at any of its points, the machine impulses an entry when a row passes, if a hole is told for the row and the
--- entry by the number of the card that is read.
+-- In a cycle of a run, at any of its points, the machine impulses an entry when a row passes, if a hole is told for the row and the entry by
+-- how many cards were read.
 abbrev pub HolesImpulseEntries : Type 0
 HolesImpulseEntries =
     (wiring : Wiring) (deck : List (List ℕ)) (passed : ℕ) (has : HasCycle wiring deck passed) (row : CardRow) (entry : Hub) (hole : Hole)
     (points : ℕ) (now : MachineState)
-    → has.cycle ≡ Card → hole_to wiring deck (card_in has.cycle has.along.card) row entry ≡ Some hole
+    → hole_in_cycle wiring deck has.cycle (card_in has.cycle has.along.card) row entry ≡ Some hole
     → Reached wiring has.cycle points (ready has.cycle has.along) now
     → IsImpulsed wiring (emits now has.cycle (Row row)) (closes now has.cycle (Row row)) entry

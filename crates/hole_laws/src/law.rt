@@ -2,8 +2,8 @@
 
 ghost use Rattle.hole_laws.specs.Impulses.{HolesImpulseEntries};
 
-/// If a hole of a card is told for a row and an entry, then the entry is impulsed when that row passes, in the card cycle of the run in which
-/// it is told. The function does nothing: its contract is the law.
+/// If a hole of a card is told for a row and an entry, then the entry is impulsed when that row passes, in the cycle of the run in which it is
+/// told. The function does nothing: its contract is the law.
 pub fn holes_impulse_entries()
     ensures { HolesImpulseEntries }
 {}

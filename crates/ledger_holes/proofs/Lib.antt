@@ -1,2 +1,1 @@
 mod Texts
-mod InCycle

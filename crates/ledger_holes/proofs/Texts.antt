@@ -1,9 +1,14 @@
 -- Texts that grow piece by piece.
 use Rattle.std.proofs.Common.{◌≡◌, ◌∙◌, ap, ℕ, zero, suc, ◌+◌, ◌-◌, ◌/◌, ◌%◌, ◌<◌, List, ◌++◌, append_assoc, arith}
-use Rattle.std.specs.Prelude.{OnOk, Result, Ok, Err}
+use Rattle.std.specs.Prelude.{OnOk, Option, Result, Ok, Err}
 use Rattle.setups.specs.Wiring.{Wiring}
+use Rattle.ledger_text.specs.Entries.{Words, gap_lines}
+use Rattle.ledgers.specs.Summaries.{Summary}
 use Rattle.ledgers.specs.declared.account.Account.{Account}
+use Rattle.ledgers.specs.declared.entry.Entry.{Entry}
+use Rattle.ledgers.specs.declared.ledger.LeftOut.{LeftOut}
 use Rattle.ledger_holes.specs.Digits.{digit_line, digit_lines}
+use Rattle.ledger_holes.specs.Down.{entries_down, summary_down}
 use Rattle.ledger_holes.specs.Positions.{position_in}
 use Rattle.ledger_holes.specs.declared.positions.Position.{Position}
 
@@ -25,3 +30,21 @@ digits-more (Ok x) wiring cards account card (suc count) fewer position number a
     ∙ ap (λ (l : List ℕ). l ++ line)
     (front ∙ ap (λ (k : ℕ). old ++ digit_lines wiring cards account card k (position + 1) (number / 10)) here)
     ∙ append_assoc old (digit_lines wiring cards account card count (position + 1) (number / 10)) line
+
+-- the entries of a ledger at both ends, down to the holes, and the line between them
+pub summary-down : {X E : Type 0} (result : Result X E) (wiring : Wiring) (cards : List (List ℕ)) (words : Option Words) (told : Summary)
+    (account : Account) (first last : List Entry) (left_out : LeftOut) (old one two new : List ℕ) → account ≡ told.account
+    → first ≡ told.first → left_out ≡ told.left_out → last ≡ told.last → one ≡ old ++ entries_down wiring cards words account first
+    → two ≡ one ++ gap_lines words left_out → OnOk result (new ≡ two ++ entries_down wiring cards words account last)
+    → OnOk result (new ≡ old ++ summary_down wiring cards words told)
+summary-down (Err e) wiring cards words told account first last left_out old one two new of is_first is_left is_last begun more ended = tt
+summary-down (Ok x) wiring cards words told account first last left_out old one two new of is_first is_left is_last begun more ended =
+    let down : Account → List Entry → List ℕ = entries_down wiring cards words in
+    ended
+    ∙ ap (λ (l : List ℕ). l ++ down account last)
+    (more ∙ ap (λ (l : List ℕ). l ++ gap_lines words left_out) begun ∙ append_assoc old (down account first) (gap_lines words left_out))
+    ∙ append_assoc old (down account first ++ gap_lines words left_out) (down account last)
+    ∙ ap (λ (a : Account). old ++ ((down a first ++ gap_lines words left_out) ++ down a last)) of
+    ∙ ap (λ (l : List Entry). old ++ ((down told.account l ++ gap_lines words left_out) ++ down told.account last)) is_first
+    ∙ ap (λ (l : LeftOut). old ++ ((down told.account told.first ++ gap_lines words l) ++ down told.account last)) is_left
+    ∙ ap (λ (l : List Entry). old ++ ((down told.account told.first ++ gap_lines words told.left_out) ++ down told.account l)) is_last

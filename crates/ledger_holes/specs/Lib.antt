@@ -1,5 +1,4 @@
 pub mod Positions
 pub mod Digits
 pub mod Down
-pub mod InCycle
 pub mod Feeding

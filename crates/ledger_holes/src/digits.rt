@@ -51,7 +51,7 @@ fn write_led(
 {
     let Some(hole) = hole else {
         write_entry(text, at_position)?;
-        return text.write_all(b", by no wire from a card");
+        return text.write_all(b", by no wire straight from a card");
     };
     write_brush(text, hole)?;
     text.write_all(b" -> ")?;

@@ -89,12 +89,23 @@ decimals_in (Some words) = words.decimals
 decimals_in None = 0
 
 -- how many entries are left out
+abbrev pub entries_word : ℕ → List ℕ
+entries_word count = if nat_eq count 1 then codes " more entry" else codes " more entries"
+
 abbrev pub count_text : ℕ → List ℕ
-count_text count = codes "  " ++ decimal count ++ codes " more entries"
+count_text count = codes "  " ++ decimal count ++ entries_word count
+
+-- how many carries came in in them, if one did
+abbrev pub carries_word : ℕ → List ℕ
+carries_word carries = if nat_eq carries 1 then codes " carry" else codes " carries"
+
+abbrev pub carries_text : ℕ → List ℕ
+carries_text carries = if nat_eq carries 0 then [] else codes ", and " ++ decimal carries ++ carries_word carries
 
 -- and what they come to
 abbrev pub together_text : ℕ → LeftOut → List ℕ
-together_text decimals left_out = codes ", together " ++ balance_text decimals left_out.plus left_out.minus ++ codes "\n"
+together_text decimals left_out =
+    codes ", together " ++ balance_text decimals left_out.plus left_out.minus ++ carries_text left_out.carries ++ codes "\n"
 
 -- the line in place of the entries that are left out
 abbrev pub gap_line : Option Words → LeftOut → List ℕ

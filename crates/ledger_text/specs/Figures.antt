@@ -1,5 +1,5 @@
 -- The figure that stands on a wheel of a line: its characters up to a blank on either side.
-use Rattle.std.specs.Prelude.{ℕ, zero, suc, ◌+◌, ◌-◌, nat_eq, Bool, not, List, [], ◌∷◌, ◌++◌, codes, drop, slice_index_or, take, if◌then◌else◌}
+use Rattle.std.specs.Prelude.{ℕ, zero, suc, ◌+◌, ◌-◌, nat_eq, Bool, not, List, drop, slice_index_or, take, if◌then◌else◌}
 use Rattle.std.specs.List.{prefix_len}
 
 -- whether a character is a blank
@@ -18,9 +18,3 @@ up_to_blank text = take (prefix_len (λ character. not (is_blank character)) tex
 -- the figure on a wheel, 1 to 120
 abbrev pub figure_at : List ℕ → ℕ → List ℕ
 figure_at text wheel = up_to_blank (drop (begin_of text (wheel - 1)) text)
-
--- what was printed: that figure, or that the wheel itself is blank
-abbrev pub printed_text : List ℕ → ℕ → List ℕ
-printed_text text wheel =
-    if is_blank (slice_index_or text (wheel - 1) 32) then codes "printed a blank\n"
-    else codes "printed " ++ figure_at text wheel ++ codes "\n"

@@ -6,8 +6,8 @@ ghost use Rattle.ledger_text.specs.Amounts.{amount_text, balance_text, digits_te
 use std::io;
 use std::io::Write;
 
-// The last so many digits of a number.
-pub(crate) fn write_digits(text: &mut Vec<u8>, width: u32, number: u128) -> io::Result<()>
+/// Puts behind a text the last so many digits of a number. Fails only if no memory is left.
+pub fn write_digits(text: &mut Vec<u8>, width: u32, number: u128) -> io::Result<()>
     ensures { OnOk result (text.new.items ≡ text.old.items ++ digits_text width number) }
 {
     if width == 0 {

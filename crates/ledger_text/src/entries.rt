@@ -3,7 +3,7 @@
 ghost use Rattle.std.specs.Prelude.{◌≡◌, ◌≤◌, ◌<◌, ◌+◌, ◌++◌, OnOk, option_map};
 ghost use Rattle.counters.specs.Counters.{width_of};
 ghost use Rattle.ledgers.specs.Accounts.{IsAccount, positions_of};
-ghost use Rattle.ledger_text.specs.Entries.{Words, after_card_text, carry_text, change_text, control_text, count_text, decimals_in, entry_line, entry_lines, gap_line, gap_lines, source_text, sourced_text, sum_text, titled_text, together_text, total_text, words_text};
+ghost use Rattle.ledger_text.specs.Entries.{Words, after_card_text, carries_text, carries_word, carry_text, change_text, control_text, count_text, decimals_in, entries_word, entry_line, entry_lines, gap_line, gap_lines, source_text, sourced_text, sum_text, titled_text, together_text, total_text, words_text};
 ghost use Rattle.ledger_text.specs.Titles.{words_of};
 
 use crate::amounts::{write_amount, write_balance, write_digits};
@@ -229,7 +229,37 @@ pub fn write_gap(text: &mut Vec<u8>, title: &Option<Title>, left_out: LeftOut) -
 fn write_count(text: &mut Vec<u8>, count: u64) -> io::Result<()>
     ensures { OnOk result (text.new.items ≡ text.old.items ++ count_text count) }
 {
-    write!(text, "  {count} more entries")
+    write!(text, "  {count}")?;
+    text.write_all(entries_word(count))
+}
+
+// One entry, or several.
+fn entries_word(count: u64) -> &'static [u8]
+    ensures { result.now ≡ entries_word count }
+{
+    if count == 1 {
+        b" more entry"
+    } else {
+        b" more entries"
+    }
+}
+
+// One carry, or several.
+fn carries_word(carries: u64) -> &'static [u8]
+    ensures { result.now ≡ carries_word carries }
+{
+    if carries == 1 { b" carry" } else { b" carries" }
+}
+
+// How many carries came in in them, if one did.
+fn write_carries(text: &mut Vec<u8>, carries: u64) -> io::Result<()>
+    ensures { OnOk result (text.new.items ≡ text.old.items ++ carries_text carries) }
+{
+    if carries == 0 {
+        return Ok(());
+    }
+    write!(text, ", and {carries}")?;
+    text.write_all(carries_word(carries))
 }
 
 // What they come to.
@@ -238,6 +268,7 @@ fn write_together(text: &mut Vec<u8>, decimals: u32, left_out: LeftOut) -> io::R
 {
     text.write_all(b", together ")?;
     write_balance(text, decimals, left_out.plus, left_out.minus)?;
+    write_carries(text, left_out.carries)?;
     text.write_all(b"\n")
 }
 

@@ -7,3 +7,4 @@ mod Coupled
 pub mod Summaries
 pub mod Running
 pub mod Keeping
+mod InCycle

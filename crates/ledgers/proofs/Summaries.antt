@@ -5,7 +5,7 @@ use Rattle.std.proofs.lemmas.Grind.{common_steps}
 use Rattle.std.specs.Prelude.{sum_by}
 use Rattle.net.specs.declared.cycle.Cycle.{Cycle}
 use Rattle.ledgers.specs.Entries.{entry_of, is_added, is_cleared, ledger_after}
-use Rattle.ledgers.specs.Summaries.{Summary, between_of, emptied, entry_minus, entry_plus, kept_last, last_of, left_out_of, pushed, shifted, shifted_by, summary_after, summary_of, with_left_out}
+use Rattle.ledgers.specs.Summaries.{Summary, between_of, emptied, entry_carry, entry_minus, entry_plus, kept_last, last_of, left_out_of, pushed, shifted, shifted_by, summary_after, summary_of, with_left_out}
 use Rattle.ledgers.specs.declared.account.Account.{Account}
 use Rattle.ledgers.specs.declared.entry.Entry.{Entry}
 use Rattle.ledgers.specs.declared.entry.Movement.{Movement}
@@ -85,15 +85,19 @@ module _ {X : Type 0} where
 left-out-one : (entries : List Entry) (entry : Entry) → left_out_of (entries ++ entry ∷ []) ≡ with_left_out entry (left_out_of entries)
 left-out-one entries entry =
     by (length (entries ++ entry ∷ [])) (sum_by entry_plus (entries ++ entry ∷ [])) (sum_by entry_minus (entries ++ entry ∷ []))
-    (length-one entries entry) (sum-one entry_plus entries entry) (sum-one entry_minus entries entry)
+    (sum_by entry_carry (entries ++ entry ∷ []))
+    (length-one entries entry) (sum-one entry_plus entries entry) (sum-one entry_minus entries entry) (sum-one entry_carry entries entry)
   where
-    by : (count plus minus : ℕ) → count ≡ length entries + 1 → plus ≡ sum_by entry_plus entries + entry_plus entry
-        → minus ≡ sum_by entry_minus entries + entry_minus entry
-        → record { count = count; plus = plus; minus = minus } ≡ with_left_out entry (left_out_of entries)
-    by count plus minus one two three =
-        ap (λ (n : ℕ). record { count = n; plus = plus; minus = minus }) one
-        ∙ ap (λ (n : ℕ). record { count = length entries + 1; plus = n; minus = minus }) two
-        ∙ ap (λ (n : ℕ). record { count = length entries + 1; plus = sum_by entry_plus entries + entry_plus entry; minus = n }) three
+    by : (count plus minus carries : ℕ) → count ≡ length entries + 1 → plus ≡ sum_by entry_plus entries + entry_plus entry
+        → minus ≡ sum_by entry_minus entries + entry_minus entry → carries ≡ sum_by entry_carry entries + entry_carry entry
+        → record { count = count; plus = plus; minus = minus; carries = carries } ≡ with_left_out entry (left_out_of entries)
+    by count plus minus carries one two three four =
+        let more_plus = sum_by entry_plus entries + entry_plus entry in
+        let more_minus = sum_by entry_minus entries + entry_minus entry in
+        ap (λ (n : ℕ). record { count = n; plus = plus; minus = minus; carries = carries }) one
+        ∙ ap (λ (n : ℕ). record { count = length entries + 1; plus = n; minus = minus; carries = carries }) two
+        ∙ ap (λ (n : ℕ). record { count = length entries + 1; plus = more_plus; minus = n; carries = carries }) three
+        ∙ ap (λ (n : ℕ). record { count = length entries + 1; plus = more_plus; minus = more_minus; carries = n }) four
 
 -- what is kept, by its parts
 abbrev kept : Account → ℕ → List Entry → List Entry → List Entry → Summary

@@ -5,3 +5,4 @@ pub mod Coupled
 pub mod Summaries
 pub mod Running
 pub mod Cycles
+pub mod InCycle

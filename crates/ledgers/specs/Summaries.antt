@@ -1,6 +1,7 @@
 -- What is kept of a ledger: of a long one the first entries and the last ones, and of those between how many they are, and together what
--- was added and what was subtracted in them.
+-- was added, what was subtracted and how many carries came in.
 use Rattle.std.specs.Prelude.{ℕ, ◌+◌, ◌*◌, ◌-◌, ◌^◌, ◌≤◌, nat_lt, List, [], ◌∷◌, ◌++◌, drop, length, sum_by, take, if◌then◌else◌}
+use Rattle.counters.specs.Laws.{carry_number}
 use Rattle.net.specs.declared.cycle.Cycle.{Cycle}
 use Rattle.ledgers.specs.Entries.{entry_of, is_added, is_cleared}
 use Rattle.ledgers.specs.declared.account.Account.{Account}
@@ -33,9 +34,18 @@ entry_plus entry = plus_of entry.change entry.entered
 abbrev pub entry_minus : Entry → ℕ
 entry_minus entry = minus_of entry.change entry.entered
 
+-- the carry that came in at the units in the cycle of an entry, as a number
+abbrev pub entry_carry : Entry → ℕ
+entry_carry entry = carry_number entry.carry
+
 -- entries that are left out
 abbrev pub left_out_of : List Entry → LeftOut
-left_out_of entries = record { count = length entries; plus = sum_by entry_plus entries; minus = sum_by entry_minus entries }
+left_out_of entries = record {
+  count = length entries;
+  plus = sum_by entry_plus entries;
+  minus = sum_by entry_minus entries;
+  carries = sum_by entry_carry entries;
+}
 
 -- of the entries behind the first ones, those that are no last ones, where so many are
 abbrev pub between_of : ℕ → List Entry → List Entry
@@ -59,10 +69,11 @@ summary_of account ends entries = record {
 pub record IsBounded (left_out : LeftOut) : Type 0 where
   pub plus : left_out.plus ≤ left_out.count * 2 ^ 64
   pub minus : left_out.minus ≤ left_out.count * 2 ^ 64
+  pub carries : left_out.carries ≤ left_out.count
 
 -- nothing is left out
 abbrev pub nothing_left_out : LeftOut
-nothing_left_out = record { count = 0; plus = 0; minus = 0 }
+nothing_left_out = record { count = 0; plus = 0; minus = 0; carries = 0 }
 
 -- no entry any more
 abbrev pub emptied : Summary → Summary
@@ -74,6 +85,7 @@ with_left_out entry left_out = record {
   count = left_out.count + 1;
   plus = left_out.plus + entry_plus entry;
   minus = left_out.minus + entry_minus entry;
+  carries = left_out.carries + entry_carry entry;
 }
 
 -- the first of the last entries is left out

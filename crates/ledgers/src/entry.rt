@@ -23,7 +23,7 @@ pub enum Change {
     Apart,
 }
 
-/// A cycle that changed a number.
+/// A cycle in which something came to a number.
 #[derive(Clone, Copy, Debug)]
 pub struct Entry {
     /// Which cycle it was.

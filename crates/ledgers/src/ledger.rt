@@ -9,7 +9,7 @@ use net::Cycle;
 use std::alloc::{AllocError, Global};
 use std::marker::Model;
 
-/// The entries that a long ledger leaves out: how many, and together what was added and what was subtracted in them.
+/// The entries that a long ledger leaves out: how many, and together what was added, what was subtracted and how many carries came in.
 #[derive(Clone, Copy, Debug)]
 pub struct LeftOut {
     /// How many.
@@ -18,6 +18,8 @@ pub struct LeftOut {
     pub plus: u128,
     /// The sum of the numbers that were subtracted.
     pub minus: u128,
+    /// In how many of them a carry came in at the units.
+    pub carries: u64,
 }
 
 // One entry more is left out.
@@ -42,10 +44,11 @@ fn with_left_out(entry: &Entry, left_out: LeftOut) -> LeftOut
             } else {
                 0
             },
+        carries: left_out.carries + u64::from(entry.carry),
     }
 }
 
-/// The ledger of an account: the cycles that changed its number since it last stood cleared, in their order. Of a long one the first
+/// The ledger of an account: the cycles in which something came to its number since it last stood cleared, in their order. Of a long one the first
 /// entries and the last ones are kept, so many at each end, and of those between their sums, so that it takes no more memory however
 /// long the run is.
 #[derive(Drop)]
@@ -89,6 +92,7 @@ impl Ledger {
                 count: 0,
                 plus: 0,
                 minus: 0,
+                carries: 0,
             },
             last: Vec::new(alloc),
         }
@@ -151,6 +155,7 @@ impl Ledger {
             count: 0,
             plus: 0,
             minus: 0,
+            carries: 0,
         };
         self.last.clear();
     }

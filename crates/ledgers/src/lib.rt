@@ -1,14 +1,15 @@
 //! The ledgers of counter groups: which cycles of a run made the number that a group holds.
 //!
-//! An [`Entry`] is a cycle that changed a number since it last stood cleared: its card, the number before, what came to it, and the
+//! An [`Entry`] is a cycle in which something came to a number since it last stood cleared: its card, the number before, what came to it, and the
 //! number after. An [`Account`] is the group, or the two groups, whose number that is. [`find_cycle`] finds the cycle that placed a line,
-//! and [`ledger_before`] answers the [`Ledger`] of an account as that cycle found it. Those who follow a run cycle by cycle for something
+//! and [`ledger_before`] answers the [`Ledger`] of an account as that cycle found it. [`machine_in_cycle`] answers the machine in a cycle. Those who follow a run cycle by cycle for something
 //! else begin it by [`move_on`], and before each cycle call [`make_ready`] and [`card_in`].
 #![tactic(auto)]
 
 mod account;
 mod entry;
 mod found;
+mod in_cycle;
 mod kept;
 pub mod laws;
 mod ledger;
@@ -18,6 +19,7 @@ mod run;
 pub use account::Account;
 pub use entry::{Change, Entry, Movement};
 pub use found::{FoundCycle, find_cycle};
+pub use in_cycle::machine_in_cycle;
 pub use kept::ledger_before;
 pub use ledger::{Ledger, LeftOut};
 pub use run::{card_in, make_ready, move_on};

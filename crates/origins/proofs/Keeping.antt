@@ -1,11 +1,12 @@
 -- What the loop over a run keeps: the last cycle that did something.
-use Rattle.std.proofs.Common.{◌≡◌, ◌∙◌, sym, ap, subst, refl, ℕ, ◌+◌, ◌<◌, Bool, List, Option, None, length}
+use Rattle.std.proofs.Common.{◌≡◌, ◌∙◌, sym, ap, subst, refl, ℕ, ◌+◌, ◌<◌, Bool, true, false, List, Option, None, length}
+use Rattle.std.specs.Prelude.{IfSome}
 use Rattle.setups.specs.Wiring.{Wiring}
 use Rattle.net.specs.declared.cycle.Cycle.{Cycle}
 use Rattle.machine.specs.Machine.{MachineState}
 use Rattle.machine.specs.Stepped.{Stepped}
 use Rattle.ledgers.specs.Ledgers.{Along, ComesTo, Goes, along_after, along_at_start, at_start, card_in, on}
-use Rattle.ledgers.specs.Running.{Stands, along_of}
+use Rattle.ledgers.specs.Running.{HasCycle, Stands, along_of}
 use Rattle.origins.specs.Changes.{IsLast, IsLastBefore, begun, passed_cycle, last_with, more}
 use Rattle.origins.specs.declared.changes.PassedCycle.{PassedCycle}
 
@@ -62,3 +63,18 @@ pub last-comes : (wiring : Wiring) (deck : List (List ℕ)) (does : Cycle → Ma
     → IsLast wiring deck does along last → ComesTo wiring deck along
 last-comes wiring deck does begun = at_start
 last-comes wiring deck does (more cycle along last behind is goes) = on cycle along behind (last-comes wiring deck does is) goes
+
+-- the run has the cycle that did something
+has-with : (wiring : Wiring) (deck : List (List ℕ)) (done : Bool) (here : PassedCycle) (last : Option PassedCycle)
+    → HasCycle wiring deck here.passed → IfSome last (λ since. HasCycle wiring deck since.passed)
+    → IfSome (last_with done here last) (λ since. HasCycle wiring deck since.passed)
+has-with wiring deck true here last has before = has
+has-with wiring deck false here last has before = before
+
+pub last-has : (wiring : Wiring) (deck : List (List ℕ)) (does : Cycle → MachineState → Bool) {along : Along} {last : Option PassedCycle}
+    → IsLast wiring deck does along last → IfSome last (λ since. HasCycle wiring deck since.passed)
+last-has wiring deck does begun = tt
+last-has wiring deck does (more cycle along last behind is goes) =
+    has-with wiring deck (does cycle behind) (passed_cycle cycle along) last
+    (record { along = along; comes = last-comes wiring deck does is; counted = refl; cycle = cycle; behind = behind; goes = goes })
+    (last-has wiring deck does is)

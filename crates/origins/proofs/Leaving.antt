@@ -6,26 +6,31 @@ use Rattle.std.proofs.lemmas.List.{get_or-map}
 use Rattle.std.specs.Prelude.{slice_index}
 use Rattle.card_code.specs.Rows.{passing_place, rows}
 use Rattle.card_code.specs.declared.row.Row.{Row}
+use Rattle.counters.specs.Counters.{Counter, counter_ended, digits_ended, top_is_nine}
 use Rattle.card_code.specs.declared.row.Row.TheVariants.{Zero, One, Two, Three, Four, Five, Six, Seven, Eight, Nine, Eleven, Twelve}
 use Rattle.hub_table.specs.Ranges.{is_within}
 use Rattle.hubs.specs.declared.hub.Hub.{Hub}
 use Rattle.setups.specs.Wiring.{Wiring}
 use Rattle.net.specs.HubSets.{is_bit}
 use Rattle.net.specs.declared.cycle.Cycle.{Cycle}
+use Rattle.net.specs.declared.cycle.Cycle.TheVariants.{RunIn, Card, Prog, Head}
 use Rattle.net.specs.declared.cycle.Point.{Point}
 use Rattle.net.specs.declared.cycle.Point.TheVariants as point
 use Rattle.machine.specs.Cycles.{Reached, point_at}
 use Rattle.machine.specs.Machine.{MachineState, ended}
-use Rattle.machine.specs.Runs.{run_at_start}
+use Rattle.machine.specs.Runs.{cards_moved, run_at_start}
+use Rattle.selectors.specs.Pilots.{PilotStates, moves_pilots, no_pilots, pilots_ended}
 use Rattle.storage_units.specs.Storage.{StorageState, blank, holds, storage_at_start, storage_ended, storage_sensed}
 use Rattle.storage_units.specs.Words.{has_column}
 use Rattle.ledgers.specs.Entries.{same}
-use Rattle.ledgers.specs.Ledgers.{Along, ComesTo, Goes, ready}
+use Rattle.ledgers.specs.Ledgers.{Along, ComesTo, Goes, group_at, ready}
 use Rattle.ledgers.specs.Running.{HasCycle}
 use Rattle.ledgers.proofs.Places.{goes-one, places-one}
-use Rattle.origins.specs.Changes.{IsLast, LeftBy, StorageIsKept, begun, changes, passed_cycle, last_with, more, storage_at, text_held, text_left}
+use Rattle.ledgers.proofs.Whole.{holds as groups-hold, in-cycle, start-group}
+use Rattle.origins.specs.Changes.{IsLast, LatchesAreTested, LeftBy, PilotsArePickedUp, StorageIsKept, begun, last_with, latch_left, more, moves, passed_cycle, storage_at, text_held, text_left}
 use Rattle.origins.specs.Holding.{hold_same, hold_same_at, hold_same_rows, hold_same_to}
 use Rattle.origins.specs.declared.changes.PassedCycle.{PassedCycle}
+use Rattle.origins.specs.declared.holders.Holder.TheVariants.{Latch, Pilot, Storage}
 use Rattle.origins.proofs.Keeping.{last-comes}
 use Rattle.origins.proofs.Storing.{four-units, goes-many, ready-storage, start-storage}
 
@@ -208,10 +213,10 @@ module _ (wiring : Wiring) (deck : List (List ℕ)) (place : ℕ) (low : place <
       by (suc (suc (suc zero))) = refl
       by (suc (suc (suc (suc any)))) = refl
 
-  pub kept-text : {along : Along} {last : Option PassedCycle} → IsLast wiring deck (changes place) along last
+  pub kept-text : {along : Along} {last : Option PassedCycle} → IsLast wiring deck (moves (Storage place)) along last
       → LeftBy wiring deck (holds (storage_at_start 35)) (text_left place) last (text_held place along.run.machine)
   kept-text is =
-      left-by wiring deck (changes place) (holds (storage_at_start 35)) (text_left place) (text_held place) start-text
+      left-by wiring deck (moves (Storage place)) (holds (storage_at_start 35)) (text_left place) (text_held place) start-text
       (λ cycle along behind comes goes done. ended-text cycle along behind comes goes)
       (λ cycle along behind comes goes idle.
       ended-text cycle along behind comes goes
@@ -222,3 +227,65 @@ module _ (wiring : Wiring) (deck : List (List ℕ)) (place : ℕ) (low : place <
 
 pub storage-kept : StorageIsKept
 storage-kept wiring deck place along last low is = kept-text wiring deck place low is
+
+-- pilots stay through the points as they stand
+points-pilots : (wiring : Wiring) (cycle : Cycle) (points : ℕ) (old now : MachineState) → Reached wiring cycle points old now
+    → now.pilots.transferred ≡ old.pilots.transferred
+unfolding Reached
+points-pilots wiring cycle zero old now is = ap (λ (m : MachineState). m.pilots.transferred) is
+points-pilots wiring cycle (suc points) old now (mid, before, step) =
+    ap (λ (m : MachineState). m.pilots.transferred) step.is_new ∙ points-pilots wiring cycle points old mid before
+
+ready-pilots : (cycle : Cycle) (along : Along) → (ready cycle along).pilots ≡ along.run.machine.pilots
+ready-pilots RunIn along = refl
+ready-pilots Card along = by along.run.hopper
+  where
+    by : (hopper : List (List ℕ)) → (cards_moved along.run.machine hopper).machine.pilots ≡ along.run.machine.pilots
+    by [] = refl
+    by (card ∷ cards) = refl
+ready-pilots (Prog level ordinal) along = refl
+ready-pilots (Head heading) along = refl
+
+start-pilots : (wiring : Wiring) (deck : List (List ℕ)) → (run_at_start wiring deck).machine.pilots.transferred ≡ no_pilots
+start-pilots wiring [] = refl
+start-pilots wiring (card ∷ cards) = refl
+
+-- at the end of a cycle
+moved-pilots : (pilots : PilotStates) (cycle : Cycle) → moves_pilots cycle ≡ true → (pilots_ended pilots cycle).transferred ≡ pilots.picked_up
+moved-pilots pilots cycle moved =
+    ap (λ (b : Bool). (if b then record { transferred = pilots.picked_up; picked_up = no_pilots } else pilots).transferred) moved
+
+idle-pilots : (pilots : PilotStates) (cycle : Cycle) → moves_pilots cycle ≡ false → (pilots_ended pilots cycle).transferred ≡ pilots.transferred
+idle-pilots pilots cycle idle =
+    ap (λ (b : Bool). (if b then record { transferred = pilots.picked_up; picked_up = no_pilots } else pilots).transferred) idle
+
+pub pilots-picked-up : PilotsArePickedUp
+pilots-picked-up wiring deck pilot along last is =
+    left-by wiring deck (moves (Pilot pilot)) no_pilots (λ cycle behind. behind.pilots.picked_up) (λ machine. machine.pilots.transferred)
+    (start-pilots wiring deck)
+    (λ cycle along behind comes goes done. moved-pilots behind.pilots cycle done)
+    (λ cycle along behind comes goes idle.
+    idle-pilots behind.pilots cycle idle ∙ points-pilots wiring cycle 14 (ready cycle along) behind goes.reached
+    ∙ ap (λ (p : PilotStates). p.transferred) (ready-pilots cycle along))
+    is
+
+-- a latch at the end of a cycle
+latch-by : (group : Counter) (cycle : Cycle) (test : Bool) → group.controls.test ≡ test
+    → (counter_ended group cycle).latch ≡ (if test then top_is_nine (digits_ended group) else group.latch)
+latch-by group cycle test is = ap (λ (b : Bool). if b then top_is_nine (digits_ended group) else group.latch) is
+
+start-latch : (wiring : Wiring) (deck : List (List ℕ)) (place : ℕ) → place < 32
+    → (group_at (run_at_start wiring deck).machine place).latch ≡ false
+start-latch wiring deck place low = ap (λ (g : Counter). g.latch) (start-group wiring deck place low)
+
+pub latches-tested : LatchesAreTested
+latches-tested wiring deck place along last low is =
+    left-by wiring deck (moves (Latch place)) false (latch_left place) (λ machine. (group_at machine place).latch)
+    (start-latch wiring deck place low)
+    (λ cycle along behind comes goes done.
+    let here = in-cycle wiring cycle place along behind low (groups-hold wiring deck place low comes) goes in
+    ap (λ (g : Counter). g.latch) here.same ∙ latch-by (group_at behind place) cycle true done)
+    (λ cycle along behind comes goes idle.
+    let here = in-cycle wiring cycle place along behind low (groups-hold wiring deck place low comes) goes in
+    ap (λ (g : Counter). g.latch) here.same ∙ latch-by (group_at behind place) cycle false idle ∙ here.latch)
+    is

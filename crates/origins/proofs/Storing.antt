@@ -1,5 +1,5 @@
 -- The storage units of a machine in a run, and what they hold.
-use Rattle.std.proofs.Common.{zero, suc, ◌≡◌, ◌∙◌, sym, ap, subst, refl, ℕ, ◌<◌, List, [], ◌∷◌, length, map}
+use Rattle.std.proofs.Common.{zero, suc, ◌≡◌, ◌∙◌, sym, ap, subst, refl, ℕ, List, [], ◌∷◌, length, map}
 use Rattle.std.proofs.lemmas.List.{length-map}
 use Rattle.hubs.specs.declared.hub.Hub.{Hub}
 use Rattle.setups.specs.Wiring.{Wiring}
@@ -49,10 +49,3 @@ four-units wiring deck at_start = ap length (start-storage wiring deck)
 four-units wiring deck (on cycle along behind comes goes) =
     length-map behind.storage (λ (s : StorageState). storage_ended s cycle)
     ∙ goes-many wiring cycle along behind (four-units wiring deck comes) goes
-
--- a unit among those of the machine behind the points of a cycle
-pub within : (wiring : Wiring) (deck : List (List ℕ)) (cycle : Cycle) (along : Along) (behind : MachineState) (units : List StorageState)
-    (place : ℕ) → place < 4 → ComesTo wiring deck along → Goes wiring cycle along behind → units ≡ behind.storage → place < length units
-within wiring deck cycle along behind units place low comes goes same =
-    subst (λ (n : ℕ). place < n)
-    (sym (ap length same ∙ goes-many wiring cycle along behind (four-units wiring deck comes) goes)) low

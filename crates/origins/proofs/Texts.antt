@@ -1,20 +1,31 @@
 -- Texts that grow piece by piece.
-use Rattle.std.proofs.Common.{◌≡◌, ◌∙◌, ◌↔◌, ◌+◌, arith, ap, sym, subst, refl, ℕ, Bool, true, false, IsTrue, List, [], ◌∷◌, ◌++◌, Option, Some, None, zero, suc, ◌-◌, ◌<◌, length, take, get_or, if◌then◌else◌}
-use Rattle.std.proofs.lemmas.List.{flat_map_more, map-id, take_more}
+use Rattle.std.proofs.Common.{◌≡◌, ◌∙◌, ◌↔◌, ◌+◌, ◌||◌, arith, ap, sym, subst, refl, ℕ, Bool, true, false, IsTrue, List, [], ◌∷◌, ◌++◌, Option, Some, None, zero, suc, ◌-◌, ◌<◌, length, take, get_or, if◌then◌else◌}
+use Rattle.std.proofs.lemmas.List.{append_assoc, flat_map_more, get_or_default, map-id, take_more}
 use Rattle.std.proofs.lemmas.List.FromFn.{map-range_with_len_more}
 use Rattle.std.specs.List.{flat_map, range_with_len}
-use Rattle.std.specs.Prelude.{Vec}
+use Rattle.std.specs.Prelude.{Err, IfSome, Ok, OnOk, Result, Vec, codes}
 use Rattle.std.specs.declared.alloc.Global.{Global}
 use Rattle.hubs.specs.declared.hub.Hub.{Hub}
-use Rattle.setups.specs.Wiring.{HasWire, Wiring, is_wired}
+use Rattle.hubs.specs.Hubs.{number_of}
+use Rattle.setups.specs.Wiring.{HasWire, Wiring, is_listed, is_wired, row_at}
 use Rattle.setups.proofs.WiredLemmas.{HasWire-is_wired}
 use Rattle.card_code.specs.Rows.{rows}
+use Rattle.counters.specs.Counters.{Counter, counter_at_start, counter_ended, digits_ended, width_of}
+use Rattle.counters.specs.Numbers.{number}
+use Rattle.ledger_text.specs.Amounts.{digits_text}
+use Rattle.ledger_text.specs.Names.{cycle_text, place_text}
+use Rattle.ledgers.specs.Accounts.{counter_at}
+use Rattle.net.specs.declared.cycle.Cycle.{Cycle}
 use Rattle.card_code.specs.declared.row.Row.{Row}
 use Rattle.origins.specs.Holes.{column_to, first_of, leads_to}
-use Rattle.origins.specs.Levels.{called_text, called_to, position_text, position_text_by, unlike_at, unlike_lines}
+use Rattle.origins.specs.Levels.{called_by_holes, called_text, is_led_from, others_lead, position_text, position_text_by, unlike_at, unlike_lines}
+use Rattle.origins.specs.declared.holes.Hole.{Hole}
 use Rattle.origins.specs.declared.holes.Station.{Station}
-use Rattle.origins.specs.Changes.{IsLastBefore, changes}
-use Rattle.origins.specs.Storage.{AreStorageTexts, is_read, line_at, lines_of, more, storage_text}
+use Rattle.origins.specs.Holders.{holder_at}
+use Rattle.origins.specs.Latches.{test_line}
+use Rattle.origins.specs.Storage.{led_text, line_at, lines_of}
+use Rattle.origins.specs.Told.{AreTexts, IsHolderText, more}
+use Rattle.origins.specs.declared.holders.Holder.{Holder}
 use Rattle.origins.specs.declared.changes.PassedCycle.{PassedCycle}
 
 -- the piece of the next number
@@ -42,13 +53,13 @@ pub lines-whole : (wiring : Wiring) (cards : List (List ℕ)) (since : PassedCyc
 unfolding lines_of
 lines-whole wiring cards since unit ways = refl
 
--- one storage unit more
-pub one-more : (wiring : Wiring) (cards : List (List ℕ)) (passed : ℕ) (ways : List (Option (Vec Hub Global))) (place : ℕ)
-    (last : Option PassedCycle) (old new : List ℕ) → AreStorageTexts wiring cards passed ways place old → is_read (place + 1) ways ≡ true
-    → IsLastBefore wiring cards passed (changes place) last → new ≡ old ++ storage_text wiring cards (place + 1) ways last
-    → AreStorageTexts wiring cards passed ways (place + 1) new
-one-more wiring cards passed ways place last old new are read is put =
-    subst (λ (all : List ℕ). AreStorageTexts wiring cards passed ways (place + 1) all) (sym put) (more place old last are read is)
+-- one holder more
+pub one-more : (wiring : Wiring) (cards : List (List ℕ)) (passed : ℕ) (ways : List (Option (Vec Hub Global))) (place : ℕ) (holder : Holder)
+    (old text new : List ℕ) → AreTexts wiring cards passed ways place old → holder ≡ holder_at place
+    → IsHolderText wiring cards passed ways holder text → new ≡ old ++ text → AreTexts wiring cards passed ways (place + 1) new
+one-more wiring cards passed ways place holder old text new are at is put =
+    subst (λ (all : List ℕ). AreTexts wiring cards passed ways (place + 1) all) (sym put)
+    (more place old text are (subst (λ (h : Holder). IsHolderText wiring cards passed ways h text) at is))
 
 -- one column more
 pub column-more : (wiring : Wiring) (card : Option (List ℕ)) (station : Station) (row : Row) (entry : Hub) (columns before : ℕ)
@@ -78,14 +89,14 @@ unlike_more wiring cards card position old mid new some place d row less item be
 
 module _ (wiring : Wiring) (cards : List (List ℕ)) (card level position : ℕ) (found : Option ℕ) (text : List ℕ) where
   -- a position that calls no level
-  pub position-none : found ≡ None → found ≡ called_to wiring position level 3 → text ≡ []
+  pub position-none : found ≡ None → found ≡ called_by_holes wiring position level → text ≡ []
       → text ≡ position_text wiring cards card level position
   unfolding position_text
   position-none none is empty =
       empty ∙ ap (λ (o : Option ℕ). position_text_by level card position o (unlike_lines wiring cards card position rows)) (sym none ∙ is)
 
   -- a position that calls one
-  pub position-some : (called : ℕ) (begun lines slice old : List ℕ) → found ≡ Some called → found ≡ called_to wiring position level 3
+  pub position-some : (called : ℕ) (begun lines slice old : List ℕ) → found ≡ Some called → found ≡ called_by_holes wiring position level
       → begun ≡ [] → lines ≡ begun ++ unlike_lines wiring cards card position rows → slice ≡ lines → old ≡ []
       → text ≡ old ++ called_text level card position called slice → text ≡ position_text wiring cards card level position
   unfolding position_text
@@ -95,3 +106,70 @@ module _ (wiring : Wiring) (cards : List (List ℕ)) (card level position : ℕ)
       ∙ ap (called_text level card position called)
       (same ∙ told ∙ ap (λ (l : List ℕ). l ++ unlike_lines wiring cards card position rows) empty)
       ∙ ap (λ (o : Option ℕ). position_text_by level card position o (unlike_lines wiring cards card position rows)) (sym some ∙ is)
+
+-- the exit with a number
+pub led-from : (wiring : Wiring) (entry exit : Hub) (number : ℕ) (found : Option Hub) (test : Bool) → found ≡ Some exit
+    → IfSome found (λ hub. number_of hub ≡ Some number) → test ≡ is_wired wiring exit entry → test ≡ is_led_from wiring entry number
+led-from wiring entry exit number found test is numbered wired =
+    wired
+    ∙ ap (λ (n : Option ℕ). is_listed (row_at wiring n) (number_of entry))
+    (subst (λ (o : Option Hub). IfSome o (λ hub. number_of hub ≡ Some number)) is numbered)
+
+-- one exit more
+pub others-more : (wiring : Wiring) (entry : Hub) (count before : ℕ) (here rest : Bool) → 0 < count → before ≡ count - 1
+    → here ≡ is_led_from wiring entry (160 + count) → rest ≡ others_lead wiring entry before
+    → (here || rest) ≡ others_lead wiring entry count
+unfolding others_lead
+others-more wiring entry zero before here rest some below is follows = absurd (omega (arith, some))
+others-more wiring entry (suc count) before here rest some below is follows =
+    let number : 160 + suc count ≡ 161 + count = omega arith in
+    let same : before ≡ count = omega (arith, below) in
+    ap (λ (b : Bool). b || rest) (is ∙ ap (is_led_from wiring entry) number)
+    ∙ ap (λ (b : Bool). is_led_from wiring entry (161 + count) || b) (follows ∙ ap (others_lead wiring entry) same)
+
+-- an entry to which no wire leads from a card
+pub unled : {X E : Type 0} (result : Result X E) (hole : Option Hole) (card : ℕ) (old one new entry : List ℕ) → hole ≡ None
+    → one ≡ old ++ entry → OnOk result (new ≡ one ++ codes ", by no wire straight from a card")
+    → OnOk result (new ≡ old ++ led_text hole card entry)
+unled (Err e) hole card old one new entry none begun ended = tt
+unled (Ok x) hole card old one new entry none begun ended =
+    ended
+    ∙ ap (λ (l : List ℕ). l ++ codes ", by no wire straight from a card") begun
+    ∙ append_assoc old entry (codes ", by no wire straight from a card")
+    ∙ ap (λ (h : Option Hole). old ++ led_text h card entry) (sym none)
+
+-- the number of a group at the end of a cycle
+pub tested-at : (groups behind : List Counter) (place : ℕ) (group turned : Counter) (cycle : Cycle) (value : ℕ) → place < length groups
+    → group ≡ get_or groups place group → groups ≡ behind → turned ≡ counter_ended group cycle → value ≡ number turned.digits
+    → value ≡ number (digits_ended (counter_at behind place))
+tested-at groups behind place group turned cycle value low item same ended told =
+    told
+    ∙ ap (λ (g : Counter). number g.digits) ended
+    ∙ ap (λ (g : Counter). number (digits_ended g)) (item ∙ get_or_default groups place group (counter_at_start 3) low)
+    ∙ ap (λ (gs : List Counter). number (digits_ended (counter_at gs place))) same
+
+joined : (old one two a b : List ℕ) → one ≡ old ++ a → two ≡ one ++ b → two ≡ old ++ (a ++ b)
+joined old one two a b first second = second ∙ ap (λ (l : List ℕ). l ++ b) first ∙ append_assoc old a b
+
+-- the line of a test, piece by piece
+pub tested-line : {X E : Type 0} (result : Result X E) (place tested width told : ℕ) (since : PassedCycle)
+    (old one two three four five six new : List ℕ) → width ≡ width_of (3 + place) → told ≡ tested
+    → one ≡ old ++ codes "balance latch of " → two ≡ one ++ place_text place → three ≡ two ++ codes " set by "
+    → four ≡ three ++ cycle_text since.cycle since.card → five ≡ four ++ codes ": it tested " → six ≡ five ++ digits_text width told
+    → OnOk result (new ≡ six ++ codes "\n") → OnOk result (new ≡ old ++ test_line place since tested)
+tested-line (Err e) place tested width told since old one two three four five six new wide is first second third fourth fifth sixth last = tt
+tested-line (Ok x) place tested width told since old one two three four five six new wide is first second third fourth fifth sixth last =
+    let begun = joined old one two (codes "balance latch of ") (place_text place) first second in
+    let set = joined old two three (codes "balance latch of " ++ place_text place) (codes " set by ") begun third in
+    let by_cycle = joined old three four (codes "balance latch of " ++ place_text place ++ codes " set by ")
+    (cycle_text since.cycle since.card) set fourth in
+    let tests = joined old four five
+    (codes "balance latch of " ++ place_text place ++ codes " set by " ++ cycle_text since.cycle since.card) (codes ": it tested ") by_cycle
+    fifth in
+    let digits = joined old five six
+    (codes "balance latch of " ++ place_text place ++ codes " set by " ++ cycle_text since.cycle since.card ++ codes ": it tested ")
+    (digits_text (width_of (3 + place)) tested) tests
+    (sixth ∙ ap (λ (n : ℕ). five ++ digits_text n told) wide ∙ ap (λ (n : ℕ). five ++ digits_text (width_of (3 + place)) n) is) in
+    joined old six new
+    (codes "balance latch of " ++ place_text place ++ codes " set by " ++ cycle_text since.cycle since.card ++ codes ": it tested "
+    ++ digits_text (width_of (3 + place)) tested) (codes "\n") digits last

@@ -3,6 +3,8 @@ use Rattle.std.specs.Prelude.{ℕ, zero, suc, ◌+◌, ◌-◌, ◌&&◌, Bool, 
 use Rattle.card_code.specs.declared.row.Row.{Row}
 use Rattle.hubs.specs.declared.hub.Hub.{Hub}
 use Rattle.hubs.specs.declared.hub.Hub.TheVariants.{FR, SR}
+use Rattle.net.specs.declared.cycle.Cycle.{Cycle}
+use Rattle.net.specs.declared.cycle.Cycle.TheVariants.{RunIn, Card, Prog, Head}
 use Rattle.setups.specs.Wiring.{Wiring, is_wired}
 use Rattle.stations.specs.Punches.{is_punched_at}
 use Rattle.origins.specs.declared.holes.Hole.{Hole}
@@ -44,6 +46,13 @@ hole_at wiring card station row entry = hole_in station (column_to wiring card s
 abbrev pub hole_to : Wiring → List (List ℕ) → (card : ℕ) → Row → Hub → Option Hole
 hole_to wiring cards card row entry =
     first_of (hole_at wiring (slice_get cards (card - 1)) Second row entry) (hole_at wiring (slice_get cards card) First row entry)
+
+-- In other cycles no card is read: in the run-in the first card stands at first reading, and program and heading cycles read none.
+abbrev pub hole_in_cycle : Wiring → List (List ℕ) → Cycle → (card : ℕ) → Row → Hub → Option Hole
+hole_in_cycle wiring cards RunIn card row entry = hole_at wiring (slice_get cards card) First row entry
+hole_in_cycle wiring cards Card card row entry = hole_to wiring cards card row entry
+hole_in_cycle wiring cards (Prog level ordinal) card row entry = None
+hole_in_cycle wiring cards (Head heading) card row entry = None
 
 -- the brush of a hole
 abbrev pub brush_letters : Station → List ℕ

@@ -1,13 +1,15 @@
 -- Why the program cycles of a level run: the card was the last one, or it and the next one differ in columns that are compared.
-use Rattle.std.specs.Prelude.{ℕ, zero, suc, ◌==◌, ◌&&◌, nat_le, Bool, List, [], ◌++◌, Option, Some, None, codes, decimal, length, if◌then◌else◌}
+use Rattle.std.specs.Prelude.{ℕ, zero, suc, ◌+◌, ◌==◌, ◌&&◌, ◌||◌, nat_le, not, Bool, false, List, [], ◌++◌, Option, Some, None, codes, decimal, length, if◌then◌else◌}
 use Rattle.std.specs.List.{flat_map}
 use Rattle.card_code.specs.Rows.{rows}
 use Rattle.card_code.specs.declared.row.Row.{Row}
+use Rattle.hubs.specs.Hubs.{number_of}
+use Rattle.hubs.specs.declared.hub.Hub.{Hub}
 use Rattle.hubs.specs.declared.hub.Hub.TheVariants.{CA, CB, CX, ST}
 use Rattle.net.specs.Cycles.{level_number}
 use Rattle.net.specs.declared.cycle.Cycle.{Cycle}
 use Rattle.net.specs.declared.cycle.Cycle.TheVariants.{RunIn, Card, Prog, Head}
-use Rattle.setups.specs.Wiring.{Wiring, is_wired}
+use Rattle.setups.specs.Wiring.{Wiring, is_listed, is_wired, row_at}
 use Rattle.origins.specs.Holes.{brush_text, column_text, first_of, hole_to}
 use Rattle.origins.specs.Storage.{row_text}
 use Rattle.origins.specs.declared.holes.Hole.{Hole}
@@ -21,6 +23,25 @@ abbrev pub called_to : Wiring → (position from : ℕ) → ℕ → Option ℕ
 called_to wiring position from zero = None
 called_to wiring position from (suc level) =
     first_of (called_to wiring position from level) (if calls wiring position from (suc level) then Some (suc level) else None)
+
+-- a wire leads to an entry from the exit with a number
+abbrev pub is_led_from : Wiring → Hub → (number : ℕ) → Bool
+is_led_from wiring entry number = is_listed (row_at wiring (Some number)) (number_of entry)
+
+-- from one of so many exits behind the brushes, which have the numbers 1 to 160
+unfoldable pub others_lead : Wiring → Hub → (count : ℕ) → Bool
+others_lead wiring entry zero = false
+others_lead wiring entry (suc count) = is_led_from wiring entry (161 + count) || others_lead wiring entry count
+
+-- wires lead to an entry from brushes alone: the exits have the numbers 1 to 1040
+unfoldable pub is_of_brushes : Wiring → Hub → Bool
+is_of_brushes wiring entry = not (others_lead wiring entry 880)
+
+-- The lowest level that a comparing position calls, if wires lead to both of its entries from brushes alone. What else comes to them, no
+-- hole tells.
+abbrev pub called_by_holes : Wiring → (position from : ℕ) → Option ℕ
+called_by_holes wiring position from =
+    if is_of_brushes wiring (CA position) && is_of_brushes wiring (CB position) then called_to wiring position from 3 else None
 
 -- a hole of which a wire leads to one entry of a comparing position, while no wire leads to the other entry from a column with that row
 abbrev pub unlike_text : Hole → (card position : ℕ) → (entry other : List ℕ) → List ℕ
@@ -60,14 +81,14 @@ abbrev pub called_text : (level card position called : ℕ) → List ℕ → Lis
 called_text level card position called lines =
     if length lines == 0 then [] else runs_text level card ++ calling_text position called ++ lines
 
--- what is told of a position: nothing if it calls no level that is high enough
+-- what is told of a position: nothing if it calls no level that is high enough, or if not holes alone tell it
 abbrev pub position_text_by : (level card position : ℕ) → Option ℕ → List ℕ → List ℕ
 position_text_by level card position None lines = []
 position_text_by level card position (Some called) lines = called_text level card position called lines
 
 unfoldable pub position_text : Wiring → List (List ℕ) → (card level position : ℕ) → List ℕ
 position_text wiring cards card level position =
-    position_text_by level card position (called_to wiring position level 3) (unlike_lines wiring cards card position rows)
+    position_text_by level card position (called_by_holes wiring position level) (unlike_lines wiring cards card position rows)
 
 -- the first text that isn't empty
 abbrev pub or_text : List ℕ → List ℕ → List ℕ

@@ -2,6 +2,9 @@ pub mod Holding
 pub mod Changes
 pub mod Cards
 pub mod Holes
+pub mod Holders
+pub mod Pilots
+pub mod Latches
 pub mod Storage
 pub mod Levels
 pub mod Told

@@ -1,5 +1,5 @@
 -- The origin of the text that a storage unit holds.
-use Rattle.std.specs.Prelude.{◌≡◌, ℕ, ◌+◌, ◌==◌, ◌||◌, Bool, true, false, List, [], ◌∷◌, ◌++◌, Option, Some, None, Vec, codes, decimal, is_some, slice_index_or, if◌then◌else◌}
+use Rattle.std.specs.Prelude.{ℕ, ◌==◌, ◌||◌, Bool, false, List, [], ◌∷◌, ◌++◌, Option, Some, None, Vec, codes, decimal, is_some, slice_index_or, if◌then◌else◌}
 use Rattle.std.specs.List.{flat_map, range_with_len}
 use Rattle.std.specs.declared.alloc.Global.{Global}
 use Rattle.card_code.specs.Rows.{row_number}
@@ -8,11 +8,8 @@ use Rattle.explanations.specs.Explanations.{row_passing}
 use Rattle.hubs.specs.declared.hub.Hub.{Hub}
 use Rattle.hubs.specs.declared.hub.Hub.TheVariants.{SE, SX}
 use Rattle.ledger_text.specs.Names.{cycle_text}
-use Rattle.net.specs.declared.cycle.Cycle.{Cycle}
-use Rattle.net.specs.declared.cycle.Cycle.TheVariants.{RunIn, Card, Prog, Head}
 use Rattle.setups.specs.Wiring.{Wiring}
-use Rattle.origins.specs.Changes.{IsLastBefore, changes}
-use Rattle.origins.specs.Holes.{brush_text, column_text, hole_to}
+use Rattle.origins.specs.Holes.{brush_text, column_text, hole_in_cycle}
 use Rattle.origins.specs.declared.changes.PassedCycle.{PassedCycle}
 use Rattle.origins.specs.declared.holes.Hole.{Hole}
 
@@ -40,16 +37,9 @@ is_read unit (way ∷ ways) = is_some (column_of_way unit way) || is_read unit w
 abbrev pub entry_text : ℕ → ℕ → List ℕ
 entry_text unit column = codes "SE." ++ decimal unit ++ codes "." ++ decimal column
 
--- a hole of which a wire leads to the entry in the cycle of a card: in other cycles no card is read
-abbrev pub hole_in_cycle : Wiring → List (List ℕ) → Cycle → ℕ → Row → Hub → Option Hole
-hole_in_cycle wiring cards RunIn card row entry = None
-hole_in_cycle wiring cards Card card row entry = hole_to wiring cards card row entry
-hole_in_cycle wiring cards (Prog level ordinal) card row entry = None
-hole_in_cycle wiring cards (Head heading) card row entry = None
-
 -- what led to an entry, and which hole that was; or that no wire from a hole does
 abbrev pub led_text : Option Hole → ℕ → (entry : List ℕ) → List ℕ
-led_text None card entry = entry ++ codes ", by no wire from a card"
+led_text None card entry = entry ++ codes ", by no wire straight from a card"
 led_text (Some hole) card entry = brush_text hole ++ codes " -> " ++ entry ++ column_text hole card
 
 -- the line of a row that a column of the unit took in
@@ -83,15 +73,3 @@ since_line unit since = codes "storage " ++ decimal unit ++ codes " since " ++ c
 abbrev pub storage_text : Wiring → List (List ℕ) → (unit : ℕ) → List (Option (Vec Hub Global)) → Option PassedCycle → List ℕ
 storage_text wiring cards unit ways None = []
 storage_text wiring cards unit ways (Some since) = since_line unit since ++ lines_of wiring cards since unit ways
-
--- The texts of the first storage units at whose exits one of some ways begins, one behind the other, before the cycle behind so many others.
-pub data AreStorageTexts (wiring : Wiring) (cards : List (List ℕ)) (passed : ℕ) (ways : List (Option (Vec Hub Global))) :
-    ℕ → List ℕ → Type 0 where
-  none : AreStorageTexts wiring cards passed ways 0 []
-  more :
-      (place : ℕ) (texts : List ℕ) (last : Option PassedCycle) → AreStorageTexts wiring cards passed ways place texts
-      → is_read (place + 1) ways ≡ true → IsLastBefore wiring cards passed (changes place) last
-      → AreStorageTexts wiring cards passed ways (place + 1) (texts ++ storage_text wiring cards (place + 1) ways last)
-  other :
-      (place : ℕ) (texts : List ℕ) → AreStorageTexts wiring cards passed ways place texts → is_read (place + 1) ways ≡ false
-      → AreStorageTexts wiring cards passed ways (place + 1) texts

@@ -1,10 +1,13 @@
-//! The last cycle of a run that changed what a storage unit holds.
+//! The last cycle of a run that moved what something in the machine holds.
 
-ghost use Rattle.std.specs.Prelude.{◌≡◌, ◌≤◌, ◌<◌, IfOk, length};
+ghost use Rattle.std.specs.Prelude.{◌≡◌, ◌≤◌, ◌<◌, IfOk, IfSome, length};
 ghost use Rattle.card_code.specs.MostCards.{most_cards};
 ghost use Rattle.ledgers.specs.Running.{HasCycle};
-ghost use Rattle.origins.specs.Changes.{IsLastBefore, changes, is_changed, last_with, storage_at};
+ghost use Rattle.origins.specs.Changes.{IsLastBefore, is_changed, last_with, moves};
+ghost use Rattle.origins.specs.Holders.{IsHolder};
+ghost use Rattle.selectors.specs.Pilots.{moves_pilots};
 
+use crate::holders::Holder;
 use crate::holding::hold_same;
 use card_code::Card;
 use ledgers::{card_in, make_ready, move_on};
@@ -34,37 +37,51 @@ fn is_changed(storage: &Storage, cycle: Cycle) -> bool
     !hold_same(storage, &ended)
 }
 
-// This cycle if it changes what the unit of a place holds, by the units behind its points, else the last one that did.
-fn last_with(
-    here: PassedCycle,
-    units: &[Storage],
-    place: usize,
-    last: Option<PassedCycle>,
-) -> Option<PassedCycle>
-    requires { place < length units.now }
-    ensures { result ≡ last_with (is_changed here.cycle (storage_at units.now place)) here last }
+// Whether a cycle sets the pilots anew.
+fn moves_pilots(cycle: Cycle) -> bool
+    ensures { result ≡ moves_pilots cycle }
 {
-    if is_changed(&units[place], here.cycle) {
-        Some(here)
-    } else {
-        last
+    match cycle {
+        Cycle::RunIn | Cycle::Card => true,
+        Cycle::Prog(_, _) | Cycle::Head(_) => false,
     }
 }
 
-/// The last cycle that changed the text of a storage unit, 0 to 3, in a run of a deck, of at most 999,999 cards, through a setup of the
-/// panel, before the cycle that comes behind so many others, which the run has; none if no cycle changed it. Fails only if no memory is
-/// left.
-pub fn last_change(
+// Whether a cycle moves what a holder holds, by the machine behind the points of the cycle.
+fn moves(holder: Holder, cycle: Cycle, machine: &SteppedMachine) -> bool
+    requires holder { IsHolder holder }
+    requires storage { length machine.now.machine.storage ≡ 4 }
+    requires groups { length machine.now.machine.groups ≡ 32 }
+    ensures { result ≡ moves holder cycle machine.now.machine }
+{
+    match holder {
+        Holder::Storage { place } => is_changed(&machine.storage()[place], cycle),
+        Holder::Pilot { .. } => moves_pilots(cycle),
+        Holder::Latch { place } => machine.groups()[place].controls().test,
+    }
+}
+
+// This cycle if it did it, else the last one that did.
+fn last_with(here: PassedCycle, done: bool, last: Option<PassedCycle>) -> Option<PassedCycle>
+    ensures { result ≡ last_with done here last }
+{
+    if done { Some(here) } else { last }
+}
+
+/// The last cycle that moved what a holder of the panel holds, in a run of a deck, of at most 999,999 cards, through a setup of the panel,
+/// before the cycle that comes behind so many others, which the run has; none if no cycle moved it. Fails only if no memory is left.
+pub fn last_move(
     alloc: Global,
     setup: &Setup,
     cards: &[Card],
     count: u64,
-    place: usize,
+    holder: Holder,
 ) -> Result<Option<PassedCycle>, AllocError>
     requires few { length cards.now ≤ most_cards }
     requires has { HasCycle setup.now cards.now count }
-    requires place { place < 4 }
-    ensures { IfOk result (IsLastBefore setup.now cards.now count (changes place)) }
+    requires holder { IsHolder holder }
+    ensures last { IfOk result (IsLastBefore setup.now cards.now count (moves holder)) }
+    ensures has { IfOk result (λ last. IfSome last (λ since. HasCycle setup.now cards.now since.passed)) }
 {
     let mut machine = SteppedMachine::new(alloc, setup)?;
     let mut last = None;
@@ -82,7 +99,7 @@ pub fn last_change(
             card,
             passed,
         };
-        last = last_with(here, machine.storage(), place, last);
+        last = last_with(here, moves(holder, cycle, &machine), last);
         machine.end_cycle(cycle);
     }
     Ok(last)

@@ -1,12 +1,13 @@
 //! Holes of the cards in the machine from which a wire leads to an entry.
 
 ghost use Rattle.std.specs.Prelude.{◌≡◌, ◌≤◌, ◌-◌, ◌++◌, OnOk, slice_get};
-ghost use Rattle.origins.specs.Holes.{brush, brush_letters, brush_text, card_at, column_text, column_to, hole_at, hole_to, leads_to};
+ghost use Rattle.origins.specs.Holes.{brush, brush_letters, brush_text, card_at, column_text, column_to, hole_at, hole_in_cycle, hole_to, leads_to};
 ghost use Rattle.setups.specs.Wiring.{is_wired};
 ghost use Rattle.stations.specs.Punches.{is_punched_at};
 
 use card_code::{Card, Row};
 use hubs::Hub;
+use net::Cycle;
 use setups::Setup;
 use std::io;
 use std::io::Write;
@@ -130,6 +131,25 @@ pub fn hole_to(setup: &Setup, cards: &[Card], card: u32, row: Row, entry: Hub) -
         return Some(hole);
     }
     hole_at(setup, cards, place, Station::First, row, entry)
+}
+
+// A hole from which a wire leads to an entry in a cycle: in the run-in the first card stands at first reading, and program and heading
+// cycles read none.
+pub(crate) fn hole_in_cycle(
+    setup: &Setup,
+    cards: &[Card],
+    cycle: Cycle,
+    card: u32,
+    row: Row,
+    entry: Hub,
+) -> Option<Hole>
+    ensures { result ≡ hole_in_cycle setup.now cards.now cycle card row entry }
+{
+    match cycle {
+        Cycle::RunIn => hole_at(setup, cards, card as usize, Station::First, row, entry),
+        Cycle::Card => hole_to(setup, cards, card, row, entry),
+        Cycle::Prog(_, _) | Cycle::Head(_) => None,
+    }
 }
 
 // The letters of the brushes of a station.

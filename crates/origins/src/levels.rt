@@ -2,7 +2,7 @@
 
 ghost use Rattle.std.specs.Prelude.{◌≡◌, ◌≤◌, ◌++◌, IfOk, OnOk, length};
 ghost use Rattle.card_code.specs.Rows.{rows};
-ghost use Rattle.origins.specs.Levels.{called_by, called_text, card_text, called_to, calling_text, calls, last_text, level_text, or_text, position_text, position_text_by, positions_text, runs_text, unlike_at, unlike_line, unlike_lines, unlike_text};
+ghost use Rattle.origins.specs.Levels.{called_by, called_text, card_text, called_to, calling_text, called_by_holes, calls, is_led_from, is_of_brushes, last_text, level_text, or_text, others_lead, position_text, position_text_by, positions_text, runs_text, unlike_at, unlike_line, unlike_lines, unlike_text};
 ghost use Rattle.setups.specs.Wiring.{is_wired};
 
 use crate::holes::{Hole, hole_to, is_wired, write_brush, write_column};
@@ -20,6 +20,12 @@ const POSITIONS: u8 = 30;
 
 /// How many levels can be called.
 const LEVELS: u8 = 3;
+
+/// How many brushes there are at both stations: they are the first exits by number.
+const BRUSHES: u32 = 160;
+
+/// How many other exits there are.
+const OTHERS: u32 = 880;
 
 // Whether a wire from a comparing position calls a level that is not below another.
 fn calls(setup: &Setup, position: u8, from: u8, level: u8) -> bool
@@ -40,6 +46,49 @@ fn called_to(setup: &Setup, position: u8, from: u8, levels: u8) -> Option<u8>
     }
     if calls(setup, position, from, levels) {
         Some(levels)
+    } else {
+        None
+    }
+}
+
+// Whether a wire leads to an entry from the exit with a number.
+fn is_led_from(setup: &Setup, entry: Hub, number: u32) -> bool
+    requires from { 1 ≤ number }
+    requires to { number ≤ 1936 }
+    ensures { result ≡ is_led_from setup.now entry number }
+{
+    let Some(exit) = Hub::of_number(number) else {
+        unreachable!();
+    };
+    is_wired(setup, exit, entry)
+}
+
+// Whether one leads there from one of so many exits behind the brushes.
+#[tactic(auto, unfolding(crate::specs::Levels::others_lead))]
+fn others_lead(setup: &Setup, entry: Hub, count: u32) -> bool
+    requires { count ≤ 880 }
+    ensures { result ≡ others_lead setup.now entry count }
+{
+    if count == 0 {
+        return false;
+    }
+    is_led_from(setup, entry, BRUSHES + count) || others_lead(setup, entry, count - 1)
+}
+
+// Whether wires lead to an entry from brushes alone.
+#[tactic(auto, unfolding(crate::specs::Levels::is_of_brushes))]
+fn is_of_brushes(setup: &Setup, entry: Hub) -> bool
+    ensures { result ≡ is_of_brushes setup.now entry }
+{
+    !others_lead(setup, entry, OTHERS)
+}
+
+// The lowest level that a comparing position calls, if wires lead to both of its entries from brushes alone.
+fn called_by_holes(setup: &Setup, position: u8, from: u8) -> Option<u8>
+    ensures { result ≡ called_by_holes setup.now position from }
+{
+    if is_of_brushes(setup, Hub::CA(position)) && is_of_brushes(setup, Hub::CB(position)) {
+        called_to(setup, position, from, LEVELS)
     } else {
         None
     }
@@ -178,7 +227,7 @@ fn position_text(
     ensures { IfOk result (λ text. text.items ≡ position_text setup.now cards.now card level position) }
 {
     let mut text = Vec::new(alloc);
-    let Some(called) = called_to(setup, position, level, LEVELS) else {
+    let Some(called) = called_by_holes(setup, position, level) else {
         return Ok(text);
     };
     let mut lines = Vec::new(alloc);
@@ -238,8 +287,8 @@ fn level_text(
 }
 
 /// Why a cycle runs, if it is a program cycle, in a run of these cards through a setup, by how many cards were read: which card calls its level,
-/// and by which hole, or that it is the last one. No text for other cycles, and if no wire from a hole tells it. Fails only if no memory is
-/// left.
+/// and by which hole, or that it is the last one. No text for other cycles, and if no comparing position tells it to whose entries wires
+/// lead from brushes alone. Fails only if no memory is left.
 pub fn called_by(
     alloc: Global,
     setup: &Setup,

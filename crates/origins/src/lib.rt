@@ -1,19 +1,24 @@
-//! From where comes what a wheel is printed of, beside the numbers of counter groups: the texts that storage units hold, and the program
-//! cycle.
+//! From where comes what a wheel is printed of, beside the numbers of counter groups: the texts that storage units hold, the pilots that
+//! stand transferred, the balance latches that are set, and the program cycle.
 //!
-//! [`origins_of`] answers the text for a wheel of a line: since which cycle a storage unit holds its text and by which holes of a card, and
-//! why the program cycle ran that printed the line, as [`called_by`] tells it alone.
+//! [`origins_of`] answers the text for a wheel of a line: since which cycle a storage unit holds its text, a pilot is transferred or a
+//! balance latch is set, and by which holes of a card or which number; and why the program cycle ran that printed the line, as
+//! [`called_by`] tells it alone.
 #![tactic(auto)]
 
 mod changes;
+mod holders;
 mod holding;
 mod holes;
+mod latches;
 pub mod laws;
 mod levels;
+mod pilots;
 mod storage;
 mod telling;
 
-pub use changes::{PassedCycle, last_change};
+pub use changes::{PassedCycle, last_move};
+pub use holders::{Holder, is_group};
 pub use holes::{Hole, Station, hole_to, is_wired, write_brush, write_column};
 pub use levels::called_by;
 pub use telling::origins_of;

@@ -1,18 +1,14 @@
 //! The origin of the text that a storage unit holds.
 
-ghost use Rattle.std.specs.Prelude.{◌≡◌, ◌≤◌, ◌<◌, ◌+◌, ◌++◌, IfOk, OnOk, length};
-ghost use Rattle.card_code.specs.MostCards.{most_cards};
-ghost use Rattle.ledgers.specs.Running.{HasCycle};
-ghost use Rattle.origins.specs.Storage.{AreStorageTexts, column_line, column_of_exit, column_of_way, entry_text, hole_in_cycle, is_read, led_text, line_at, lines_of, row_text, since_line, storage_line, storage_text};
+ghost use Rattle.std.specs.Prelude.{◌≡◌, ◌<◌, ◌++◌, OnOk, length};
+ghost use Rattle.origins.specs.Storage.{column_line, column_of_exit, column_of_way, entry_text, is_read, led_text, line_at, lines_of, row_text, since_line, storage_line, storage_text};
 
-use crate::changes::{PassedCycle, last_change};
-use crate::holes::{Hole, hole_to, write_brush, write_column};
+use crate::changes::PassedCycle;
+use crate::holes::{Hole, hole_in_cycle, write_brush, write_column};
 use card_code::{Card, ROWS, Row};
 use hubs::Hub;
 use ledger_text::write_cycle;
-use net::Cycle;
 use setups::Setup;
-use std::alloc::{AllocError, Global};
 use std::io;
 use std::io::Write;
 
@@ -36,8 +32,8 @@ fn column_of_way(unit: u8, way: &Option<Vec<Hub>>) -> Option<u8>
     }
 }
 
-// Whether one of some ways begins at an exit of a storage unit.
-fn is_read(unit: u8, ways: &[Option<Vec<Hub>>]) -> bool
+// Whether one of some ways begins at an exit of a storage unit, 1 to 4.
+pub(crate) fn is_read(unit: u8, ways: &[Option<Vec<Hub>>]) -> bool
     ensures { result ≡ is_read unit ways.now }
 {
     for way in ways {
@@ -55,23 +51,6 @@ fn write_entry(text: &mut Vec<u8>, unit: u8, column: u8) -> io::Result<()>
     write!(text, "SE.{unit}.{column}")
 }
 
-// A hole from which a wire leads to an entry in the cycle of a card.
-fn hole_in_cycle(
-    setup: &Setup,
-    cards: &[Card],
-    cycle: Cycle,
-    card: u32,
-    row: Row,
-    entry: Hub,
-) -> Option<Hole>
-    ensures { result ≡ hole_in_cycle setup.now cards.now cycle card row entry }
-{
-    match cycle {
-        Cycle::Card => hole_to(setup, cards, card, row, entry),
-        Cycle::RunIn | Cycle::Prog(_, _) | Cycle::Head(_) => None,
-    }
-}
-
 // What led to the entry of a column, and which hole that was.
 fn write_led(
     text: &mut Vec<u8>,
@@ -84,7 +63,7 @@ fn write_led(
 {
     let Some(hole) = hole else {
         write_entry(text, unit, column)?;
-        return text.write_all(b", by no wire from a card");
+        return text.write_all(b", by no wire straight from a card");
     };
     write_brush(text, hole)?;
     text.write_all(b" -> ")?;
@@ -182,8 +161,9 @@ fn write_since(text: &mut Vec<u8>, unit: u8, since: PassedCycle) -> io::Result<(
     text.write_all(b"\n")
 }
 
-// What is told of a unit at whose exits ways begin, by the last cycle that changed its text.
-fn write_storage(
+// What is told of a storage unit, 1 to 4, by the last cycle that changed its text: for each of some ways that begins at an exit of the unit, at
+// the rows of a cycle, by which hole the row came in.
+pub(crate) fn write_storage(
     text: &mut Vec<u8>,
     setup: &Setup,
     cards: &[Card],
@@ -199,52 +179,4 @@ fn write_storage(
     };
     write_since(text, unit, since)?;
     write_lines(text, setup, cards, since, unit, ways)
-}
-
-// Puts behind the texts of the units before it that of a storage unit, 1 to 4, if one of the ways begins at its exits.
-fn add_storage(
-    alloc: Global,
-    text: &mut Vec<u8>,
-    setup: &Setup,
-    cards: &[Card],
-    passed: u64,
-    ways: &[Option<Vec<Hub>>],
-    place: usize,
-) -> Result<(), AllocError>
-    requires few { length cards.now ≤ most_cards }
-    requires has { HasCycle setup.now cards.now passed }
-    requires ways { length ways.now ≡ 12 }
-    requires place { place < 4 }
-    requires texts { AreStorageTexts setup.now cards.now passed ways.now place text.old.items }
-    ensures { OnOk result (AreStorageTexts setup.now cards.now passed ways.now (place + 1) text.new.items) }
-{
-    let unit = place as u8 + 1;
-    if !is_read(unit, ways) {
-        return Ok(());
-    }
-    let last = last_change(alloc, setup, cards, passed, place)?;
-    match write_storage(text, setup, cards, unit, ways, last) {
-        Ok(()) => Ok(()),
-        Err(_) => Err(AllocError),
-    }
-}
-
-// The texts of all storage units at whose exits one of the ways begins, before the cycle behind so many others.
-pub(crate) fn storage_texts(
-    alloc: Global,
-    setup: &Setup,
-    cards: &[Card],
-    passed: u64,
-    ways: &[Option<Vec<Hub>>],
-) -> Result<Vec<u8>, AllocError>
-    requires few { length cards.now ≤ most_cards }
-    requires has { HasCycle setup.now cards.now passed }
-    requires ways { length ways.now ≡ 12 }
-    ensures { IfOk result (λ text. AreStorageTexts setup.now cards.now passed ways.now 4 text.items) }
-{
-    let mut text = Vec::new(alloc);
-    for place in 0..4 {
-        add_storage(alloc, &mut text, setup, cards, passed, ways, place)?;
-    }
-    Ok(text)
 }

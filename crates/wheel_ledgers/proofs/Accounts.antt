@@ -10,8 +10,8 @@ use Rattle.ledgers.specs.Summaries.{Summary}
 use Rattle.ledgers.specs.declared.account.Account.{Account}
 use Rattle.ledgers.specs.declared.found.FoundCycle.{FoundCycle}
 use Rattle.ledger_text.specs.Entries.{Words}
-use Rattle.ledger_text.specs.Figures.{printed_text}
 use Rattle.ledger_text.specs.Tellings.{ledger_text}
+use Rattle.wheel_ledgers.specs.Figures.{printed_text}
 use Rattle.wheel_ledgers.specs.Printed.{place_printed}
 use Rattle.wheel_ledgers.specs.Told.{IsFigureText, IsPlaceText, IsTextFor, TellsLedger, account_told, words_told}
 use Rattle.wheel_ledgers.specs.declared.chart_totals.TitledAccount.{TitledAccount}

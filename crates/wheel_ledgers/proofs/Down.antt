@@ -1,14 +1,16 @@
 -- Ledgers one behind the other, and those to which they lead.
-use Rattle.std.proofs.Common.{◌≡◌, ◌∙◌, sym, ap, subst, ℕ, zero, suc, ◌+◌, ◌-◌, ◌<◌, ◌≤◌, List, [], ◌∷◌, ◌++◌, Option, take, length, get_or, arith}
+use Rattle.std.proofs.Common.{◌≡◌, ◌∙◌, sym, ap, subst, ℕ, zero, suc, ◌+◌, ◌<◌, ◌≤◌, Bool, true, false, Some, None, is_some, if◌then◌else◌, List, [], ◌∷◌, ◌++◌, Option, take, length, get_or, arith}
+use Rattle.std.proofs.lemmas.Bool.{false≢true}
 use Rattle.std.proofs.lemmas.List.{take_all, take_more}
-use Rattle.std.proofs.lemmas.List.Elements.{All-append, All-nil}
+use Rattle.std.proofs.lemmas.List.Elements.{All-append, All-cons, All-head, All-nil, All-tail}
 use Rattle.std.specs.List.{All}
-use Rattle.std.specs.Prelude.{Vec}
+use Rattle.std.specs.Prelude.{Vec, slice_get}
 use Rattle.std.specs.declared.alloc.Global.{Global}
 use Rattle.explanations.specs.Explanations.{IsExplanation}
 use Rattle.explanations.specs.declared.explanation.Explanation.{Explanation}
 use Rattle.hubs.specs.declared.hub.Hub.{Hub}
 use Rattle.ledger_holes.specs.Down.{ledger_down}
+use Rattle.ledgers.proofs.Summaries.{length-one}
 use Rattle.ledgers.specs.Running.{IsKeptLedger, PlacesLine}
 use Rattle.ledgers.specs.Summaries.{Summary}
 use Rattle.ledgers.specs.declared.account.Account.{Account}
@@ -18,7 +20,7 @@ use Rattle.setups.specs.Wiring.{Wiring}
 use Rattle.wheel_ledgers.specs.Lower.{AreLower, AreLowerOf, IsAsked, next_entry, no_entry}
 use Rattle.wheel_ledgers.specs.Told.{account_told, words_told}
 use Rattle.wheel_ledgers.specs.Totals.{find_total}
-use Rattle.wheel_ledgers.specs.Whole.{AreDown, AreLowerTold, AreToldLedgers, IsToldLedger, IsWholeText, TellsWhole, next_ledger, no_ledger}
+use Rattle.wheel_ledgers.specs.Whole.{AreDown, AreLowerTold, AreToldTo, IsToldLedger, IsWholeText, TellsNext, TellsWhole, is_among, none_told, one_told, with_lower, with_one}
 use Rattle.wheel_ledgers.specs.declared.chart_totals.TitledAccount.{TitledAccount}
 use Rattle.wheel_ledgers.specs.declared.lower.AskedLedger.{AskedLedger}
 
@@ -87,67 +89,98 @@ told-ledger wiring cards totals ends asked total account summary text lower foun
       leads = subst (λ (any : Account). AreLowerTold wiring cards totals any summary lower) same leads;
     }
 
--- the first ledgers of some are told
-pub record ToldTo (wiring : Wiring) (cards : List (List ℕ)) (totals : List TitledAccount) (ends : ℕ) (asked : List AskedLedger)
-    (place : ℕ) (text : List ℕ) (lower : List AskedLedger) : Type 0 where
-  pub are : AreToldLedgers wiring cards totals ends (take place asked) text lower
-  pub below : All (IsAsked wiring cards) lower
+-- ledgers that can be told, with some more
+all-with-one : (wiring : Wiring) (cards : List (List ℕ)) (one : AskedLedger) (asked : List AskedLedger) (among : Bool)
+    → IsAsked wiring cards one → All (IsAsked wiring cards) asked → All (IsAsked wiring cards) (if among then asked else asked ++ one ∷ [])
+all-with-one wiring cards one asked true is all = all
+all-with-one wiring cards one asked false is all =
+    All-append (IsAsked wiring cards) asked (one ∷ []) all (All-cons (IsAsked wiring cards) one [] is (All-nil (IsAsked wiring cards)))
 
-pub told-none : (wiring : Wiring) (cards : List (List ℕ)) (totals : List TitledAccount) (ends : ℕ) (asked : List AskedLedger)
-    (text : List ℕ) (lower : List AskedLedger) → text ≡ [] → lower ≡ [] → ToldTo wiring cards totals ends asked 0 text lower
-told-none wiring cards totals ends asked text lower empty none =
-    subst (λ (any : List ℕ). ToldTo wiring cards totals ends asked 0 any lower) (sym empty)
-    (subst (λ (any : List AskedLedger). ToldTo wiring cards totals ends asked 0 [] any) (sym none)
-    (record { are = no_ledger; below = All-nil (IsAsked wiring cards) }))
+all-with : (wiring : Wiring) (cards : List (List ℕ)) (lower asked : List AskedLedger) → All (IsAsked wiring cards) lower
+    → All (IsAsked wiring cards) asked → All (IsAsked wiring cards) (with_lower lower asked)
+all-with wiring cards [] asked below all = all
+all-with wiring cards (one ∷ others) asked below all =
+    all-with wiring cards others (with_one one asked) (All-tail (IsAsked wiring cards) one others below)
+    (all-with-one wiring cards one asked (is_among asked one) (All-head (IsAsked wiring cards) one others below) all)
 
-pub told-more : (wiring : Wiring) (cards : List (List ℕ)) (totals : List TitledAccount) (ends : ℕ) (asked : List AskedLedger) (place : ℕ)
-    (d one : AskedLedger) (old text new : List ℕ) (before next lower : List AskedLedger) → place < length asked
-    → one ≡ get_or asked place d → ToldTo wiring cards totals ends asked place old before
-    → IsToldLedger wiring cards totals ends one text next → All (IsAsked wiring cards) next → new ≡ old ++ text → lower ≡ before ++ next
-    → ToldTo wiring cards totals ends asked (place + 1) new lower
-told-more wiring cards totals ends asked place d one old text new before next lower less item told is below put led =
-    let taken : take (place + 1) asked ≡ take place asked ++ one ∷ [] =
-    take_more asked place d less ∙ ap (λ (e : AskedLedger). take place asked ++ e ∷ []) (sym item) in
-    subst (λ (any : List ℕ). ToldTo wiring cards totals ends asked (place + 1) any lower) (sym put)
-    (subst (λ (any : List AskedLedger). ToldTo wiring cards totals ends asked (place + 1) (old ++ text) any) (sym led)
+-- the one at a place
+one-in : AskedLedger → Option AskedLedger → AskedLedger
+one-in other None = other
+one-in other (Some one) = one
+
+one-same : (one other : AskedLedger) → Some one ≡ Some other → one ≡ other
+unfolding one-in
+one-same one other same = ap (one-in one) same
+
+none-is : (one : AskedLedger) → None ≡ Some one → ⊥
+none-is one same = false≢true (ap is_some same)
+
+pub in-within : (asked : List AskedLedger) (place : ℕ) (one : AskedLedger) → slice_get asked place ≡ Some one → place < length asked
+in-within [] zero one is = absurd (none-is one is)
+in-within [] (suc place) one is = absurd (none-is one is)
+in-within (other ∷ others) zero one is = omega arith
+in-within (other ∷ others) (suc place) one is = let rest = in-within others place one is in omega (arith, rest)
+
+pub in-can : (wiring : Wiring) (cards : List (List ℕ)) (asked : List AskedLedger) (place : ℕ) (one : AskedLedger)
+    → slice_get asked place ≡ Some one → All (IsAsked wiring cards) asked → IsAsked wiring cards one
+in-can wiring cards [] zero one is all = absurd (none-is one is)
+in-can wiring cards [] (suc place) one is all = absurd (none-is one is)
+in-can wiring cards (other ∷ others) zero one is all =
+    subst (IsAsked wiring cards) (one-same other one is) (All-head (IsAsked wiring cards) other others all)
+in-can wiring cards (other ∷ others) (suc place) one is all =
+    in-can wiring cards others place one is (All-tail (IsAsked wiring cards) other others all)
+
+pub in-none : (asked : List AskedLedger) (place : ℕ) → slice_get asked place ≡ None → length asked ≤ place
+in-none [] place is = omega arith
+in-none (other ∷ others) zero is = absurd (none-is other (sym is))
+in-none (other ∷ others) (suc place) is = let rest = in-none others place is in omega (arith, rest)
+
+-- of the ledgers that are asked for the first ones are told
+pub record ToldTo (wiring : Wiring) (cards : List (List ℕ)) (totals : List TitledAccount) (ends : ℕ) (first asked : List AskedLedger)
+    (place : ℕ) (text : List ℕ) : Type 0 where
+  pub told : AreToldTo wiring cards totals ends first asked place text
+  pub can : All (IsAsked wiring cards) asked
+  pub within : place ≤ length asked
+
+pub told-none : (wiring : Wiring) (cards : List (List ℕ)) (totals : List TitledAccount) (ends : ℕ) (first : List AskedLedger)
+    (text : List ℕ) → text ≡ [] → All (IsAsked wiring cards) first → ToldTo wiring cards totals ends first first 0 text
+told-none wiring cards totals ends first text empty can =
+    subst (λ (any : List ℕ). ToldTo wiring cards totals ends first first 0 any) (sym empty)
+    (record { told = none_told; can = can; within = omega arith })
+
+-- no ledger that is asked for is dropped
+with-longer : (lower asked : List AskedLedger) → length asked ≤ length (with_lower lower asked)
+with-longer [] asked = omega arith
+with-longer (one ∷ others) asked =
+    let rest = with-longer others (with_one one asked) in
+    let here = by (is_among asked one) in
+    omega (arith, rest, here)
+  where
+    by : (among : Bool) → length asked ≤ length (if among then asked else asked ++ one ∷ [])
+    by true = omega arith
+    by false = let is = length-one asked one in omega (arith, is)
+
+pub told-more : (wiring : Wiring) (cards : List (List ℕ)) (totals : List TitledAccount) (ends : ℕ) (first asked new : List AskedLedger)
+    (place : ℕ) (one : AskedLedger) (old text : List ℕ) → slice_get asked place ≡ Some one
+    → ToldTo wiring cards totals ends first asked place old → TellsNext wiring cards totals ends one asked new old text
+    → ToldTo wiring cards totals ends first new (place + 1) text
+told-more wiring cards totals ends first asked new place one old text item told next =
+    subst (λ (any : List ℕ). ToldTo wiring cards totals ends first new (place + 1) any) (sym next.written)
+    (subst (λ (any : List AskedLedger). ToldTo wiring cards totals ends first any (place + 1) (old ++ next.text)) (sym next.led)
     (record {
-      are =
-          subst (λ (some : List AskedLedger). AreToldLedgers wiring cards totals ends some (old ++ text) (before ++ next)) (sym taken)
-          (next_ledger (take place asked) one old text before next told.are is);
-      below = All-append (IsAsked wiring cards) before next told.below below;
+      told = one_told asked place old next.text one next.lower told.told item next.told;
+      can = all-with wiring cards next.lower asked next.can told.can;
+      within =
+          let longer = with-longer next.lower asked in let less = in-within asked place one item in omega (arith, less, longer);
     }))
 
-pub told-all : (wiring : Wiring) (cards : List (List ℕ)) (totals : List TitledAccount) (ends : ℕ) (asked : List AskedLedger) (place : ℕ)
-    (text : List ℕ) (lower : List AskedLedger) → length asked ≤ place → ToldTo wiring cards totals ends asked place text lower
-    → AreToldLedgers wiring cards totals ends asked text lower
-told-all wiring cards totals ends asked place text lower past told =
-    subst (λ (some : List AskedLedger). AreToldLedgers wiring cards totals ends some text lower) (take_all place asked past) told.are
-
--- a round more
-pub down-none : (wiring : Wiring) (cards : List (List ℕ)) (totals : List TitledAccount) (ends rounds : ℕ) (asked : List AskedLedger)
-    (answer : List ℕ) → rounds ≡ 0 → answer ≡ [] → AreDown wiring cards totals ends rounds asked answer
-unfolding AreDown
-down-none wiring cards totals ends zero asked answer none empty = empty
-down-none wiring cards totals ends (suc rounds) asked answer none empty = absurd (omega (arith, none))
-
-pub down-more : (wiring : Wiring) (cards : List (List ℕ)) (totals : List TitledAccount) (ends rounds fewer : ℕ) (asked slice : List AskedLedger)
-    (texts rest answer : List ℕ) (lower : List AskedLedger) → 0 < rounds → fewer ≡ rounds - 1 → slice ≡ lower
-    → AreToldLedgers wiring cards totals ends asked texts lower → AreDown wiring cards totals ends fewer slice rest → answer ≡ texts ++ rest
-    → AreDown wiring cards totals ends rounds asked answer
-unfolding AreDown
-down-more wiring cards totals ends zero fewer asked slice texts rest answer lower some below same told down put = absurd (omega (arith, some))
-down-more wiring cards totals ends (suc rounds) fewer asked slice texts rest answer lower some below same told down put =
-    let here : fewer ≡ rounds = omega (arith, below) in
-    record {
-      texts = texts;
-      lower = lower;
-      told = told;
-      rest = rest;
-      below =
-          subst (λ (any : List AskedLedger). AreDown wiring cards totals ends rounds any rest) same
-          (subst (λ (n : ℕ). AreDown wiring cards totals ends n slice rest) here down);
-      whole = put;
-    }
+pub told-all : (wiring : Wiring) (cards : List (List ℕ)) (totals : List TitledAccount) (ends : ℕ) (first asked : List AskedLedger)
+    (place : ℕ) (text : List ℕ) → place ≡ length asked → ToldTo wiring cards totals ends first asked place text
+    → AreDown wiring cards totals ends first text
+told-all wiring cards totals ends first asked place text is told = record {
+  asked = asked;
+  all = subst (λ (n : ℕ). AreToldTo wiring cards totals ends first asked n text) is told.told;
+}
 
 -- all of it, for a wheel that is explained, of the line that was found
 pub tells-whole : (wiring : Wiring) (cards : List (List ℕ)) (totals : List TitledAccount) (ends page line wheel : ℕ) (told : Explanation)

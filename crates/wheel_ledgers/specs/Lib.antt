@@ -1,6 +1,7 @@
 pub mod Places
 pub mod Printed
 pub mod Totals
+pub mod Figures
 pub mod Told
 pub mod Resting
 pub mod Lower

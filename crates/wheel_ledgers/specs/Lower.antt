@@ -3,7 +3,7 @@ use Rattle.std.specs.Prelude.{◌≡◌, ℕ, ◌<◌, ◌==◌, ◌&&◌, Bool,
 use Rattle.std.specs.List.{flat_map, range_with_len}
 use Rattle.counters.specs.Counters.{Counter}
 use Rattle.ledger_holes.specs.Feeding.{feeds}
-use Rattle.ledger_holes.specs.InCycle.{IsInCycle}
+use Rattle.ledgers.specs.InCycle.{IsInCycle}
 use Rattle.ledgers.specs.Accounts.{counter_at}
 use Rattle.ledgers.specs.Running.{HasCycle}
 use Rattle.ledgers.specs.declared.account.Account.{Account}

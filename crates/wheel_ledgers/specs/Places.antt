@@ -1,11 +1,8 @@
 -- The places of counter groups.
-use Rattle.std.specs.Prelude.{ℕ, zero, suc, ◌+◌, ◌==◌, ◌&&◌, Bool, Option, Some, None, if◌then◌else◌}
+use Rattle.std.specs.Prelude.{ℕ, zero, suc, ◌+◌, Option, Some, None, if◌then◌else◌}
 use Rattle.counters.specs.Counters.{group_of_unit}
 use Rattle.hubs.specs.declared.hub.Group.{Group}
-
--- two groups are the same
-abbrev pub is_group : Group → Group → Bool
-is_group one other = (one.width == other.width) && (one.number == other.number)
+use Rattle.origins.specs.Holders.{is_group}
 
 -- the place of a group among the first so many; unit 3 has place 0
 abbrev pub place_below : ℕ → Group → Option ℕ

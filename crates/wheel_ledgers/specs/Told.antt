@@ -3,7 +3,6 @@ use Rattle.std.specs.Prelude.{◌≡◌, ℕ, List, ◌++◌, Option, Some, None
 use Rattle.explanations.specs.Explanations.{IsExplanation}
 use Rattle.explanations.specs.declared.explanation.Explanation.{Explanation}
 use Rattle.ledger_text.specs.Entries.{Words}
-use Rattle.ledger_text.specs.Figures.{printed_text}
 use Rattle.ledger_text.specs.Tellings.{ledger_text, no_ledger_text}
 use Rattle.ledger_text.specs.Titles.{words_of}
 use Rattle.ledgers.specs.Running.{IsKeptLedger, PlacesLine}
@@ -12,6 +11,7 @@ use Rattle.ledgers.specs.declared.account.Account.{Account}
 use Rattle.ledgers.specs.declared.account.Account.TheVariants.{One}
 use Rattle.ledgers.specs.declared.found.FoundCycle.{FoundCycle}
 use Rattle.setups.specs.Wiring.{Wiring}
+use Rattle.wheel_ledgers.specs.Figures.{printed_text}
 use Rattle.wheel_ledgers.specs.Printed.{place_printed}
 use Rattle.wheel_ledgers.specs.Totals.{find_total}
 use Rattle.wheel_ledgers.specs.declared.chart_totals.TitledAccount.{TitledAccount}

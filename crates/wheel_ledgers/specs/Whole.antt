@@ -1,5 +1,5 @@
 -- What a wheel is printed of, down to the holes.
-use Rattle.std.specs.Prelude.{◌≡◌, ℕ, zero, suc, List, [], ◌∷◌, ◌++◌, Option, Vec, if◌then◌else◌}
+use Rattle.std.specs.Prelude.{◌≡◌, All, ℕ, ◌+◌, ◌==◌, ◌&&◌, ◌||◌, Bool, false, List, [], ◌∷◌, ◌++◌, Option, Some, Vec, length, slice_get, if◌then◌else◌}
 use Rattle.std.specs.List.{flat_map, range_with_len}
 use Rattle.std.specs.declared.alloc.Global.{Global}
 use Rattle.explanations.specs.Explanations.{IsExplanation}
@@ -13,7 +13,7 @@ use Rattle.ledgers.specs.declared.found.FoundCycle.{FoundCycle}
 use Rattle.origins.specs.Told.{AreOrigins}
 use Rattle.origins.specs.declared.changes.PassedCycle.{PassedCycle}
 use Rattle.setups.specs.Wiring.{Wiring}
-use Rattle.wheel_ledgers.specs.Lower.{AreLower}
+use Rattle.wheel_ledgers.specs.Lower.{AreLower, IsAsked}
 use Rattle.wheel_ledgers.specs.Resting.{is_printed_of}
 use Rattle.wheel_ledgers.specs.Told.{account_told, words_told}
 use Rattle.wheel_ledgers.specs.Totals.{find_total}
@@ -41,30 +41,50 @@ pub record IsToldLedger (wiring : Wiring) (cards : List (List ℕ)) (totals : Li
   pub told : text ≡ ledger_down wiring cards summary asked.before.cycle asked.before.card (words_told (find_total totals asked.place))
   pub leads : AreLowerTold wiring cards totals (account_asked totals asked) summary lower
 
--- So it is with some ledgers, one behind the other.
-pub data AreToldLedgers (wiring : Wiring) (cards : List (List ℕ)) (totals : List TitledAccount) (ends : ℕ) :
-    List AskedLedger → List ℕ → List AskedLedger → Type 0 where
-  no_ledger : AreToldLedgers wiring cards totals ends [] [] []
-  next_ledger :
-      (others : List AskedLedger) (asked : AskedLedger) (texts text : List ℕ) (lower next : List AskedLedger)
-      → AreToldLedgers wiring cards totals ends others texts lower → IsToldLedger wiring cards totals ends asked text next
-      → AreToldLedgers wiring cards totals ends (others ++ asked ∷ []) (texts ++ text) (lower ++ next)
+-- two ledgers that are asked for are one: of the same group before the same cycle
+abbrev pub is_same : AskedLedger → AskedLedger → Bool
+is_same one other = (one.place == other.place) && (one.before.passed == other.before.passed)
 
--- a round: some ledgers are told, and behind them what is below those to which they lead
-pub record IsRound (wiring : Wiring) (cards : List (List ℕ)) (totals : List TitledAccount) (ends : ℕ) (asked : List AskedLedger)
-    (IsBelow : List AskedLedger → List ℕ → Type 0) (answer : List ℕ) : Type 0 where
-  pub texts : List ℕ
+-- one of some is this one
+abbrev pub is_among : List AskedLedger → AskedLedger → Bool
+is_among [] one = false
+is_among (other ∷ others) one = is_same other one || is_among others one
+
+-- one is asked for behind others, unless it is asked for already
+abbrev pub with_one : AskedLedger → List AskedLedger → List AskedLedger
+with_one one asked = if is_among asked one then asked else asked ++ one ∷ []
+
+-- some are
+abbrev pub with_lower : List AskedLedger → List AskedLedger → List AskedLedger
+with_lower [] asked = asked
+with_lower (one ∷ others) asked = with_lower others (with_one one asked)
+
+-- Helper word of the code: a ledger that is asked for is told behind a text, and those to which it leads, which can be told, are asked for.
+pub record TellsNext (wiring : Wiring) (cards : List (List ℕ)) (totals : List TitledAccount) (ends : ℕ) (one : AskedLedger)
+    (asked next : List AskedLedger) (old new : List ℕ) : Type 0 where
+  pub text : List ℕ
   pub lower : List AskedLedger
-  pub told : AreToldLedgers wiring cards totals ends asked texts lower
-  pub rest : List ℕ
-  pub below : IsBelow lower rest
-  pub whole : answer ≡ texts ++ rest
+  pub told : IsToldLedger wiring cards totals ends one text lower
+  pub can : All (IsAsked wiring cards) lower
+  pub written : new ≡ old ++ text
+  pub led : next ≡ with_lower lower asked
 
--- The ledgers that are asked for, then those to which they lead, and so on for so many rounds.
-unfoldable pub AreDown : Wiring → List (List ℕ) → List TitledAccount → (ends rounds : ℕ) → List AskedLedger → List ℕ → Type 0
-AreDown wiring cards totals ends zero asked answer = answer ≡ []
-AreDown wiring cards totals ends (suc rounds) asked answer =
-    IsRound wiring cards totals ends asked (AreDown wiring cards totals ends rounds) answer
+-- Of ledgers that are asked for the first so many are told, one behind the other. Those to which one leads are asked for behind all others,
+-- each once.
+pub data AreToldTo (wiring : Wiring) (cards : List (List ℕ)) (totals : List TitledAccount) (ends : ℕ) (first : List AskedLedger) :
+    (asked : List AskedLedger) → (place : ℕ) → (texts : List ℕ) → Type 0 where
+  none_told : AreToldTo wiring cards totals ends first first 0 []
+  one_told :
+      (asked : List AskedLedger) (place : ℕ) (texts text : List ℕ) (one : AskedLedger) (lower : List AskedLedger)
+      → AreToldTo wiring cards totals ends first asked place texts → slice_get asked place ≡ Some one
+      → IsToldLedger wiring cards totals ends one text lower
+      → AreToldTo wiring cards totals ends first (with_lower lower asked) (place + 1) (texts ++ text)
+
+-- The ledgers that are asked for first are told, those to which they lead, and so on until all that are asked for are told.
+pub record AreDown (wiring : Wiring) (cards : List (List ℕ)) (totals : List TitledAccount) (ends : ℕ) (first : List AskedLedger)
+    (answer : List ℕ) : Type 0 where
+  pub asked : List AskedLedger
+  pub all : AreToldTo wiring cards totals ends first asked (length asked) answer
 
 -- the ledger of a place before a cycle, if a way begins at an exit of its group
 abbrev pub asked_at : List (Option (Vec Hub Global)) → PassedCycle → ℕ → List AskedLedger
@@ -84,7 +104,7 @@ cycle_found found = record { cycle = found.cycle; card = found.card; passed = fo
 pub record IsWholeText (wiring : Wiring) (cards : List (List ℕ)) (totals : List TitledAccount) (ends : ℕ) (found : FoundCycle)
     (ways : List (Option (Vec Hub Global))) (answer : List ℕ) : Type 0 where
   pub ledgers : List ℕ
-  pub down : AreDown wiring cards totals ends 12 (asked_of ways (cycle_found found)) ledgers
+  pub down : AreDown wiring cards totals ends (asked_of ways (cycle_found found)) ledgers
   pub origins : List ℕ
   pub are : AreOrigins wiring cards found ways origins
   pub whole : answer ≡ ledgers ++ origins

@@ -1,20 +1,14 @@
 //! The places of counter groups.
 
 ghost use Rattle.std.specs.Prelude.{◌≡◌, ◌≤◌, ◌<◌, IfSome};
-ghost use Rattle.wheel_ledgers.specs.Places.{is_group, place_below, place_of};
+ghost use Rattle.wheel_ledgers.specs.Places.{place_below, place_of};
 
 use counters::group_of_unit;
 use hubs::Group;
+use origins::is_group;
 
 // How many counter groups there are.
 pub(crate) const GROUPS: usize = 32;
-
-// Whether two groups are the same.
-fn is_group(one: Group, other: Group) -> bool
-    ensures { result ≡ is_group one other }
-{
-    one.width == other.width && one.number == other.number
-}
 
 // The place of a group among the first so many.
 fn place_below(count: usize, group: Group) -> Option<usize>

@@ -12,10 +12,11 @@ ghost use Rattle.wheel_ledgers.specs.Told.{IsFigureText, IsPlaceText, IsTextFor,
 ghost use Rattle.wheel_ledgers.specs.Totals.{AreAccounts, find_total};
 
 use crate::chart_totals::{TitledAccount, find_total};
+use crate::figures::write_printed;
 use crate::printed::place_printed;
 use card_code::Card;
 use explanations::{Explanation, Refusal, explain};
-use ledger_text::{Title, write_ledger, write_no_ledger, write_printed};
+use ledger_text::{Title, write_ledger, write_no_ledger};
 use ledgers::{Account, FoundCycle, find_cycle, ledger_before};
 use setups::Setup;
 use std::alloc::{AllocError, Global};

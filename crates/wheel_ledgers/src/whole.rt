@@ -1,6 +1,6 @@
 //! What a wheel is printed of, down to the holes.
 
-ghost use Rattle.std.specs.Prelude.{◌≡◌, ◌≤◌, ◌<◌, ◌⊎◌, ◌++◌, All, Err, IfOk, OnOk, length};
+ghost use Rattle.std.specs.Prelude.{◌≡◌, ◌≤◌, ◌<◌, ◌⊎◌, ◌++◌, All, Err, IfOk, OnOk, length, slice_get};
 ghost use Rattle.card_code.specs.MostCards.{most_cards};
 ghost use Rattle.explanations.specs.Explanations.{IsExplanation};
 ghost use Rattle.explanations.specs.PlacedInRun.{PrintsNoneAt};
@@ -11,7 +11,7 @@ ghost use Rattle.ledgers.specs.Running.{HasCycle, PlacesLine};
 ghost use Rattle.wheel_ledgers.specs.Lower.{IsAsked};
 ghost use Rattle.wheel_ledgers.specs.Told.{words_told};
 ghost use Rattle.wheel_ledgers.specs.Totals.{AreAccounts, find_total};
-ghost use Rattle.wheel_ledgers.specs.Whole.{AreDown, AreLowerTold, AreToldLedgers, IsToldLedger, IsWholeText, TellsWhole, asked_at, asked_of, cycle_found};
+ghost use Rattle.wheel_ledgers.specs.Whole.{AreDown, AreLowerTold, IsToldLedger, IsWholeText, TellsNext, TellsWhole, asked_at, asked_of, cycle_found, is_among, is_same, with_lower, with_one};
 
 use crate::chart_totals::{TitledAccount, find_total};
 use crate::lower::{AskedLedger, lower_of_all};
@@ -28,10 +28,7 @@ use origins::{PassedCycle, origins_of};
 use setups::Setup;
 use std::alloc::{AllocError, Global};
 
-// How many rounds go down: as many as there are program cycles.
-const ROUNDS: u8 = 12;
-
-// Ledgers that were told, and those to which they lead.
+// A ledger that was told, and those to which it leads.
 #[derive(Drop)]
 struct Told {
     text: Vec<u8>,
@@ -112,60 +109,101 @@ fn told_ledger(
     Ok(Told { text, lower })
 }
 
-// Some ledgers that are asked for, and those to which they lead.
-fn told_ledgers(
-    alloc: Global,
-    setup: &Setup,
-    totals: &[TitledAccount],
-    cards: &[Card],
-    asked: &[AskedLedger],
-    ends: usize,
-) -> Result<Told, AllocError>
-    requires few { length cards.now ≤ most_cards }
-    requires accounts { AreAccounts totals.now }
-    requires asked { All (IsAsked setup.now cards.now) asked.now }
-    ensures told { IfOk result (λ told. AreToldLedgers setup.now cards.now totals.now ends asked.now told.text.items told.lower.items) }
-    ensures below { IfOk result (λ told. All (IsAsked setup.now cards.now) told.lower.items) }
+// Whether two ledgers that are asked for are one: of the same group before the same cycle.
+fn is_same(one: &AskedLedger, other: AskedLedger) -> bool
+    ensures { result ≡ is_same one.now other }
 {
-    let mut text = Vec::new(alloc);
-    let mut lower = Vec::new(alloc);
-    for one in asked {
-        let told = told_ledger(alloc, setup, totals, cards, *one, ends)?;
-        text.extend_from_slice(told.text.as_slice())?;
-        lower.extend_from_slice(told.lower.as_slice())?;
-    }
-    Ok(Told { text, lower })
+    one.place == other.place && one.before.passed == other.before.passed
 }
 
-// The ledgers that are asked for, then those to which they lead, and so on for so many rounds.
-fn down_to(
+// Whether one of some is this one.
+fn is_among(asked: &[AskedLedger], one: AskedLedger) -> bool
+    ensures { result ≡ is_among asked.now one }
+{
+    for other in asked {
+        if is_same(other, one) {
+            return true;
+        }
+    }
+    false
+}
+
+// Asks for a ledger behind others, unless it is asked for already.
+fn ask_for(asked: &mut Vec<AskedLedger>, one: AskedLedger) -> Result<(), AllocError>
+    ensures { OnOk result (asked.new.items ≡ with_one one asked.old.items) }
+{
+    if !is_among(asked.as_slice(), one) {
+        asked.push(one)?;
+    }
+    Ok(())
+}
+
+// Asks for some.
+fn ask_for_all(asked: &mut Vec<AskedLedger>, lower: &[AskedLedger]) -> Result<(), AllocError>
+    ensures { OnOk result (asked.new.items ≡ with_lower lower.now asked.old.items) }
+{
+    for one in lower {
+        ask_for(asked, *one)?;
+    }
+    Ok(())
+}
+
+// The one at a place of some, if there is one.
+fn asked_in(asked: &[AskedLedger], place: usize) -> Option<AskedLedger>
+    ensures { result ≡ slice_get asked.now place }
+{
+    match asked.get(place) {
+        Some(one) => Some(*one),
+        None => None,
+    }
+}
+
+// Puts a ledger that is asked for behind a text, and asks for those to which it leads.
+fn tell_next(
     alloc: Global,
     setup: &Setup,
     totals: &[TitledAccount],
     cards: &[Card],
-    asked: &[AskedLedger],
+    asked: &mut Vec<AskedLedger>,
+    text: &mut Vec<u8>,
+    one: AskedLedger,
     ends: usize,
-    rounds: u8,
+) -> Result<(), AllocError>
+    requires few { length cards.now ≤ most_cards }
+    requires accounts { AreAccounts totals.now }
+    requires one { IsAsked setup.now cards.now one }
+    ensures { OnOk result (TellsNext setup.now cards.now totals.now ends one asked.old.items asked.new.items text.old.items text.new.items) }
+{
+    let told = told_ledger(alloc, setup, totals, cards, one, ends)?;
+    text.extend_from_slice(told.text.as_slice())?;
+    Ok(ask_for_all(asked, told.lower.as_slice())?)
+}
+
+// The ledgers that are asked for, then those to which they lead, and so on until all that are asked for are told. Each leads to cycles before
+// its own, so that there is an end.
+fn all_told(
+    alloc: Global,
+    setup: &Setup,
+    totals: &[TitledAccount],
+    cards: &[Card],
+    first: Vec<AskedLedger>,
+    ends: usize,
 ) -> Result<Vec<u8>, AllocError>
     requires few { length cards.now ≤ most_cards }
     requires accounts { AreAccounts totals.now }
-    requires asked { All (IsAsked setup.now cards.now) asked.now }
-    ensures { IfOk result (λ text. AreDown setup.now cards.now totals.now ends rounds asked.now text.items) }
+    requires asked { All (IsAsked setup.now cards.now) first.items }
+    ensures { IfOk result (λ text. AreDown setup.now cards.now totals.now ends first.items text.items) }
 {
-    if rounds == 0 {
-        return Ok(Vec::new(alloc));
+    let mut text = Vec::new(alloc);
+    let mut asked = first;
+    for place in 0..usize::MAX {
+        let Some(one) = asked_in(asked.as_slice(), place) else {
+            return Ok(text);
+        };
+        tell_next(
+            alloc, setup, totals, cards, &mut asked, &mut text, one, ends,
+        )?;
     }
-    let told = told_ledgers(alloc, setup, totals, cards, asked, ends)?;
-    let rest = down_to(
-        alloc,
-        setup,
-        totals,
-        cards,
-        told.lower.as_slice(),
-        ends,
-        rounds - 1,
-    )?;
-    let text = put_together(alloc, told.text.as_slice(), rest.as_slice())?;
     Ok(text)
 }
 
@@ -227,7 +265,7 @@ fn whole_text(
     ensures { IfOk result (λ text. IsWholeText setup.now cards.now totals.now ends found ways.now text.items) }
 {
     let asked = asked_of(alloc, ways, cycle_found(found))?;
-    let ledgers = down_to(alloc, setup, totals, cards, asked.as_slice(), ends, ROUNDS)?;
+    let ledgers = all_told(alloc, setup, totals, cards, asked, ends)?;
     let origins = origins_of(alloc, setup, cards, found, ways)?;
     let text = put_together(alloc, ledgers.as_slice(), origins.as_slice())?;
     Ok(text)
@@ -261,7 +299,7 @@ fn whole_of(
 }
 
 /// The text of all that a wheel of a line is printed of, down to the holes. First come the ledgers of all counter groups at one of whose
-/// exits a way to the wheel begins, then those of the groups whose numbers came to these, and so on; below each entry of a card cycle
+/// exits a way to the wheel begins, then those of the groups whose numbers came to these, and so on, each once; below each entry of a card cycle
 /// stands by which hole each digit came in. Then come the origins, as [`origins_of`] tells them. The text is empty if there is nothing of
 /// all this.
 ///

@@ -1,8 +1,0 @@
-use Rattle.std.proofs.Common.{sym, subst, List, ℕ}
-use Rattle.origins.specs.Storage.{AreStorageTexts, none}
-use Rattle.origins.proofs.storage.storage_texts.Goals as goal
-
-pub loop-place-init : goal.loop-place-init
-loop-place-init c =
-    subst (λ (all : List ℕ). AreStorageTexts c.args.setup.now c.args.cards.now c.args.passed c.args.ways.now 0 all)
-    (sym c.new-text.ensures.items) none
