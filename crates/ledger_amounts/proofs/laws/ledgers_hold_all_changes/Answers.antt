@@ -1,0 +1,8 @@
+use Rattle.ledger_amounts.proofs.Changes.{ledgers-hold, ledgers-hold-no-others}
+use Rattle.ledger_amounts.proofs.laws.ledgers_hold_all_changes.Goals as goal
+
+pub returns-clause-all : goal.returns-clause-all
+returns-clause-all c = ledgers-hold
+
+pub returns-clause-others : goal.returns-clause-others
+returns-clause-others c = ledgers-hold-no-others

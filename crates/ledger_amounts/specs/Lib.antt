@@ -1,0 +1,6 @@
+pub mod Postings
+pub mod Amounts
+pub mod Changes
+pub mod CoupledSums
+pub mod Found
+pub mod Examples
