@@ -24,7 +24,8 @@ use Rattle.faults.specs.ChartCauses.{of_rule, of_text}
 use Rattle.faults.specs.Told.{chart_told}
 use Rattle.faults.specs.declared.fault.Fault.{Fault}
 use Rattle.fault_lists.specs.Endings.{AnswersOk, EndsCapacity, EndsListing, HasListed, WritesBehind, WritesText, by_capacity, by_rules, by_text, broken_off}
-use Rattle.fault_lists.specs.TextEntries.{capacities_text, text_entry}
+use Rattle.fault_lists.specs.CapacityEntries.{capacities_text}
+use Rattle.fault_lists.specs.TextEntries.{text_entry}
 use Rattle.misread_lines.specs.Misread.{AreMisread}
 
 -- a fault of a text
@@ -109,7 +110,7 @@ ok_answered (Ok done) source raw chart old middle new reads same lawful listed f
 ok_answered (Err fault) source raw chart old middle new reads same lawful listed fits = tt
 
 ends_by : (source : List ℕ) (raw chart : Chart) (old middle new : Option (List ℕ)) (fault : Fault) → Reads source raw → chart ≡ raw
-    → IsLawful raw → HasListed source raw old middle → EndsCapacity chart middle new fault → EndsListing source old new fault
+    → IsLawful raw → HasListed source raw old middle → EndsCapacity source chart middle new fault → EndsListing source old new fault
 ends_by source raw chart old middle new fault reads same lawful listed (inl off) = broken_off off
 ends_by source raw chart old middle new fault reads same lawful listed (inr (cause, has, is, (all, are, written))) =
     by_capacity (record {
@@ -122,12 +123,12 @@ ends_by source raw chart old middle new fault reads same lawful listed (inr (cau
       are_all = subst (λ (c : Chart). AreAllOver (wanted_of c.lines) standard in_order all) same are;
       first = first_is (wanted_of chart.lines) standard cause has all are;
       is_told = is;
-      written = unwritten source raw old middle new (capacities_text (wanted_of raw.lines).totals all) listed lawful
-          (subst (λ (c : Chart). Appends middle new (capacities_text (wanted_of c.lines).totals all)) same written);
+      written = unwritten source raw old middle new (capacities_text source raw.lines (wanted_of raw.lines).totals all) listed lawful
+          (subst (λ (c : Chart). Appends middle new (capacities_text source c.lines (wanted_of c.lines).totals all)) same written);
     })
 
 pub capacity_listed : {U : Type 0} (answer : Result U Fault) (source : List ℕ) (raw chart : Chart) (old middle new : Option (List ℕ)) → Reads source raw → chart ≡ raw
-    → IsLawful raw → HasListed source raw old middle → IfErr answer (λ fault. EndsCapacity chart middle new fault)
+    → IsLawful raw → HasListed source raw old middle → IfErr answer (λ fault. EndsCapacity source chart middle new fault)
     → IfErr answer (λ fault. EndsListing source old new fault)
 capacity_listed (Ok done) source raw chart old middle new reads same lawful listed ends = tt
 capacity_listed (Err fault) source raw chart old middle new reads same lawful listed ends =

@@ -22,7 +22,8 @@ use Rattle.faults.specs.Told.{capacity_told, chart_told}
 use Rattle.faults.specs.declared.fault.Fault.{Fault}
 use Rattle.faults.specs.declared.fault.Fault.TheVariants as told
 use Rattle.fault_lists.specs.Behind.{TellsRest}
-use Rattle.fault_lists.specs.TextEntries.{capacities_text, text_entry}
+use Rattle.fault_lists.specs.CapacityEntries.{capacities_text}
+use Rattle.fault_lists.specs.TextEntries.{text_entry}
 
 -- the text is a chart that breaks no rule and fits the standard machine
 pub record HasGoodChart (text : List ℕ) : Type 0 where
@@ -91,7 +92,7 @@ pub record ListsCapacity (text : List ℕ) (old new : Option (List ℕ)) (fault 
   pub are_all : AreAllOver (wanted_of chart.lines) standard in_order all
   pub first : slice_get all 0 ≡ Some cause
   pub is_told : fault ≡ capacity_told cause
-  pub written : Appends old new (capacities_text (wanted_of chart.lines).totals all)
+  pub written : Appends old new (capacities_text text chart.lines (wanted_of chart.lines).totals all)
 
 -- memory was wanting, or the output can't be written
 abbrev pub IsBrokenOff : Fault → Type 0
@@ -113,9 +114,9 @@ pub record HasListed (text : List ℕ) (chart : Chart) (old new : Option (List �
   pub written : Appends old new (entries_text text chart list)
 
 -- the capacities that a chart exceeds were listed and the first is told, or the list broke off
-abbrev pub EndsCapacity : Chart → (old new : Option (List ℕ)) → Fault → Type 0
-EndsCapacity chart old new fault =
+abbrev pub EndsCapacity : (text : List ℕ) → Chart → (old new : Option (List ℕ)) → Fault → Type 0
+EndsCapacity text chart old new fault =
     IsBrokenOff fault
     ⊎ ((cause : CapacityFault) × HasCapacityFault (wanted_of chart.lines) standard cause × (fault ≡ capacity_told cause)
     × ((all : List CapacityFault) × AreAllOver (wanted_of chart.lines) standard in_order all
-    × Appends old new (capacities_text (wanted_of chart.lines).totals all)))
+    × Appends old new (capacities_text text chart.lines (wanted_of chart.lines).totals all)))

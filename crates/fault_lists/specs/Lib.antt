@@ -1,3 +1,4 @@
 pub mod TextEntries
+pub mod CapacityEntries
 pub mod Behind
 pub mod Endings

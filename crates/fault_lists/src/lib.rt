@@ -1,13 +1,16 @@
 //! The command that lists all faults of a chart, from the bytes of the chart.
 //!
 //! [`list_chart_to_end`] answers `ok` as `check` does, or lists the faults on `out` and tells on standard error the one that `check` tells.
-//! Of a text in which no form derives some lines, each of these is shown with its slip, and behind them what the other lines break whatever these say; of a chart that was read every rule that is broken, at every
-//! line that breaks it; of a lawful chart every capacity that it exceeds.
+//! Of a text in which no form derives some lines, each of these is shown with its slip, and behind them what the other lines break whatever
+//! these say; of a chart that was read every rule that is broken, at every line that breaks it; of a lawful chart every capacity that it
+//! exceeds, with the lines that ask for it.
 //!
-//! `specs/Endings.antt` says what is listed and told in each case, `Behind.antt` what is listed behind lines of no form, and `TextEntries.antt` the entries that `fault_words` doesn't have.
+//! `specs/Endings.antt` says what is listed and told in each case, `Behind.antt` what is listed behind lines of no form, and `TextEntries.antt`
+//! and `CapacityEntries.antt` the entries that `fault_words` doesn't have.
 #![tactic(auto)]
 
 mod behind;
+mod capacities;
 mod entries;
 mod listing;
 mod rules;

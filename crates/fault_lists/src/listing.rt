@@ -14,7 +14,8 @@ ghost use Rattle.faults.specs.Told.{chart_told};
 ghost use Rattle.fault_lists.specs.Endings.{AnswersOk, EndsCapacity, EndsListing, HasListed, IsBrokenOff, WritesBehind, WritesText};
 
 use crate::behind::list_behind;
-use crate::entries::{write_capacities, write_text_entry};
+use crate::capacities::{Source, write_capacities};
+use crate::entries::write_text_entry;
 use crate::rules::write_rules;
 use allocate::{CapacityFault, allocate};
 use capacity::Profile;
@@ -96,11 +97,12 @@ fn list_rest<'a, W: Write>(
 fn told_capacities<'a, W: Write>(
     alloc: Global,
     out: &mut W,
+    text: &[u8],
     chart: &Chart,
     first: CapacityFault,
 ) -> Fault<'a>
     requires { HasCapacityFault (wanted_of chart.now.lines) standard first }
-    ensures { EndsCapacity chart.now (W.contents out.old) (W.contents out.new) result }
+    ensures { EndsCapacity text.now chart.now (W.contents out.old) (W.contents out.new) result }
 {
     let Ok(wanted) = Wanted::of(alloc, chart) else {
         return Fault::Memory;
@@ -108,7 +110,12 @@ fn told_capacities<'a, W: Write>(
     let Ok(list) = capacity_faults(alloc, &wanted, &Profile::standard()) else {
         return Fault::Memory;
     };
-    match write_capacities(out, wanted.totals(), list.as_slice()) {
+    let source = Source {
+        text,
+        lines: chart.lines(),
+        totals: wanted.totals(),
+    };
+    match write_capacities(out, &source, list.as_slice()) {
         Ok(()) => first.into(),
         Err(error) => unprinted(&error),
     }
@@ -129,16 +136,21 @@ fn list_rules<'a, W: Write>(
 }
 
 /// Answers `ok` where a chart fits the machine, or lists the capacities that it exceeds.
-fn list_capacity<'a, W: Write>(alloc: Global, out: &mut W, chart: &Chart) -> Result<(), Fault<'a>>
+fn list_capacity<'a, W: Write>(
+    alloc: Global,
+    out: &mut W,
+    text: &[u8],
+    chart: &Chart,
+) -> Result<(), Fault<'a>>
     ensures fits { OnOk result (FitsMachine (wanted_of chart.now.lines) standard
         × Appends (W.contents out.old) (W.contents out.new) (codes "ok\n")) }
-    ensures exceeds { IfErr result (λ told. EndsCapacity chart.now (W.contents out.old) (W.contents out.new) told) }
+    ensures exceeds { IfErr result (λ told. EndsCapacity text.now chart.now (W.contents out.old) (W.contents out.new) told) }
 {
     match allocate(alloc, chart, &Profile::standard()) {
         Ok(_plan) => put(out, b"ok\n"),
         // Want of memory is no fault of the chart, so it isn't listed.
         Err(CapacityFault::Memory) => Err(Fault::Memory),
-        Err(fault) => Err(told_capacities(alloc, out, chart, fault)),
+        Err(fault) => Err(told_capacities(alloc, out, text, chart, fault)),
     }
 }
 
@@ -155,7 +167,7 @@ fn list_read<'a, W: Write>(
 {
     list_rules(alloc, out, text, &raw)?;
     match check(alloc, raw) {
-        Ok(chart) => list_capacity(alloc, out, &chart),
+        Ok(chart) => list_capacity(alloc, out, text, &chart),
         Err(fault) => Err(rule_told(fault)),
     }
 }

@@ -1,5 +1,6 @@
 pub mod Below
 pub mod Parts
 pub mod Others
+pub mod FormWords
 pub mod Words
 pub mod Entries

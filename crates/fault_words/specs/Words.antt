@@ -16,6 +16,7 @@ use Rattle.field_rules.specs.Fields.{first_named}
 use Rattle.field_rules.specs.Names.{names_amount}
 use Rattle.chart_rules.specs.declared.rule.Rule.{Rule}
 use Rattle.chart_rules.specs.declared.rule.Rule.TheVariants as rule
+use Rattle.fault_words.specs.FormWords.{form_words}
 use Rattle.fault_words.specs.Parts.{name_on}
 use Rattle.fault_words.specs.Others.{meeting_words, met, number_words, range_text, subject, taken_words}
 
@@ -107,26 +108,6 @@ print_words (says.Space line spacing) = codes "no line puts anything on this kin
 print_words (says.After line action) = codes "no line puts anything on this kind of line"
 print_words other = codes "PRINT GROUP prints totals alone"
 
--- the lines of a form
-unfoldable pub form_lines : ℕ → List ℕ
-form_lines lines = codes "the form has " ++ decimal lines ++ codes " lines"
-
--- its first line
-unfoldable pub form_first : ℕ → List ℕ
-form_first first = codes ", its first line is " ++ decimal first
-
--- its overflow line
-unfoldable pub form_overflow : ℕ → List ℕ
-form_overflow overflow = codes ", its overflow line " ++ decimal overflow
-
--- which number of a form is which
-unfoldable pub form_text : ℕ → ℕ → ℕ → List ℕ
-form_text lines first overflow = form_lines lines ++ form_first first ++ form_overflow overflow
-
-unfoldable pub form_words : Statement → List ℕ
-form_words (says.Form lines first overflow) = form_text lines first overflow
-form_words other = []
-
 -- a channel without a TAPE line
 unfoldable pub no_tape : ℕ → List ℕ
 no_tape channel = codes "channel " ++ decimal channel ++ codes " has no TAPE line"
@@ -214,7 +195,7 @@ words rule.WheelRange fields chart earlier line = taken_words fields line
 words rule.WheelOverlap fields chart earlier line = wheels_met fields line (met rule.WheelOverlap fields earlier line)
 words rule.WheelClash fields chart earlier line = wheels_met fields line (met rule.WheelClash fields earlier line)
 words rule.PrintKind fields chart earlier line = print_words line
-words rule.Form fields chart earlier line = form_words line
+words rule.Form fields chart earlier line = form_words chart line
 words rule.Tape fields chart earlier line = tape_words line
 words rule.CoupledMark fields chart earlier line = coupled_words (positions_of (field_on fields (name_on line)) (digits_of line))
 

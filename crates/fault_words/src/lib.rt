@@ -4,11 +4,12 @@
 //! `line 9 fault 34 WheelClash`; the lines below it are indented. The crate stands on `line_marks`, for the line and the mark, and on the
 //! tests of the rules, which tell the other line that a line meets.
 //!
-//! `specs/Entries.antt` has the text of an entry, `Words.antt` the words of each rule, `Parts.antt` the word of the line that is marked,
+//! `specs/Entries.antt` has the text of an entry, `Words.antt` the words of each rule, `FormWords.antt` those of a form, `Parts.antt` the word of the line that is marked,
 //! and `Others.antt` the other line. All words are functions of the chart.
 #![tactic(auto)]
 
 mod entries;
+mod form_words;
 mod others;
 mod parts;
 mod words;

@@ -9,6 +9,7 @@ ghost use Rattle.fault_words.specs.Others as others;
 ghost use Rattle.fault_words.specs.Parts as parts;
 ghost use Rattle.fault_words.specs.Words as law;
 
+use crate::form_words::write_form;
 use crate::others::{met, write_meeting, write_other, write_range, write_subject, write_taken};
 use crate::parts::name_on;
 use chart_rules::Rule;
@@ -268,55 +269,6 @@ fn print_words(statement: &Statement) -> &'static str
             "no line puts anything on this kind of line"
         }
         _ => "PRINT GROUP prints totals alone",
-    }
-}
-
-/// Writes the lines of a form.
-#[tactic(auto, unfolding(crate::specs::Words::form_lines))]
-fn write_form_lines<W: Write>(out: &mut W, lines: u16) -> io::Result<()>
-    ensures { OnOk result (Appends (W.contents out.old) (W.contents out.new) (law.form_lines lines)) }
-{
-    write_between(out, "the form has ", lines, " lines")
-}
-
-/// Writes its first line.
-#[tactic(auto, unfolding(crate::specs::Words::form_first))]
-fn write_form_first<W: Write>(out: &mut W, first: u16) -> io::Result<()>
-    ensures { OnOk result (Appends (W.contents out.old) (W.contents out.new) (law.form_first first)) }
-{
-    write_numbered(out, ", its first line is ", first)
-}
-
-/// Writes its overflow line.
-#[tactic(auto, unfolding(crate::specs::Words::form_overflow))]
-fn write_form_overflow<W: Write>(out: &mut W, overflow: u16) -> io::Result<()>
-    ensures { OnOk result (Appends (W.contents out.old) (W.contents out.new) (law.form_overflow overflow)) }
-{
-    write_numbered(out, ", its overflow line ", overflow)
-}
-
-/// Writes the three numbers of a form.
-#[tactic(auto, unfolding(crate::specs::Words::form_text))]
-fn write_form_text<W: Write>(out: &mut W, lines: u16, first: u16, overflow: u16) -> io::Result<()>
-    ensures { OnOk result (Appends (W.contents out.old) (W.contents out.new) (law.form_text lines first overflow)) }
-{
-    write_form_lines(out, lines)?;
-    write_form_first(out, first)?;
-    write_form_overflow(out, overflow)
-}
-
-/// Writes which number of a form is which.
-#[tactic(auto, unfolding(crate::specs::Words::form_words))]
-fn write_form<W: Write>(out: &mut W, statement: &Statement) -> io::Result<()>
-    ensures { OnOk result (Appends (W.contents out.old) (W.contents out.new) (law.form_words statement.now)) }
-{
-    match statement {
-        Statement::Form {
-            lines,
-            first,
-            overflow,
-        } => write_form_text(out, *lines, *first, *overflow),
-        _ => Ok(()),
     }
 }
 
@@ -602,7 +554,7 @@ pub(crate) fn write_words<W: Write>(
             write_wheels_met(out, around.fields, statement, other)
         }
         Rule::PrintKind => out.write_all(print_words(statement).as_bytes()),
-        Rule::Form => write_form(out, statement),
+        Rule::Form => write_form(out, around.lines, statement),
         Rule::Tape => write_tape(out, statement),
         Rule::CoupledMark => {
             let need = positions_of(around.field_of(statement), digits_of(statement));

@@ -1,5 +1,5 @@
 -- The span of a token is that token.
-use Rattle.std.proofs.Common.{◌≡◌, ℕ, suc, zero, ◌+◌, ◌-◌, ◌<◌, ◌≤◌, Bool, true, false, cond, eqb, List, [], ◌∷◌, ◌++◌, length, take, drop, get_or, Some, None, option_map, slice_get, min, length-drop, ◌⊎◌, inl, inr, refl, sym, ap, ◌∙◌, arith}
+use Rattle.std.proofs.Common.{◌≡◌, ℕ, suc, zero, ◌+◌, ◌-◌, ◌<◌, ◌≤◌, Bool, true, false, cond, eqb, List, [], ◌∷◌, ◌++◌, length, take, drop, get_or, Some, None, unwrap_or, Option, option_map, slice_get, min, length-drop, ◌⊎◌, inl, inr, refl, sym, ap, ◌∙◌, arith}
 use Rattle.std.specs.List.{prefix_len, slice_range}
 use Rattle.std.proofs.lemmas.Bool.{cases_lt, eqb-true, eqb-false}
 use Rattle.std.proofs.Math.Arith.{lt_of_le-ne}
@@ -13,7 +13,7 @@ use Rattle.tokens.specs.Dividing.{tokens_of, tokens_from, before, is_space, is_a
 use Rattle.tokens.proofs.Dividing.{tokens_of-spaces, tokens_of-cut_plain, tokens_of-cut_literal, tokens_of-open, no_space_after}
 use Rattle.tokens.proofs.TokenGrammar.{mapped, read_what_it_has}
 use Rattle.line_marks.specs.declared.span.Span.{Span}
-use Rattle.line_marks.specs.Spans.{token_length, first_end, token_start, span_at, span_of, spanned, IsTokenSpan, StandsUnderAToken}
+use Rattle.line_marks.specs.Spans.{token_length, first_end, token_start, span_at, span_of, spanned, word, IsTokenSpan, StandsUnderAToken}
 
 -- a part of a line behind a part
 drop_behind : (here more : ℕ) (line : List ℕ) → drop more (drop here line) ≡ drop (here + more) line
@@ -149,3 +149,45 @@ under_a_token index line within tokens has some = by (eqb (token_start index lin
     by false is =
         is_span tokens line (token_start index line)
         (token_at index line tokens read (lt_of_le-ne within (eqb-false (token_start index line) (length line) is)))
+
+-- the bytes of a span are so many of the line from its start on
+spanned_is : (line : List ℕ) (start : ℕ) → spanned line (span_at line start) ≡ take (token_length (drop start line)) (drop start line)
+spanned_is line start = ap (λ n. take n (drop start line)) (omega arith)
+
+-- in a line of tokens a word is the token of its place, or an empty one
+pub word_at : (index : ℕ) (line : List ℕ) (tokens : List (List ℕ)) → tokens_of line ≡ Some tokens → word index line ≡ get_or tokens index []
+unfolding token_start tokens_from
+word_at zero line tokens read = by (cases_lt (spaces line) (length line))
+  where
+    by : ((spaces line < length line) ⊎ (length line ≤ spaces line)) → word 0 line ≡ get_or tokens 0 []
+    by (inl there) =
+        let (others, is, left) = begins_after line tokens read there in
+        spanned_is line (spaces line) ∙ sym (ap (λ (ts : List (List ℕ)). get_or ts 0 []) is)
+    by (inr none) =
+        let empty : rest line ≡ [] = drop_of_length-le line none in
+        let no_tokens : Some [] ≡ Some tokens = ap tokens_of (sym empty) ∙ tokens_of-spaces line ∙ read in
+        spanned_is line (spaces line) ∙ ap (λ (l : List ℕ). take (token_length l) l) empty
+        ∙ ap (λ (ts : Option (List (List ℕ))). get_or (unwrap_or ts []) 0 []) no_tokens
+word_at (suc index) line tokens read = by (λ others left. word_at index (drop (first_end line) line) others left) (cases_lt (spaces line) (length line))
+  where
+    later : (others : List (List ℕ)) → word index (drop (first_end line) line) ≡ get_or others index []
+        → word (suc index) line ≡ get_or others index []
+    later others same =
+        spanned_is line (first_end line + token_start index (drop (first_end line) line))
+        ∙ ap (λ (l : List ℕ). take (token_length l) l) (sym (drop_behind (first_end line) (token_start index (drop (first_end line) line)) line))
+        ∙ sym (spanned_is (drop (first_end line) line) (token_start index (drop (first_end line) line)))
+        ∙ same
+
+    by : ((others : List (List ℕ)) → tokens_of (drop (first_end line) line) ≡ Some others
+        → word index (drop (first_end line) line) ≡ get_or others index [])
+        → ((spaces line < length line) ⊎ (length line ≤ spaces line)) → word (suc index) line ≡ get_or tokens (suc index) []
+    by same (inl there) =
+        let (others, is, left) = begins_after line tokens read there in
+        later others (same others (ap tokens_of (sym (drop_behind (spaces line) (token_length (rest line)) line)) ∙ left))
+        ∙ sym (ap (λ (ts : List (List ℕ)). get_or ts (suc index) []) is)
+    by same (inr none) =
+        let empty : rest line ≡ [] = drop_of_length-le line none in
+        let no_tokens : Some [] ≡ Some tokens = ap tokens_of (sym empty) ∙ tokens_of-spaces line ∙ read in
+        let passed : drop (first_end line) line ≡ [] = drop_of_length-le line (omega (arith, none)) in
+        later [] (same [] (ap tokens_of passed))
+        ∙ ap (λ (ts : Option (List (List ℕ))). get_or (unwrap_or ts []) (suc index) []) no_tokens

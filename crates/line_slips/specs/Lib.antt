@@ -1,3 +1,4 @@
+pub mod Below
 pub mod Slips
 pub mod Forms
 pub mod LineEntries

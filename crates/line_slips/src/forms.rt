@@ -63,9 +63,9 @@ fn near_word(word: &[u8]) -> &'static str
     }
 }
 
-/// The form of a word, in capital or small letters.
+/// The form that begins with a word, in capital or small letters, in words; of another word the first words that may be meant.
 #[tactic(auto, unfolding(crate::specs::Forms::form_words))]
-pub(crate) fn form_words(word: &[u8]) -> &'static str
+pub fn form_words(word: &[u8]) -> &'static str
     ensures { result.now ≡ law.form_words word.now }
 {
     if is_word(word, b"FIELD") {

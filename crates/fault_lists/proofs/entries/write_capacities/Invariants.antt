@@ -1,9 +1,0 @@
-use Rattle.std.proofs.Common.{take}
-use Rattle.std.specs.Io.KnownBytes.{Appends}
-use Rattle.fault_lists.specs.TextEntries.{capacities_text}
-use Rattle.fault_lists.proofs.entries.write_capacities.Given as goal
-
--- what is written is what is told so far
-abbrev pub invariant-loop-fault : goal.invariant-loop-fault
-invariant-loop-fault g l =
-    Appends (g.W.Write.contents l.initial.out) (g.W.Write.contents l.out) (capacities_text l.totals (take l.fault-index l.list))

@@ -1,0 +1,127 @@
+-- The entries of capacities that a chart exceeds.
+use Rattle.std.specs.Prelude.{ℕ, ◌==◌, List, [], ◌++◌, Option, Some, None, codes, decimal, if◌then◌else◌}
+use Rattle.std.specs.List.{flat_map}
+use Rattle.allocate.specs.declared.fault.CapacityFault.{CapacityFault}
+use Rattle.allocate.specs.declared.fault.CapacityFault.TheVariants as exceeded
+use Rattle.charts.specs.Levels.{control_number}
+use Rattle.charts.specs.declared.chart.Line.{Line}
+use Rattle.charts.specs.declared.level.ControlLevel.{ControlLevel}
+use Rattle.charts.specs.declared.statement.DetailOption.TheVariants.{Indicated, Marked}
+use Rattle.charts.specs.declared.statement.Mark.{Mark}
+use Rattle.charts.specs.declared.statement.Statement.{Statement}
+use Rattle.charts.specs.declared.statement.Statement.TheVariants as says
+use Rattle.faults.specs.Lines.{fault_line}
+use Rattle.faults.specs.Told.{capacity_told}
+use Rattle.line_marks.specs.Below.card_code.Deck.{line_at}
+use Rattle.line_marks.specs.Entries.{below, shown}
+use Rattle.line_marks.specs.Spans.{span_of}
+use Rattle.wanted.specs.Totals.{is_at_least, takes_two}
+use Rattle.wanted.specs.declared.total.Total.{Total}
+
+-- what is wrong where a capacity is exceeded
+abbrev pub capacity_words : CapacityFault → List ℕ
+capacity_words (exceeded.Counters width wanted there) = codes "totals want more counter groups of so many positions, or more, than the machine has"
+capacity_words (exceeded.Pilots wanted there) = codes "more amounts with a sign column are printed than the machine has pilots"
+capacity_words (exceeded.Comparing wanted there) = codes "the CONTROL lines name more columns than the machine compares"
+capacity_words (exceeded.StorageWidth line) = codes "the text on this TOTAL line has more than the 16 columns of a storage unit"
+capacity_words (exceeded.StorageUnits wanted there) = codes "more texts stand on TOTAL lines than the machine has storage units"
+capacity_words (exceeded.Splits wanted there) = codes "more DETAIL amounts have their sign over a column of their own than the machine has splits"
+capacity_words (exceeded.Indicate level wanted there) = codes "the INDICATE items of this level have more columns than the machine has positions"
+capacity_words exceeded.Memory = []
+
+-- what helps
+abbrev pub cure : CapacityFault → List ℕ
+cure (exceeded.Counters width wanted there) =
+    codes "print a total in fewer digits, or drop one: a total needs a position for each digit, and one more with a sign column"
+cure (exceeded.Pilots wanted there) = codes "drop the sign column of amounts that are never negative, or leave amounts out"
+cure (exceeded.Comparing wanted there) = codes "shorten a control field to the columns that tell its groups apart, or drop a level"
+cure (exceeded.StorageWidth line) = codes "describe the columns once more as a shorter FIELD, and make that the control field"
+cure (exceeded.StorageUnits wanted there) = codes "print texts on the DETAIL line with INDICATE, and not on TOTAL lines"
+cure (exceeded.Splits wanted there) = codes "drop the sign column of amounts that are never negative, or punch signs in a column of their own"
+cure (exceeded.Indicate level wanted there) = codes "print some of them on every card, or shorten them"
+cure exceeded.Memory = []
+
+-- a line of a text with a number, and a mark under one of its words
+abbrev pub marked : (text : List ℕ) → (number place : ℕ) → List ℕ
+marked text number place = shown (line_at text number) (span_of place (line_at text number))
+
+-- whether a need takes two groups
+abbrev pub groups_words : ℕ → List ℕ
+groups_words need = if takes_two need then codes ", so two groups of 8\n" else codes "\n"
+
+-- how many positions a total needs, by its line
+abbrev pub positions_words : Total → List ℕ
+positions_words total =
+    codes "  line " ++ decimal total.line ++ codes ", positions needed: " ++ decimal total.need ++ groups_words total.need
+
+-- the same, and the line with a mark under the digits
+abbrev pub need_words : (text : List ℕ) → Total → List ℕ
+need_words text total = positions_words total ++ marked text total.line 4
+
+-- the same where the total wants a counter group of a width or a wider one
+unfoldable pub need_at : (text : List ℕ) → (width : ℕ) → Total → List ℕ
+need_at text width total = if is_at_least width total.need then need_words text total else []
+
+abbrev pub needs_at : (text : List ℕ) → (width : ℕ) → List Total → List ℕ
+needs_at text width totals = flat_map (need_at text width) totals
+
+-- the place of the name on a CONTROL line
+abbrev pub control_place : Statement → Option ℕ
+control_place (says.Control level name) = Some 2
+control_place other = None
+
+-- the place of the text on a TOTAL line
+abbrev pub text_place : Statement → Option ℕ
+text_place (says.TotalText level wheel name) = Some 3
+text_place other = None
+
+-- the place of a field that is shown on the first card of each group of a level
+abbrev pub indicated_place : ControlLevel → Statement → Option ℕ
+indicated_place level (says.DetailField wheel name (Indicated own)) = if control_number own == control_number level then Some 2 else None
+indicated_place level other = None
+
+-- a place, if there is a mark
+abbrev pub if_marked : Option Mark → ℕ → Option ℕ
+if_marked None place = None
+if_marked (Some mark) place = Some place
+
+-- the place of an amount that is printed with a mark
+abbrev pub signed_place : Statement → Option ℕ
+signed_place (says.DetailField wheel name (Marked mark)) = Some 2
+signed_place (says.TotalAmount total) = if_marked total.mark 3
+signed_place other = None
+
+-- the place of the word by which a line asks for a capacity, if it does; lines that ask for counter groups are told by their totals
+abbrev pub asking_place : CapacityFault → Line → Option ℕ
+asking_place (exceeded.Pilots wanted there) line = signed_place line.statement
+asking_place (exceeded.Comparing wanted there) line = control_place line.statement
+asking_place (exceeded.StorageWidth number) line = if line.number == number then text_place line.statement else None
+asking_place (exceeded.StorageUnits wanted there) line = text_place line.statement
+asking_place (exceeded.Indicate level wanted there) line = indicated_place level line.statement
+asking_place other line = None
+
+-- a line by its number, with a mark under that word
+unfoldable pub asking_text : (text : List ℕ) → (number : ℕ) → Option ℕ → List ℕ
+asking_text text number None = []
+asking_text text number (Some place) = (codes "  line " ++ decimal number ++ codes "\n") ++ marked text number place
+
+abbrev pub asking_line : (text : List ℕ) → CapacityFault → Line → List ℕ
+asking_line text fault line = asking_text text line.number (asking_place fault line)
+
+-- the lines that ask for a capacity
+abbrev pub lines_asking : (text : List ℕ) → CapacityFault → List Line → List ℕ
+lines_asking text fault lines = flat_map (asking_line text fault) lines
+
+-- what of a chart asks for a capacity: of counter groups the totals, and else the lines
+unfoldable pub wanted_words : (text : List ℕ) → List Line → List Total → CapacityFault → List ℕ
+wanted_words text lines totals (exceeded.Counters width wanted there) = needs_at text width totals
+wanted_words text lines totals other = lines_asking text other lines
+
+-- the entry of a capacity: the line of the fault, what is wrong, what of the chart asks for it, and what helps
+abbrev pub capacity_entry : (text : List ℕ) → List Line → List Total → CapacityFault → List ℕ
+capacity_entry text lines totals fault =
+    fault_line (capacity_told fault) ++ below (capacity_words fault) ++ wanted_words text lines totals fault ++ below (cure fault)
+
+-- the entries of some capacities
+abbrev pub capacities_text : (text : List ℕ) → List Line → List Total → List CapacityFault → List ℕ
+capacities_text text lines totals faults = flat_map (capacity_entry text lines totals) faults

@@ -1,0 +1,1 @@
+pub use Rattle.charts.specs as charts

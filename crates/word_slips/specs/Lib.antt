@@ -1,0 +1,5 @@
+pub mod Words
+pub mod Stages
+pub mod Phrases
+pub mod Halts
+pub mod Entries
