@@ -1,4 +1,4 @@
 pub mod Decks
 pub mod Fields
+pub mod Readings
 pub mod Sections
-pub mod Stations

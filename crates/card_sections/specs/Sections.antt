@@ -4,7 +4,7 @@ use Rattle.std.specs.Prelude.{ℕ, ◌+◌, ◌-◌, List, [], ◌++◌, codes, 
 use Rattle.charts.specs.declared.chart.Line.{Line}
 use Rattle.card_drawing.specs.Drawings.{shown_card}
 use Rattle.card_sections.specs.Fields.{card_fields}
-use Rattle.card_sections.specs.Stations.{card_run}
+use Rattle.card_sections.specs.Readings.{card_run}
 use Rattle.markup.specs.Pieces.{numbered_words}
 use Rattle.page_links.specs.Links.{card_open}
 use Rattle.page_links.specs.declared.shown.Shown.{Shown}
@@ -40,9 +40,9 @@ picture_text number = picture_open ++ shown_card number ++ codes "</svg>\n"
 unfoldable pub front_text : (number : ℕ) → Shown → List ℕ
 front_text number shown = links_text number shown ++ picture_text number
 
--- the front of an element, and what became of the card in a run with a trace
+-- the front of an element, and what became of the card by the part of the trace that is shown
 unfoldable pub section_front : ShownRun → (trace : List ℕ) → List PageSum → (number : ℕ) → List ℕ
-section_front shown trace sums number = front_text number shown.cards ++ card_run shown.cycles trace sums number
+section_front shown trace sums number = front_text number shown.cards ++ card_run shown trace sums number
 
 -- the element of a card
 unfoldable pub section_text : List Line → ShownRun → (trace : List ℕ) → List PageSum → (number : ℕ) → (card : List ℕ) → List ℕ

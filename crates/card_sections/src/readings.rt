@@ -1,12 +1,12 @@
 //! What became of a card in the run: in which cycles it stood at the reading stations, and into which sums it went.
 
-ghost use Rattle.std.specs.Prelude.{◌≡◌, ◌≤◌, ◌++◌, codes, length, OnOk};
+ghost use Rattle.std.specs.Prelude.{◌≡◌, ◌≤◌, ◌<◌, ◌+◌, ◌^◌, ◌++◌, codes, length, OnOk};
 ghost use Rattle.std.specs.String.{string_bytes};
 ghost use Rattle.card_code.specs.Lines.{lines_of};
-ghost use Rattle.card_sections.specs.Stations.{begins_with, card_run, card_stations, cycle_text, first_open, first_reading, first_text, left_behind, nth_line, second_open, second_reading, second_text, stations_text, sums_text};
+ghost use Rattle.card_sections.specs.Readings.{begins_with, card_run, card_stations, cycle_text, first_open, first_reading, first_text, left_behind, nth_line, second_open, second_reading, second_text, stations_text};
 
 use card_code::next_line;
-use page_links::{Shown, write_cycle_word};
+use page_links::{Shown, ShownRun, write_cycle_word};
 use std::alloc::AllocError;
 use sum_sections::{PageSum, write_card_sums};
 
@@ -27,12 +27,14 @@ fn left_behind(has_it: bool, left: usize) -> usize
     if has_it { left.saturating_sub(1) } else { left }
 }
 
-// The number of a line of a trace, from 1, of those that begin with a letter; 0 where there are not so many.
-fn nth_line(letter: u8, nth: usize, trace: &[u8]) -> usize
-    ensures { result ≡ nth_line letter nth 1 (lines_of trace.now) }
+// The number of a line of a trace, of which the first line has the number `first`, of those that begin with a letter; 0 where there are not
+// so many.
+fn nth_line(letter: u8, nth: usize, first: usize, trace: &[u8]) -> usize
+    requires { first ≤ 2 ^ 32 }
+    ensures { result ≡ nth_line letter nth first (lines_of trace.now) }
 {
     let mut left = nth;
-    let mut number: usize = 1;
+    let mut number = first;
     let mut rest = trace;
     while let Some((line, after)) = next_line(rest) {
         let has_it = begins_with(letter, line);
@@ -46,23 +48,28 @@ fn nth_line(letter: u8, nth: usize, trace: &[u8]) -> usize
     0
 }
 
-#[tactic(auto, unfolding(crate::specs::Stations::second_reading))]
+#[tactic(auto, unfolding(crate::specs::Readings::second_reading))]
 // In which cycle a card stood at second reading.
-fn second_reading(card: usize, trace: &[u8]) -> usize
-    ensures { result ≡ second_reading card trace.now }
+fn second_reading(shown: ShownRun, card: usize, trace: &[u8]) -> usize
+    requires few { card + 1 < 2 ^ 64 }
+    requires cycles { shown.cycles.first ≤ 2 ^ 32 }
+    ensures { result ≡ second_reading shown card trace.now }
 {
-    nth_line(b'C', card, trace)
+    let nth = (card + 1).saturating_sub(shown.cards.first);
+    nth_line(b'C', nth, shown.cycles.first, trace)
 }
 
-#[tactic(auto, unfolding(crate::specs::Stations::first_reading))]
+#[tactic(auto, unfolding(crate::specs::Readings::first_reading))]
 // In which cycle a card stood at first reading.
-fn first_reading(card: usize, trace: &[u8]) -> usize
-    ensures { result ≡ first_reading card trace.now }
+fn first_reading(shown: ShownRun, card: usize, trace: &[u8]) -> usize
+    requires { shown.cycles.first ≤ 2 ^ 32 }
+    ensures { result ≡ first_reading shown card trace.now }
 {
     if card == 1 {
-        nth_line(b'R', 1, trace)
+        nth_line(b'R', 1, shown.cycles.first, trace)
     } else {
-        nth_line(b'C', card.saturating_sub(1), trace)
+        let nth = card.saturating_sub(shown.cards.first);
+        nth_line(b'C', nth, shown.cycles.first, trace)
     }
 }
 
@@ -77,7 +84,7 @@ fn write_cycle(text: &mut String, shown: Shown, cycle: usize) -> Result<(), Allo
     }
 }
 
-#[tactic(auto, unfolding(crate::specs::Stations::first_open))]
+#[tactic(auto, unfolding(crate::specs::Readings::first_open))]
 // What stands before the first cycle.
 fn write_first_open(text: &mut String) -> Result<(), AllocError>
     ensures { OnOk result (string_bytes text.new ≡ string_bytes text.old ++ first_open) }
@@ -85,7 +92,7 @@ fn write_first_open(text: &mut String) -> Result<(), AllocError>
     text.push_str("<p>The card stood at first reading in ")
 }
 
-#[tactic(auto, unfolding(crate::specs::Stations::first_text))]
+#[tactic(auto, unfolding(crate::specs::Readings::first_text))]
 // The cycle in which a card stood at first reading.
 fn write_first(text: &mut String, shown: Shown, first: usize) -> Result<(), AllocError>
     ensures { OnOk result (string_bytes text.new ≡ string_bytes text.old ++ first_text shown first) }
@@ -94,7 +101,7 @@ fn write_first(text: &mut String, shown: Shown, first: usize) -> Result<(), Allo
     write_cycle(text, shown, first)
 }
 
-#[tactic(auto, unfolding(crate::specs::Stations::second_open))]
+#[tactic(auto, unfolding(crate::specs::Readings::second_open))]
 // What stands before the second cycle.
 fn write_second_open(text: &mut String) -> Result<(), AllocError>
     ensures { OnOk result (string_bytes text.new ≡ string_bytes text.old ++ second_open) }
@@ -102,7 +109,7 @@ fn write_second_open(text: &mut String) -> Result<(), AllocError>
     text.push_str(", and at second reading in ")
 }
 
-#[tactic(auto, unfolding(crate::specs::Stations::second_text))]
+#[tactic(auto, unfolding(crate::specs::Readings::second_text))]
 // The cycle in which a card stood at second reading.
 fn write_second(text: &mut String, shown: Shown, second: usize) -> Result<(), AllocError>
     ensures { OnOk result (string_bytes text.new ≡ string_bytes text.old ++ second_text shown second) }
@@ -112,7 +119,7 @@ fn write_second(text: &mut String, shown: Shown, second: usize) -> Result<(), Al
     text.push_str(".</p>\n")
 }
 
-#[tactic(auto, unfolding(crate::specs::Stations::stations_text))]
+#[tactic(auto, unfolding(crate::specs::Readings::stations_text))]
 // Both cycles.
 fn write_both(
     text: &mut String,
@@ -126,46 +133,39 @@ fn write_both(
     write_second(text, shown, second)
 }
 
-#[tactic(auto, unfolding(crate::specs::Stations::card_stations))]
+#[tactic(auto, unfolding(crate::specs::Readings::card_stations))]
 // In which cycles a card stood at the reading stations.
 fn write_stations(
     text: &mut String,
-    shown: Shown,
+    shown: ShownRun,
     card: usize,
     trace: &[u8],
 ) -> Result<(), AllocError>
+    requires few { card + 1 < 2 ^ 64 }
+    requires cycles { shown.cycles.first ≤ 2 ^ 32 }
     ensures { OnOk result (string_bytes text.new ≡ string_bytes text.old ++ card_stations shown card trace.now) }
 {
     write_both(
         text,
-        shown,
-        first_reading(card, trace),
-        second_reading(card, trace),
+        shown.cycles,
+        first_reading(shown, card, trace),
+        second_reading(shown, card, trace),
     )
 }
 
-// Into which sums a card went, by its cycle at second reading.
-fn write_sums(text: &mut String, sums: &[PageSum], second: usize) -> Result<(), AllocError>
-    ensures { OnOk result (string_bytes text.new ≡ string_bytes text.old ++ sums_text sums.now second) }
-{
-    if second == 0 {
-        Ok(())
-    } else {
-        write_card_sums(text, sums, second as u64 - 1)
-    }
-}
-
-#[tactic(auto, unfolding(crate::specs::Stations::card_run))]
+#[tactic(auto, unfolding(crate::specs::Readings::card_run))]
 // What became of a card in the run.
 pub(crate) fn write_run(
     text: &mut String,
-    shown: Shown,
+    shown: ShownRun,
     trace: &[u8],
     sums: &[PageSum],
     card: usize,
 ) -> Result<(), AllocError>
+    requires few { card + 1 < 2 ^ 64 }
+    requires cycles { shown.cycles.first ≤ 2 ^ 32 }
     ensures { OnOk result (string_bytes text.new ≡ string_bytes text.old ++ card_run shown trace.now sums.now card) }
 {
     write_stations(text, shown, card, trace)?;
-    write_sums(text, sums, second_reading(card, trace))
+    write_card_sums(text, sums, card)
 }

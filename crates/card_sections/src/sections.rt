@@ -1,6 +1,6 @@
 //! The elements of cards.
 
-ghost use Rattle.std.specs.Prelude.{◌≡◌, ◌<◌, ◌+◌, ◌^◌, ◌++◌, codes, length, OnOk};
+ghost use Rattle.std.specs.Prelude.{◌≡◌, ◌≤◌, ◌<◌, ◌+◌, ◌^◌, ◌++◌, codes, length, OnOk};
 ghost use Rattle.std.specs.String.{string_bytes};
 ghost use Rattle.markup.specs.Pieces.{numbered_words};
 ghost use Rattle.card_sections.specs.Sections.{back_text, before_text, front_text, links_text, next_text, picture_open, picture_text, section_front, section_open, section_text, sections_text};
@@ -109,10 +109,12 @@ fn write_section_front(
     sums: &[PageSum],
     number: usize,
 ) -> Result<(), AllocError>
+    requires few { number + 1 < 2 ^ 64 }
+    requires cycles { shown.cycles.first ≤ 2 ^ 32 }
     ensures { OnOk result (string_bytes text.new ≡ string_bytes text.old ++ section_front shown trace.now sums.now number) }
 {
     write_front(text, number, shown.cards)?;
-    write_run(text, shown.cycles, trace, sums, number)
+    write_run(text, shown, trace, sums, number)
 }
 
 #[tactic(auto, unfolding(crate::specs::Sections::section_text))]
@@ -127,6 +129,8 @@ fn write_section(
     number: usize,
     card: &Card,
 ) -> Result<(), AllocError>
+    requires few { number + 1 < 2 ^ 64 }
+    requires cycles { shown.cycles.first ≤ 2 ^ 32 }
     ensures { OnOk result (string_bytes text.new ≡ string_bytes text.old ++ section_text lines.now shown trace.now sums.now number card.now) }
 {
     write_section_front(text, shown, trace, sums, number)?;
@@ -145,7 +149,8 @@ fn write_sections(
     sums: &[PageSum],
     cards: &[Card],
 ) -> Result<(), AllocError>
-    requires { shown.cards.first + length cards.now < 2 ^ 64 }
+    requires few { shown.cards.first + length cards.now < 2 ^ 64 }
+    requires cycles { shown.cycles.first ≤ 2 ^ 32 }
     ensures { OnOk result (string_bytes text.new ≡ string_bytes text.old ++ numbered_words (section_text lines.now shown trace.now sums.now) shown.cards.first cards.now) }
 {
     let first = shown.cards.first;
@@ -165,9 +170,9 @@ fn write_sections(
 }
 
 #[tactic(auto, unfolding(crate::specs::Sections::sections_text))]
-/// Writes the elements of the cards that are shown: each with its picture, the cycles in which it stood at the reading stations, by the trace
-/// of the run, into which of the page's sums it went, and its fields by the lines of the chart. The first of the cards has the number of the
-/// first one that is shown.
+/// Writes the elements of the cards that are shown: each with its picture, the cycles in which it stood at the reading stations, by the part of
+/// the trace that is shown, into which of the page's sums it went, and its fields by the lines of the chart. The first of the cards has the
+/// number of the first one that is shown, and the first card cycle of the trace is its own.
 ///
 /// Fails only if no memory is left; a front of the elements may then have been written.
 pub fn write_card_sections(
@@ -179,7 +184,8 @@ pub fn write_card_sections(
     sums: &[PageSum],
     cards: &[Card],
 ) -> Result<(), AllocError>
-    requires { shown.cards.first + length cards.now < 2 ^ 64 }
+    requires few { shown.cards.first + length cards.now < 2 ^ 64 }
+    requires cycles { shown.cycles.first ≤ 2 ^ 32 }
     ensures { OnOk result (string_bytes text.new ≡ string_bytes text.old ++ sections_text lines.now shown trace.now sums.now cards.now) }
 {
     write_sections(alloc, text, lines, shown, trace, sums, cards)

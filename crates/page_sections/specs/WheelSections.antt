@@ -1,3 +1,4 @@
 pub mod Sections
 pub mod Told
 pub mod Helper
+pub mod Words

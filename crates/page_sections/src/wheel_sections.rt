@@ -6,6 +6,7 @@
 
 mod sections;
 mod told;
+mod words;
 
 pub use sections::{write_section_close, write_told_sections};
 pub use told::{ToldWheel, told_wheels};

@@ -6,9 +6,11 @@ use Rattle.std.proofs.lemmas.List.{map-append, take_more}
 use Rattle.std.proofs.lemmas.List.Elements.{All-cons, All-head, All-nil, All-tail, Contains-get_or}
 use Rattle.card_sections.specs.Sections.{sections_text}
 use Rattle.charts.specs.declared.chart.Line.{Line}
+use Rattle.cycle_steps.specs.Steps.{IsStepSection, links_text}
 use Rattle.explanations.specs.Pages.{AreFoundLines}
 use Rattle.explanations.specs.declared.found.FoundLine.{FoundLine}
 use Rattle.hubs.specs.declared.hub.Hub.{Hub}
+use Rattle.markup.specs.Pieces.{GainsEach}
 use Rattle.placed_lines.specs.declared.placed_line.PlacedLine.{PlacedLine}
 use Rattle.setups.specs.Wiring.{Wiring}
 use Rattle.shown_lines.specs.Shown.{AreShown}
@@ -32,7 +34,7 @@ use Rattle.show_page.specs.Cycles.{shown_cycles}
 use Rattle.show_page.specs.Frame.{document_close, stage_open}
 use Rattle.show_page.specs.Helper.{GainsBody, GainsHead}
 use Rattle.show_page.specs.Page.{IsPage, cards_part, counts_of, lines_shown, page_text, sheets_part, unasked}
-use Rattle.show_page.specs.Shown.{shown_cards, shown_run}
+use Rattle.show_page.specs.Shown.{cards_shown, first_card, shown_cards, shown_run}
 use Rattle.show_page.specs.Titles.{head_text, heading_of}
 
 -- one wire more that no line asks for
@@ -50,31 +52,35 @@ pub told_explained : (wiring : Wiring) (asked : List (String Global × Wiring)) 
 told_explained wiring asked deck told all = λ k d less. (all k d less).right
 
 -- the pieces behind the cards
-pub body_whole : (chart : List Line) (run : ShownRun) (cards : List (List ℕ)) (part : TracePart) (wires : List PanelWire)
-    (totals : List TitledAccount) (told : List ToldWheel) (sums : List PageSum) (places : List SumPlace)
-    (legend old one two three four five six seven eight nine new : List ℕ)
+pub body_whole : (wiring : Wiring) (found : List FoundLine) (chart : List Line) (run : ShownRun) (cards : List (List ℕ)) (part : TracePart)
+    (wires : List PanelWire) (totals : List TitledAccount) (told : List ToldWheel) (sums : List PageSum) (places : List SumPlace)
+    (legend old one two three four five six seven eight nine ten eleven new : List ℕ)
     → GainsDrawing wires old one → two ≡ one ++ legend → three ≡ two ++ stage_open
     → four ≡ three ++ begin_text told sums run.cards.first cards wires part
     → five ≡ four ++ told_sections run.cards places totals told → six ≡ five ++ sum_sections_text run.cards sums
     → seven ≡ six ++ sections_text chart run part.text.items sums cards → GainsWireSections wires told seven eight
-    → nine ≡ eight ++ shown_cycles part → new ≡ nine ++ document_close
-    → GainsBody chart run cards part wires legend totals told sums places old new
-body_whole chart run cards part wires totals told sums places legend old one two three four five six seven eight nine new h1 h2 h3 h4 h5 h6
-    h7 h8 h9 h10 =
+    → nine ≡ eight ++ shown_cycles part → ten ≡ nine ++ links_text found → GainsEach (IsStepSection wiring wires) found ten eleven
+    → new ≡ eleven ++ document_close → GainsBody wiring found chart run cards part wires legend totals told sums places old new
+body_whole wiring found chart run cards part wires totals told sums places legend old one two three four five six seven eight nine ten eleven
+    new h1 h2 h3 h4 h5 h6 h7 h8 h9 h10 h11 h12 =
     record {
       drawing = h1.drawing;
       drawn = h1.is;
       ways = h8.text;
       are_ways = h8.are;
+      steps = h11.text;
+      are_steps = h11.each;
       gained =
-          h10 ∙ ap (λ (l : List ℕ). l ++ document_close)
+          h12 ∙ ap (λ (l : List ℕ). l ++ document_close)
+          (h11.gained ∙ ap (λ (l : List ℕ). l ++ h11.text)
+          (h10 ∙ ap (λ (l : List ℕ). l ++ links_text found)
           (h9 ∙ ap (λ (l : List ℕ). l ++ shown_cycles part)
           (h8.gained ∙ ap (λ (l : List ℕ). l ++ h8.text)
           (h7 ∙ ap (λ (l : List ℕ). l ++ sections_text chart run part.text.items sums cards)
           (h6 ∙ ap (λ (l : List ℕ). l ++ sum_sections_text run.cards sums)
           (h5 ∙ ap (λ (l : List ℕ). l ++ told_sections run.cards places totals told)
           (h4 ∙ ap (λ (l : List ℕ). l ++ begin_text told sums run.cards.first cards wires part)
-          (h3 ∙ ap (λ (l : List ℕ). l ++ stage_open) (h2 ∙ ap (λ (l : List ℕ). l ++ legend) h1.gained))))))));
+          (h3 ∙ ap (λ (l : List ℕ). l ++ stage_open) (h2 ∙ ap (λ (l : List ℕ). l ++ legend) h1.gained))))))))));
     }
 
 -- the pieces of the page
@@ -85,16 +91,19 @@ pub page_whole : (wiring : Wiring) (asked : List (String Global × Wiring)) (tot
     → IsTracePart wiring deck (cycles_shown around (length deck) found) part
     → AreTold wiring asked deck (printed_places placed) told → AreSums wiring totals deck told sums → none ≡ []
     → GainsHead (heading_of chart) (record { cards = length deck; lines = part.lines; wires = length wires }) none one
-    → two ≡ one ++ sheets_part (shown_run around (length deck) part).cards around (length deck) placed found wiring.tape.lines
-    → three ≡ two ++ cards_part chart (shown_run around (length deck) part).cards.first (shown_cards around deck)
-    → GainsBody chart (shown_run around (length deck) part) (shown_cards around deck) part wires legend totals told sums
-    (map place_of sums) three new
+    → two ≡ one ++ sheets_part (cards_shown (cycles_shown around (length deck) found) (length deck)) around (length deck) placed found
+    wiring.tape.lines
+    → three ≡ two ++ cards_part chart (first_card (cycles_shown around (length deck) found))
+    (shown_cards (cycles_shown around (length deck) found) deck)
+    → GainsBody wiring found chart (shown_run (cycles_shown around (length deck) found) (length deck) part)
+    (shown_cards (cycles_shown around (length deck) found) deck) part wires legend totals told sums (map place_of sums) three new
     → IsPage wiring asked totals deck chart wires legend around new
 unfolding page_text
 page_whole wiring asked totals deck chart around placed found part wires told sums legend none one two three new are traced are_told
     are_sums empty first sheets cards_are body =
     let cards = length deck in
-    let run = shown_run around cards part in
+    let choice = cycles_shown around cards found in
+    let run = shown_run choice cards part in
     let same : placed ≡ lines_shown around cards traced.lines = are.placed_are traced.lines traced.prints in
     let head =
     subst (λ (n : ℕ). GainsHead (heading_of chart) (record { cards = cards; lines = n; wires = length wires }) none one)
@@ -114,6 +123,8 @@ page_whole wiring asked totals deck chart around placed found part wires told su
       drawn = body.drawn;
       ways = body.ways;
       are_ways = body.are_ways;
+      steps = body.steps;
+      are_steps = body.are_steps;
       part = part;
       traced = traced;
       spelled =
@@ -122,10 +133,11 @@ page_whole wiring asked totals deck chart around placed found part wires told su
           let sheets_are : two ≡ one ++ sheets_text =
           sheets ∙ ap (λ (l : List PlacedLine). one ++ sheets_part run.cards around cards l found wiring.tape.lines) same in
           subst (λ (l : List ℕ). new ≡ l ++ body.drawing ++ legend ++ stage_open
-          ++ begin_text told sums run.cards.first (shown_cards around deck) wires part
+          ++ begin_text told sums run.cards.first (shown_cards choice deck) wires part
           ++ told_sections run.cards (map place_of sums) totals told ++ sum_sections_text run.cards sums
-          ++ sections_text chart run part.text.items sums (shown_cards around deck) ++ body.ways ++ shown_cycles part ++ document_close)
-          (cards_are ∙ ap (λ (l : List ℕ). l ++ cards_part chart run.cards.first (shown_cards around deck))
+          ++ sections_text chart run part.text.items sums (shown_cards choice deck) ++ body.ways ++ shown_cycles part ++ links_text found
+          ++ body.steps ++ document_close)
+          (cards_are ∙ ap (λ (l : List ℕ). l ++ cards_part chart run.cards.first (shown_cards choice deck))
           (sheets_are ∙ ap (λ (l : List ℕ). l ++ sheets_text) (head.gained ∙ ap (λ (l : List ℕ). l ++ of_head) empty))) body.gained;
     }
 

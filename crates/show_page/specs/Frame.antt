@@ -28,7 +28,7 @@ cut_words = codes "<p class=\"cut\">The deck has more than 200 cards: its first 
 
 -- what is said where the pages around one are shown
 unfoldable pub around_words : (page : ℕ) → List ℕ
-around_words page = codes "<p class=\"cut\">Shown are page " ++ decimal page ++ codes " of the report, the pages before and behind it, if there are such, and the cycles from the card of their first line to that of their last one, 1000 at most.</p>\n"
+around_words page = codes "<p class=\"cut\">Shown are page " ++ decimal page ++ codes " of the report, the pages before and behind it, if there are such, and the cards and cycles from the card of their first line to that of their last one: at most 200 cards and 1000 cycles.</p>\n"
 
 -- what stands before the sheets, up to how many characters the widest line has
 unfoldable pub main_open : List ℕ

@@ -2,8 +2,11 @@
 use Rattle.std.specs.Prelude.{◌≡◌, ℕ, List, ◌++◌}
 use Rattle.card_sections.specs.Sections.{sections_text}
 use Rattle.charts.specs.declared.chart.Line.{Line}
+use Rattle.cycle_steps.specs.Steps.{AreStepSections, links_text}
+use Rattle.explanations.specs.declared.found.FoundLine.{FoundLine}
 use Rattle.page_links.specs.declared.shown.ShownRun.{ShownRun}
 use Rattle.panel_drawing.specs.Drawing.{IsDrawing}
+use Rattle.setups.specs.Wiring.{Wiring}
 use Rattle.panel_drawing.specs.declared.drawing.PanelWire.{PanelWire}
 use Rattle.page_sections.specs.WheelSections.Sections.{told_sections}
 use Rattle.page_sections.specs.declared.wheel_sections.told.ToldWheel.{ToldWheel}
@@ -25,16 +28,19 @@ pub record GainsHead (heading : List ℕ) (counts : RunCounts) (old new : List �
   pub is_style : IsStyle style
   pub gained : new ≡ old ++ head_text style heading counts
 
--- the drawing, the legend, where to begin, what is told of wheels, of sums at these places, of the cards that are shown and of wires, and the
--- cycles of a part of the trace
-pub record GainsBody (chart : List Line) (run : ShownRun) (cards : List (List ℕ)) (part : TracePart) (wires : List PanelWire)
-    (legend : List ℕ) (totals : List TitledAccount) (told : List ToldWheel) (sums : List PageSum) (places : List SumPlace)
-    (old new : List ℕ) : Type 0 where
+-- the drawing, the legend, where to begin, what is told of wheels, of sums at these places, of the cards that are shown and of wires, the
+-- cycles of a part of the trace, and the points of those that printed these lines
+pub record GainsBody (wiring : Wiring) (found : List FoundLine) (chart : List Line) (run : ShownRun) (cards : List (List ℕ))
+    (part : TracePart) (wires : List PanelWire) (legend : List ℕ) (totals : List TitledAccount) (told : List ToldWheel)
+    (sums : List PageSum) (places : List SumPlace) (old new : List ℕ) : Type 0 where
   pub drawing : List ℕ
   pub drawn : IsDrawing wires drawing
   pub ways : List ℕ
   pub are_ways : AreWireSections wires told ways
+  pub steps : List ℕ
+  pub are_steps : AreStepSections wiring wires found steps
   pub gained : new
       ≡ old ++ drawing ++ legend ++ stage_open ++ begin_text told sums run.cards.first cards wires part
       ++ told_sections run.cards places totals told ++ sum_sections_text run.cards sums
-      ++ sections_text chart run part.text.items sums cards ++ ways ++ shown_cycles part ++ document_close
+      ++ sections_text chart run part.text.items sums cards ++ ways ++ shown_cycles part ++ links_text found ++ steps
+      ++ document_close

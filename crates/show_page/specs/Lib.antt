@@ -3,6 +3,7 @@ pub mod Choice
 pub mod Cycles
 pub mod Frame
 pub mod Helper
+pub mod Marks
 pub mod Page
 pub mod ReadPanel
 pub mod Shown

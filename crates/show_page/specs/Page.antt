@@ -6,6 +6,7 @@ use Rattle.card_drawing.specs.Drawings.{shapes_text}
 use Rattle.card_sections.specs.Decks.{deck_text}
 use Rattle.card_sections.specs.Sections.{sections_text}
 use Rattle.charts.specs.declared.chart.Line.{Line}
+use Rattle.cycle_steps.specs.Steps.{AreStepSections, links_text}
 use Rattle.explanations.specs.Pages.{AreFoundLines}
 use Rattle.explanations.specs.declared.found.FoundLine.{FoundLine}
 use Rattle.hubs.specs.declared.hub.Hub.{Hub}
@@ -65,8 +66,8 @@ cards_part chart first cards = cards_open ++ shapes_text chart first cards ++ de
 -- the page, by its parts
 unfoldable pub page_text : (style : List ℕ) → (chart : List Line) → (around : Option ℕ) → ShownRun → (cards : List (List ℕ)) → RunCounts
     → TracePart → List PlacedLine → List FoundLine → (long : ℕ) → List PanelWire → (drawing legend : List ℕ) → List TitledAccount
-    → List ToldWheel → List PageSum → (ways : List ℕ) → List ℕ
-page_text style chart around run cards counts part lines found long wires drawing legend totals told sums ways =
+    → List ToldWheel → List PageSum → (ways steps : List ℕ) → List ℕ
+page_text style chart around run cards counts part lines found long wires drawing legend totals told sums ways steps =
     head_text style (heading_of chart) counts
     ++ sheets_part run.cards around counts.cards lines found long
     ++ cards_part chart run.cards.first cards
@@ -79,6 +80,8 @@ page_text style chart around run cards counts part lines found long wires drawin
     ++ sections_text chart run part.text.items sums cards
     ++ ways
     ++ shown_cycles part
+    ++ links_text found
+    ++ steps
     ++ document_close
 
 -- the lines that are shown, of those of a run over so many cards
@@ -92,8 +95,8 @@ counts_of deck lines wires = record { cards = length deck; lines = length lines;
 -- The page of a setup and a deck, with the heading and the fields of a chart, around a page of the report or none: of the lines that the
 -- machine prints those that are shown, each with the cycle that printed it, each card that is shown is drawn, and each wire of the list is
 -- drawn once; each printed character that is shown is told of, where it is known who asks for wires, and has its element, and so have the
--- sums behind them, by the totals that are known, each card that is shown, and each wire, with what came through it; and the cycles are those
--- of the run that are shown.
+-- sums behind them, by the totals that are known, each card that is shown, and each wire, with what came through it; the cycles are those of
+-- the run that are shown; and each line that is shown has the points of the cycle that printed it.
 pub record IsPage (wiring : Wiring) (asked : List (String Global × Wiring)) (totals : List TitledAccount) (deck : List (List ℕ))
     (chart : List Line) (wires : List PanelWire) (legend : List ℕ) (around : Option ℕ) (text : List ℕ) : Type 0 where
   pub style : List ℕ
@@ -110,11 +113,14 @@ pub record IsPage (wiring : Wiring) (asked : List (String Global × Wiring)) (to
   pub drawn : IsDrawing wires drawing
   pub ways : List ℕ
   pub are_ways : AreWireSections wires told ways
+  pub steps : List ℕ
+  pub are_steps : AreStepSections wiring wires found steps
   pub part : TracePart
   pub traced : IsTracePart wiring deck (cycles_shown around (length deck) found) part
   pub spelled : text
-      ≡ page_text style chart around (shown_run around (length deck) part) (shown_cards around deck) (counts_of deck lines wires) part
-      (lines_shown around (length deck) lines) found wiring.tape.lines wires drawing legend totals told sums ways
+      ≡ page_text style chart around (shown_run (cycles_shown around (length deck) found) (length deck) part)
+      (shown_cards (cycles_shown around (length deck) found) deck) (counts_of deck lines wires) part
+      (lines_shown around (length deck) lines) found wiring.tape.lines wires drawing legend totals told sums ways steps
 
 -- The page of a chart, its plan and its setup, and a deck: the heading and the fields are those of the chart, the wires are those of the
 -- setup, the legend is that of the chart, its lines are those that ask for wires, and its totals are those that are known.

@@ -112,7 +112,7 @@ fn cycles_of_lines(found: &[FoundLine]) -> CycleChoice
 }
 
 // The cycles that are shown of a run over a deck of so many cards, beside these lines.
-fn cycles_shown(around: Option<u32>, cards: usize, found: &[FoundLine]) -> CycleChoice
+pub(crate) fn cycles_shown(around: Option<u32>, cards: usize, found: &[FoundLine]) -> CycleChoice
     ensures { result ≡ cycles_shown around cards found.now }
 {
     match around {
@@ -125,19 +125,17 @@ fn cycles_shown(around: Option<u32>, cards: usize, found: &[FoundLine]) -> Cycle
     }
 }
 
-// The cycles that are shown beside these lines, with their part of the trace.
+// The part of the trace that is shown.
 pub(crate) fn traced(
     alloc: Global,
     setup: &Setup,
     cards: &[Card],
-    around: Option<u32>,
-    found: &[FoundLine],
+    choice: CycleChoice,
 ) -> Result<TracePart, AllocError>
     requires { length cards.now ≤ most_cards }
-    ensures part { IfOk result (IsTracePart setup.now cards.now (cycles_shown around (length cards.now) found.now)) }
+    ensures part { IfOk result (IsTracePart setup.now cards.now choice) }
     ensures few { IfOk result (λ part. part.before < 2 ^ 32) }
 {
-    let choice = cycles_shown(around, cards.len(), found);
     match trace_part(alloc, setup, cards, choice) {
         Ok(part) => Ok(part),
         Err(_) => Err(AllocError),

@@ -35,41 +35,42 @@ pub(crate) fn write_style(text: &mut String) -> Result<(), AllocError>
         ":root{--ground:#f2eee4;--paper:#fdfcf7;--bar:#dfeedd;--hole:#cfc8b6;--ink:#20252a;--soft:#5a5f63;--rule:#cfc7b4;--link:#8a2b12;--pick:#ffd667;--plate:#1f252b}
 @media(prefers-color-scheme:dark){:root{--ground:#17191b;--paper:#222629;--bar:#2b3a30;--hole:#3d4246;--ink:#ece7dc;--soft:#adb1b3;--rule:#4b5054;--link:#ffb490;--pick:#795c0c;--plate:#11151a}}
 *{box-sizing:border-box}html{scroll-padding-top:3.4rem}
-body{margin:0;font:17px/1.5 Georgia,Times New Roman,serif;color:var(--ink);background:var(--ground)}
+body{margin:0;font:1.0625rem/1.5 Georgia,Times New Roman,serif;color:var(--ink);background:var(--ground)}
 a{color:var(--link)}a:focus-visible{outline:3px solid #1769d2;outline-offset:1px}
 header{padding:1.3rem 1.5rem .2rem}h1{margin:.1em 0;font-size:clamp(1.7rem,4vw,2.9rem);line-height:1.1;letter-spacing:.02em}
-.kind{margin:0;font:600 .78rem/1.3 sans-serif;letter-spacing:.06em;text-transform:uppercase;color:var(--soft)}
+.kind{margin:0;font:600 .78rem/1.3 Arial,sans-serif;letter-spacing:.06em;text-transform:uppercase;color:var(--soft)}
 .counts{margin:.3em 0 .6em;max-width:44em;font-size:1.08rem}.cut{max-width:44em;color:var(--soft)}
 main{padding:0 1.5rem 2rem}h2{margin:1.4rem 0 .2rem;font-size:1.5rem;border-bottom:2px solid var(--ink)}main>p{margin:.35rem 0 .7rem;color:var(--soft);font-size:.98rem}
 nav{display:flex;flex-wrap:wrap;gap:.3rem;position:sticky;top:0;z-index:3;padding:.4rem 0;background:var(--ground)}
-nav a{font:600 .9rem sans-serif;padding:.35em .8em;border-radius:1.2em;text-decoration:none;color:var(--ground);background:var(--ink)}nav a:hover,nav a:focus{background:var(--link)}
+nav a{font:600 .9rem Arial,sans-serif;padding:.35em .8em;border-radius:1.2em;text-decoration:none;color:var(--ground);background:var(--ink)}nav a:hover,nav a:focus{background:var(--link)}
 pre{font-family:Courier Prime,Courier New,Courier,monospace}
-.sheets{display:grid;gap:1rem}
-.sheets pre{margin:0;overflow-x:auto;padding:0 1.6em;border:1px solid var(--rule);box-shadow:0 2px 10px #0002;font-size:clamp(9px,calc(41vw/(var(--n) + 16)/.6),21px);line-height:1.6em;print-color-adjust:exact;background:radial-gradient(circle at .8em .8em,var(--hole) .28em,#0000 .3em) 0 0/1.6em 1.6em repeat-y,radial-gradient(circle at .8em .8em,var(--hole) .28em,#0000 .3em) 100% 0/1.6em 1.6em repeat-y,repeating-linear-gradient(var(--paper) 0 4.8em,var(--bar) 4.8em 9.6em)}
-.sheets b a{font-weight:600;color:var(--link)}.sheets b{display:inline-block;width:6.2em;margin-right:1.2em;font:600 .72em/1.5 sans-serif;text-align:right;color:var(--soft)}
+.sheets{display:grid;gap:1rem;--mark:#0000}
+.sheets pre{margin:0;overflow-x:auto;padding:0 1.6em;border:1px solid var(--rule);box-shadow:0 2px 10px #0002;font-size:clamp(9px,calc(41vw/(var(--n) + 16)/.6),1.32rem);line-height:1.6em;print-color-adjust:exact;background:radial-gradient(circle at .8em .8em,var(--hole) .28em,#0000 .3em) 0 0/1.6em 1.6em repeat-y,radial-gradient(circle at .8em .8em,var(--hole) .28em,#0000 .3em) 100% 0/1.6em 1.6em repeat-y,repeating-linear-gradient(var(--paper) 0 4.8em,var(--bar) 4.8em 9.6em)}
+.sheets b a{font-weight:600;color:var(--link)}.sheets b{display:inline-block;width:6.2em;margin-right:1.2em;font:600 max(.72em,11px)/1.2 Arial,sans-serif;text-align:right;color:var(--soft)}
 .sheets a{color:inherit;font-weight:700;text-decoration:underline dotted #a58f5f .07em;text-underline-offset:.22em}.sheets a:hover,.sheets a:focus,.sheets span:target{background:var(--pick)}
 .board{overflow-x:auto}#panel{display:block;width:100%;min-width:38rem;max-width:72rem;height:auto;stroke-opacity:.9}.plate{fill:var(--plate)}
-.blocks text{font:18px sans-serif;fill:#dfe4e8}.blocks .small{font-size:12px;fill:#a4acb3}
+.blocks text{font:18px Arial,sans-serif;fill:#dfe4e8}.blocks .small{font-size:12px;fill:#a4acb3}
 .blocks path{fill:none;stroke:#69737d;stroke-width:6;stroke-linecap:round;stroke-opacity:1}.dots10{stroke-dasharray:0 10}.dots13{stroke-dasharray:0 13}.dots15{stroke-dasharray:0 15}
 .wires path{fill:none;stroke-width:2.8}.wires a:hover path,.wires a:focus path{stroke:#ffd23f;stroke-width:9;stroke-opacity:1}
 .hubs circle{fill:#e9edf0;stroke:#0b0d0f;stroke-width:1}.hubs a:hover circle,.hubs a:focus circle{fill:#ffd23f;r:8px}
 .c0{stroke:#b0bec5;border-color:#78909c}.c1{stroke:#ff8a80;border-color:#d9574c}.c2{stroke:#64b5f6;border-color:#3d8fd1}.c3{stroke:#81c784;border-color:#4f9a53}.c4{stroke:#ce93d8;border-color:#a763b3}.c5{stroke:#ffb74d;border-color:#d98c1f}
 .c6{stroke:#4dd0e1;border-color:#2398a8}.c7{stroke:#f48fb1;border-color:#cf5f87}.c8{stroke:#c7a488;border-color:#94704f}.c9{stroke:#9fa8da;border-color:#6c77bd}.c10{stroke:#d4e157;border-color:#98a31f}.c11{stroke:#80cbc4;border-color:#45988f}
 .legend pre{margin:.3em 0;padding:.25em .7em;border-left-width:.6rem;border-left-style:solid;background:var(--paper);font-size:.85rem;line-height:1.5;white-space:pre-wrap;scroll-margin-top:3.4rem}.legend pre:target,.legend pre:hover{background:var(--pick)}
-aside{background:var(--paper)}.begin,aside section{padding:.6rem 1.2rem 1.4rem}aside h2{font-size:1.32rem;border:0}aside section{display:none}aside section:target{display:block}
+aside{background:var(--paper)}.begin,aside section{padding:.6rem 1.2rem 1.4rem}aside h2{font-size:1.32rem;border:0}aside section{display:none}aside section:target{display:block}aside:has(>section:target) .begin{display:none}
 aside section pre{margin:.4em 0;font-size:.92rem;line-height:1.45;white-space:pre-wrap}aside section[id^=cycle] pre{white-space:pre;overflow-x:auto}aside pre::first-line{font-weight:700}
-aside section>a{display:inline-block;margin:0 .4rem .3rem 0;padding:.3em .75em;border:1.5px solid var(--ink);border-radius:1.2em;font:600 .85rem sans-serif;text-decoration:none;color:var(--ink)}aside section>a:hover,aside section>a:focus{background:var(--pick)}
-aside section div{columns:15em}aside section div a{display:block}aside p{margin:.35em 0}
+aside section>a:has(>svg){display:block;max-width:34rem;padding:0;border:0;margin:.3rem 0}aside section>a{display:inline-block;margin:0 .4rem .3rem 0;padding:.3em .75em;border:1.5px solid var(--ink);border-radius:1.2em;font:600 .85rem Arial,sans-serif;text-decoration:none;color:var(--ink)}aside section>a:hover,aside section>a:focus{background:var(--pick)}
+aside section div{columns:15em}aside section div a{display:block}aside p{margin:.35em 0}details{margin:.35em 0}summary{cursor:pointer;font-weight:700}summary:hover{background:var(--pick)}summary:focus-visible{outline:3px solid #1769d2}.begin p a{display:inline-block;margin-right:.6em}
 aside svg{display:block;width:100%;height:auto;max-width:80rem}aside svg path{fill:none;stroke:#ffd23f;stroke-width:8;stroke-linejoin:round;stroke-linecap:round}aside svg .background,aside svg .card{stroke:none}aside svg .background{marker-start:url(#background)}marker{overflow:visible}#background{stroke-opacity:.22}
 .shapes{position:absolute}.card{stroke:none;fill:none;marker-start:url(#blank);marker-end:url(#fields)}.names{stroke:none;fill:none;marker-start:url(#fields)}
-.sheet{fill:#ecdcb4;stroke:#8c7645;stroke-width:3}.digits{font:14.5px monospace;letter-spacing:6.27px;fill:#a08a58}.print{font:700 25px Courier New,monospace;fill:#2b2a28;white-space:pre}.number{font:600 21px sans-serif;fill:#6b5a30;text-anchor:end}.holes{stroke:#14171a;stroke-width:9.5;fill:none}
-#fields path{fill:#00000012;stroke-width:3;stroke-dasharray:8 5}#fields text{font:700 23px sans-serif;stroke:none;fill:var(--ink)}
+.sheet{fill:#ecdcb4;stroke:#8c7645;stroke-width:3}.digits{font:14.5px monospace;letter-spacing:6.27px;fill:#a08a58}.print{font:700 25px Courier New,monospace;fill:#2b2a28;white-space:pre}.number{font:600 21px Arial,sans-serif;fill:#6b5a30;text-anchor:end}.holes{stroke:#14171a;stroke-width:9.5;fill:none}
+#fields path{fill:#00000012;stroke-width:3;stroke-dasharray:8 5}#fields text{font:700 23px Arial,sans-serif;stroke:none;fill:var(--ink)}
 .deck{max-width:46rem}.deck svg{display:block;width:100%;height:auto}.deck a{display:block;position:relative;margin-bottom:-21%;filter:drop-shadow(0 -2px 3px #0003)}.deck a:last-child{margin-bottom:0}.deck a:hover,.deck a:focus{z-index:2;transform:translateY(-6px)}
 table{border-collapse:collapse;font-size:.95rem}th,td{padding:.3em .6em;border-bottom:1px solid var(--rule);text-align:left}.sum td:nth-child(2){text-align:right;font-weight:700}.sum code{color:var(--soft);font-weight:400}code{white-space:pre;font-family:Courier Prime,Courier New,Courier,monospace;font-weight:700}
-@media(min-width:68em){body{display:grid;grid-template:auto 1fr/minmax(0,47fr) minmax(0,53fr)}header,main{grid-column:1;min-width:0}aside{grid-column:2;grid-row:1/3;position:sticky;top:0;height:100vh;overflow:auto;border-left:3px solid var(--ink)}aside:has(>section:target) .begin{display:none}aside svg{max-height:calc(100vh - 4rem)}}
-@media(max-width:67.99em){header,main,.begin,aside section{padding-left:.9rem;padding-right:.9rem}.sheets pre{font-size:clamp(9px,calc(88vw/(var(--n) + 16)/.6),21px)}aside section:target{position:fixed;left:0;right:0;bottom:0;z-index:4;height:66vh;overflow:auto;border-top:4px solid var(--ink);background:var(--paper);box-shadow:0 -6px 24px #0006}body:has(>aside>section:target) main{padding-bottom:68vh}}
+@media(min-width:68em){body{display:grid;grid-template:auto 1fr/minmax(0,47fr) minmax(0,53fr)}header,main{grid-column:1;min-width:0}aside{grid-column:2;grid-row:1/3;position:sticky;top:0;height:100vh;overflow:auto;border-left:3px solid var(--ink)}aside svg{max-height:calc(100vh - 4rem)}}
+@media(max-width:67.99em){header,main,.begin,aside section{padding-left:.9rem;padding-right:.9rem}.sheets pre{font-size:clamp(9px,calc(88vw/(var(--n) + 16)/.6),1.32rem)}aside{border-top:4px solid var(--ink)}aside section:target{min-height:100vh;scroll-margin-top:-3.4rem}}
+@media(min-width:130em){html{font-size:.8vw}}
 @page{margin:14mm 12mm}
-@media print{:root{--ground:#fff;--paper:#fff;--ink:#000;--plate:#fff}body{display:block;font-size:10.5pt}nav,.begin,aside section>a{display:none}aside{position:static;height:auto;overflow:visible;border:0;break-before:page}aside:not(:has(>section:target)){display:none}aside section:target{position:static;height:auto;border:0;box-shadow:none}body:has(>aside>section:target) main{padding-bottom:0}.sheets pre{box-shadow:none;break-inside:avoid;font-size:min(11pt,calc(170mm/(var(--n) + 16)/.6))}.board{overflow:visible}#panel{min-width:0;stroke-opacity:1}.plate{stroke:#333;stroke-width:3}.blocks text,.blocks .small{fill:#222}.blocks path{stroke:#aaa}.hubs circle{fill:#222}aside svg path{stroke:#d81e05}.deck{display:grid;grid-template-columns:1fr 1fr;gap:2mm 4mm}.deck a{margin:0;filter:none;break-inside:avoid}.deck a:last-child{margin:0}.deck>svg{display:none}.legend pre{break-inside:avoid}h2{break-after:avoid}}
+@media print{:root{--ground:#fff;--paper:#fff;--ink:#000;--soft:#333;--plate:#fff}body{display:block;font-size:10pt}header,main{padding:0}h1{font-size:20pt}h2{margin:4mm 0 1mm;font-size:13pt;break-after:avoid}.kind,nav,main>p,.begin,aside section>a{display:none}.sheets pre{box-shadow:none;break-inside:avoid;font-size:min(8pt,calc(170mm/(var(--n) + 16)/.6));line-height:1.25em;background:repeating-linear-gradient(var(--paper) 0 3.75em,var(--bar) 3.75em 7.5em)}.board{overflow:visible;break-inside:avoid}#panel{min-width:0;stroke-opacity:1}.plate{stroke:#333;stroke-width:3}.blocks text,.blocks .small{fill:#222}.blocks path{stroke:#aaa}.hubs circle{fill:#222}.deck{max-width:none;display:grid;grid-template-columns:1fr 1fr 1fr;gap:2mm 3mm}.deck a{margin:0;filter:none;break-inside:avoid}.deck a:last-child{margin:0}.deck>svg{display:none}.legend{columns:2;column-gap:4mm}.legend pre{margin:0 0 1mm;padding:0 2mm;font-size:7pt;line-height:1.3;break-inside:avoid}aside{position:static;height:auto;overflow:visible;border:0;break-before:page}aside:not(:has(>section:target)){display:none}aside section:target{padding:0;min-height:0}aside svg{max-height:none}aside svg path{stroke:#d81e05}}
 ",
     )
 }
@@ -103,7 +104,7 @@ pub(crate) fn write_around_words(text: &mut String, page: u32) -> Result<(), All
         text,
         "<p class=\"cut\">Shown are page ",
         page,
-        " of the report, the pages before and behind it, if there are such, and the cycles from the card of their first line to that of their last one, 1000 at most.</p>\n",
+        " of the report, the pages before and behind it, if there are such, and the cards and cycles from the card of their first line to that of their last one: at most 200 cards and 1000 cycles.</p>\n",
     )
 }
 

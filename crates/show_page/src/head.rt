@@ -6,10 +6,12 @@ ghost use Rattle.show_page.specs.Helper.{GainsHead};
 ghost use Rattle.show_page.specs.Titles.{counted, counts_words, heading_of, heading_words, plain_open, plain_title, plural, printed_words, program_close, program_open, program_words, read_words, run_words, title_of};
 
 use crate::frame::{write_document_open, write_header_open, write_style, write_style_open};
+use crate::marks::write_marks;
 use charts::{Line, Statement};
 use markup::push_escaped;
 use numerals::push_number;
 use page_text::without_trailing_blanks;
+use placed_lines::PlacedLine;
 use std::alloc::AllocError;
 
 // How much a run has of what is counted at the head of its page.
@@ -162,11 +164,12 @@ fn write_counts(text: &mut String, counts: RunCounts) -> Result<(), AllocError>
     write_program_words(text, counts.wires)
 }
 
-// The head of the document, and the title on the page with its counts.
+// The head of the document, with rules that mark the characters of some lines, and the title on the page with its counts.
 pub(crate) fn write_head(
     text: &mut String,
     heading: &[u8],
     counts: RunCounts,
+    lines: &[PlacedLine],
 ) -> Result<(), AllocError>
     ensures { OnOk result (GainsHead heading.now counts (string_bytes text.old) (string_bytes text.new)) }
 {
@@ -174,6 +177,7 @@ pub(crate) fn write_head(
     write_title(text, heading, counts.cards)?;
     write_style_open(text)?;
     write_style(text)?;
+    write_marks(text, lines)?;
     write_header_open(text)?;
     write_title(text, heading, counts.cards)?;
     write_counts(text, counts)

@@ -13,6 +13,7 @@ mod choice;
 mod cycles;
 mod frame;
 mod head;
+mod marks;
 mod page;
 mod read_panel;
 mod show;

@@ -9,7 +9,7 @@ ghost use Rattle.show_page.specs.Helper.{GainsBody};
 ghost use Rattle.show_page.specs.Page.{IsPage, ShowsChart, ShowsPanel, unasked, wiring_text};
 
 use crate::begin::write_begin;
-use crate::choice::{lines_shown, traced};
+use crate::choice::{cycles_shown, lines_shown, traced};
 use crate::cycles::write_shown_cycles;
 use crate::frame::{
     write_document_close, write_legend_open, write_stage_open, write_wiring_close,
@@ -22,6 +22,8 @@ use card_code::Card;
 use card_sections::write_card_sections;
 use chart_rules::Chart;
 use charts::Line;
+use cycle_steps::{write_step_links, write_step_sections};
+use explanations::FoundLine;
 use hubs::Hub;
 use legend::line_setups;
 use markup::push_escaped;
@@ -40,10 +42,12 @@ use wheel_ledgers::{TitledAccount, totals_of};
 use wiring_text::Version;
 
 // The page behind its cards, of which these are shown: the drawing of these wires, this legend, what is told of these wheels, of the sums,
-// which stand at these places, of the cards and of the wires, and the cycles of a part of the trace.
+// which stand at these places, of the cards and of the wires, the cycles of a part of the trace, and the points of those that printed these
+// lines.
 fn write_body(
     alloc: Global,
     text: &mut String,
+    setup: &Setup,
     chart: &[Line],
     run: ShownRun,
     cards: &[Card],
@@ -54,11 +58,13 @@ fn write_body(
     told: &[ToldWheel],
     sums: &[PageSum],
     places: &[SumPlace],
+    found: &[FoundLine],
 ) -> Result<(), AllocError>
     requires cards { run.cards.first + length cards.now < 2 ^ 64 }
+    requires cycles { run.cycles.first ≤ 2 ^ 32 }
     requires accounts { AreAccounts totals.now }
     requires part { part.now.before < 2 ^ 32 }
-    ensures { OnOk result (GainsBody chart.now run cards.now part.now wires.now legend.now totals.now told.now sums.now places.now (string_bytes text.old) (string_bytes text.new)) }
+    ensures { OnOk result (GainsBody setup.now found.now chart.now run cards.now part.now wires.now legend.now totals.now told.now sums.now places.now (string_bytes text.old) (string_bytes text.new)) }
 {
     write_drawing(text, wires)?;
     text.push_str(legend)?;
@@ -69,6 +75,8 @@ fn write_body(
     write_card_sections(alloc, text, chart, run, &part.text, sums, cards)?;
     write_wire_sections(alloc, text, wires, told)?;
     write_shown_cycles(alloc, text, part)?;
+    write_step_links(text, found)?;
+    write_step_sections(alloc, text, setup, wires, found)?;
     write_document_close(text)
 }
 
@@ -90,7 +98,8 @@ pub(crate) fn page(
     ensures { IfOk result (λ text. IsPage setup.now asked.now totals.now cards.now chart.now wires.now legend.now around (string_bytes text)) }
 {
     let shown = lines_shown(alloc, setup, cards, around)?;
-    let part = traced(alloc, setup, cards, around, &shown.found)?;
+    let choice = cycles_shown(around, cards.len(), &shown.found);
+    let part = traced(alloc, setup, cards, choice)?;
     let told = told_wheels(alloc, setup, asked, cards, &shown.lines, &shown.found)?;
     let sums = page_sums(alloc, setup, totals, cards, &told)?;
     let places = sum_places(alloc, &sums)?;
@@ -99,11 +108,11 @@ pub(crate) fn page(
         lines: part.lines,
         wires: wires.len(),
     };
-    let run = shown_run(around, cards.len(), &part);
-    let cards_shown = shown_cards(around, cards);
+    let run = shown_run(choice, cards.len(), &part);
+    let cards_shown = shown_cards(choice, cards);
     let form_lines = u32::from(setup.tape().lines());
     let mut text = String::new(alloc);
-    write_head(&mut text, heading_of(chart), counts)?;
+    write_head(&mut text, heading_of(chart), counts, &shown.lines)?;
     write_sheets_part(
         &mut text,
         run.cards,
@@ -117,6 +126,7 @@ pub(crate) fn page(
     write_body(
         alloc,
         &mut text,
+        setup,
         chart,
         run,
         cards_shown,
@@ -127,6 +137,7 @@ pub(crate) fn page(
         &told,
         &sums,
         &places,
+        &shown.found,
     )?;
     Ok(text)
 }
@@ -136,11 +147,12 @@ pub(crate) fn page(
 /// cycle; the cards with their holes and the chart's fields; the drawing of the panel with each wire of the setup once; the legend of the
 /// chart, in a version of the language of wiring charts; for each printed character its explanation, which names the lines of the chart that
 /// ask for its wires; for each figure that comes from a counter the sum behind it; for each card its cycles, the sums it went into and what
-/// its fields hold, for each wire what came through it, and for each cycle of the run what happened in it. `source` is the text of the chart.
+/// its fields hold, for each wire what came through it, for each cycle of the run what happened in it, and for each line which wires carried
+/// an impulse at the points of its cycle. `source` is the text of the chart.
 ///
-/// With `around` a page of the report is shown, the one before it and the one behind it, and the cycles from the card of their first line to
-/// that of their last one, 1000 at most, but no cards. Without it all is shown, but of a deck of more than 200 cards the first two pages, the
-/// first 200 cards and the first 200 cycles. Where not all is shown, the page says so. Its only refusal is memory.
+/// With `around` a page of the report is shown, the one before it and the one behind it, and the cards and cycles from the card of their first
+/// line to that of their last one, at most 200 cards and 1000 cycles. Without it all is shown, but of a deck of more than 200 cards the first
+/// two pages, the first 200 cards and the first 200 cycles. Where not all is shown, the page says so. Its only refusal is memory.
 pub fn show_chart(
     alloc: Global,
     version: Version,

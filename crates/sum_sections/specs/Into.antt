@@ -1,7 +1,9 @@
--- Into which sums something went: those with an entry of its cycle.
-use Rattle.std.specs.Prelude.{ℕ, ◌==◌, ◌&&◌, ◌||◌, Bool, false, List, [], ◌∷◌, ◌++◌, codes, if◌then◌else◌}
+-- Into which sums something went: a card into those with an entry of its card cycle, a total into those with an entry of its cycle.
+use Rattle.std.specs.Prelude.{ℕ, ◌==◌, ◌&&◌, ◌||◌, Bool, false, true, List, [], ◌∷◌, ◌++◌, codes, if◌then◌else◌}
 use Rattle.std.specs.List.{flat_map}
 use Rattle.ledgers.specs.declared.entry.Entry.{Entry}
+use Rattle.net.specs.declared.cycle.Cycle.{Cycle}
+use Rattle.net.specs.declared.cycle.Cycle.TheVariants as in_cycle
 use Rattle.sum_places.specs.Places.{sum_open}
 use Rattle.sum_sections.specs.Labels.{label_text}
 use Rattle.sum_sections.specs.Targets.{same_amount}
@@ -20,12 +22,30 @@ takes sum passed = has_entry sum.ledger.first passed || has_entry sum.ledger.las
 unfoldable pub sum_link : PageSum → List ℕ
 sum_link sum = codes "<p>It went into " ++ sum_open sum.at ++ label_text sum ++ codes "</a>.</p>\n"
 
--- the sums into which a card went, by how many cycles were over before its card cycle
-abbrev pub card_link : (passed : ℕ) → PageSum → List ℕ
-card_link passed sum = if takes sum passed then sum_link sum else []
+-- one of some entries is of the card cycle of the card with this number
+abbrev pub is_card_cycle : Cycle → Bool
+is_card_cycle in_cycle.RunIn = false
+is_card_cycle in_cycle.Card = true
+is_card_cycle (in_cycle.Prog level ordinal) = false
+is_card_cycle (in_cycle.Head heading) = false
 
-abbrev pub card_sums : List PageSum → (passed : ℕ) → List ℕ
-card_sums sums passed = flat_map (card_link passed) sums
+abbrev pub is_of_card : Entry → (card : ℕ) → Bool
+is_of_card entry card = is_card_cycle entry.cycle && entry.card == card
+
+abbrev pub has_card : List Entry → (card : ℕ) → Bool
+has_card [] card = false
+has_card (entry ∷ others) card = is_of_card entry card || has_card others card
+
+-- the card was added to a sum, or subtracted, by an entry that is told
+abbrev pub takes_card : PageSum → (card : ℕ) → Bool
+takes_card sum card = has_card sum.ledger.first card || has_card sum.ledger.last card
+
+-- the sums into which a card went
+abbrev pub card_link : (card : ℕ) → PageSum → List ℕ
+card_link card sum = if takes_card sum card then sum_link sum else []
+
+abbrev pub card_sums : List PageSum → (card : ℕ) → List ℕ
+card_sums sums card = flat_map (card_link card) sums
 
 -- the sums into which a total went: those of the same amount
 abbrev pub higher_link : (lower : PageSum) → PageSum → List ℕ

@@ -3,4 +3,5 @@ pub mod Targets
 pub mod Labels
 pub mod Rows
 pub mod Into
+pub mod Between
 pub mod Sections

@@ -6,6 +6,7 @@ use Rattle.markup.specs.Escapes.{escaped}
 use Rattle.page_links.specs.declared.shown.Shown.{Shown}
 use Rattle.page_sections.specs.ReportSheets.Sheets.{row_name}
 use Rattle.sum_places.specs.Places.{sum_name, sum_open}
+use Rattle.sum_sections.specs.Between.{cards_between}
 use Rattle.sum_sections.specs.Into.{higher_sums}
 use Rattle.sum_sections.specs.Labels.{label_text}
 use Rattle.sum_sections.specs.Rows.{table_text}
@@ -32,21 +33,24 @@ before_text sum =
 unfoldable pub front_text : PageSum → List ℕ
 front_text sum = head_text sum ++ before_text sum
 
--- why the cycle ran that printed the figure, if it is told
-unfoldable pub why_some : List ℕ → List ℕ
-why_some why = codes "<p>Why it was printed then:</p>\n<pre>" ++ escaped why ++ codes "</pre>\n"
+-- why the cycle ran that printed the figure, if it is told, with the cards between which it ran
+unfoldable pub why_words : List ℕ → List ℕ
+why_words why = codes "<p>Why it was printed then:</p>\n<pre>" ++ escaped why ++ codes "</pre>\n"
 
-abbrev pub why_text : List ℕ → List ℕ
-why_text [] = []
-why_text (first ∷ others) = why_some (first ∷ others)
+unfoldable pub why_some : Shown → (card : ℕ) → List ℕ → List ℕ
+why_some shown card why = why_words why ++ cards_between shown card
+
+abbrev pub why_text : Shown → (card : ℕ) → List ℕ → List ℕ
+why_text shown card [] = []
+why_text shown card (first ∷ others) = why_some shown card (first ∷ others)
 
 -- what stands behind the rows
-unfoldable pub behind_text : List PageSum → PageSum → List ℕ
-behind_text sums sum = higher_sums sums sum ++ why_text sum.why.items ++ codes "</section>\n"
+unfoldable pub behind_text : Shown → List PageSum → PageSum → List ℕ
+behind_text shown sums sum = higher_sums sums sum ++ why_text shown sum.found.card sum.why.items ++ codes "</section>\n"
 
 -- the element of a sum, among those of the page
 unfoldable pub section_text : Shown → List PageSum → PageSum → List ℕ
-section_text shown sums sum = front_text sum ++ table_text shown sums sum ++ behind_text sums sum
+section_text shown sums sum = front_text sum ++ table_text shown sums sum ++ behind_text shown sums sum
 
 abbrev pub sum_sections_text : Shown → List PageSum → List ℕ
 sum_sections_text shown sums = flat_map (section_text shown sums) sums

@@ -3,12 +3,13 @@
 ghost use Rattle.std.specs.Prelude.{◌≡◌, ◌++◌, codes, OnOk};
 ghost use Rattle.std.specs.List.{flat_map};
 ghost use Rattle.std.specs.String.{string_bytes};
-ghost use Rattle.sum_sections.specs.Into.{card_link, card_sums, has_entry, higher_link, higher_sums, sum_link, takes};
+ghost use Rattle.sum_sections.specs.Into.{card_link, card_sums, has_card, has_entry, higher_link, higher_sums, is_card_cycle, is_of_card, sum_link, takes, takes_card};
 
 use crate::labels::write_label;
 use crate::sums::PageSum;
 use crate::targets::same_amount;
 use ledgers::Entry;
+use net::Cycle;
 use std::alloc::AllocError;
 use sum_places::write_sum_open;
 
@@ -42,11 +43,47 @@ fn write_sum_link(text: &mut String, sum: &PageSum) -> Result<(), AllocError>
     text.push_str("</a>.</p>\n")
 }
 
-// The link to a sum, if it takes what comes in the cycle behind so many others.
-fn write_card_link(text: &mut String, passed: u64, sum: &PageSum) -> Result<(), AllocError>
-    ensures { OnOk result (string_bytes text.new ≡ string_bytes text.old ++ card_link passed sum.now) }
+// Whether a cycle is a card cycle.
+fn is_card_cycle(cycle: Cycle) -> bool
+    ensures { result ≡ is_card_cycle cycle }
 {
-    if takes(sum, passed) {
+    match cycle {
+        Cycle::Card => true,
+        Cycle::RunIn | Cycle::Prog(_, _) | Cycle::Head(_) => false,
+    }
+}
+
+// Whether an entry is of the card cycle of a card.
+fn is_of_card(entry: &Entry, card: usize) -> bool
+    ensures { result ≡ is_of_card entry.now card }
+{
+    is_card_cycle(entry.cycle) && entry.card as usize == card
+}
+
+// Whether one of some entries is.
+fn has_card(entries: &[Entry], card: usize) -> bool
+    ensures { result ≡ has_card entries.now card }
+{
+    for entry in entries {
+        if is_of_card(entry, card) {
+            return true;
+        }
+    }
+    false
+}
+
+// Whether a card was added to a sum, or subtracted, by an entry that is told.
+fn takes_card(sum: &PageSum, card: usize) -> bool
+    ensures { result ≡ takes_card sum.now card }
+{
+    has_card(sum.ledger.first(), card) || has_card(sum.ledger.last(), card)
+}
+
+// The link to a sum, if a card went into it.
+fn write_card_link(text: &mut String, card: usize, sum: &PageSum) -> Result<(), AllocError>
+    ensures { OnOk result (string_bytes text.new ≡ string_bytes text.old ++ card_link card sum.now) }
+{
+    if takes_card(sum, card) {
         write_sum_link(text, sum)
     } else {
         Ok(())
@@ -54,13 +91,13 @@ fn write_card_link(text: &mut String, passed: u64, sum: &PageSum) -> Result<(), 
 }
 
 #[tactic(auto, using(markup::proofs::Pieces::one_more))]
-/// Writes into which sums a card went, by how many cycles of the run were over before its card cycle: a line with a link for each. Fails only
-/// if no memory is left; a front of the lines may then have been written.
-pub fn write_card_sums(text: &mut String, sums: &[PageSum], passed: u64) -> Result<(), AllocError>
-    ensures { OnOk result (string_bytes text.new ≡ string_bytes text.old ++ card_sums sums.now passed) }
+/// Writes into which sums the card with a number went, counted from 1, by the entries of sums that are told: a line with a link for each. Fails
+/// only if no memory is left; a front of the lines may then have been written.
+pub fn write_card_sums(text: &mut String, sums: &[PageSum], card: usize) -> Result<(), AllocError>
+    ensures { OnOk result (string_bytes text.new ≡ string_bytes text.old ++ card_sums sums.now card) }
 {
     for sum in sums {
-        write_card_link(text, passed, sum)?;
+        write_card_link(text, card, sum)?;
     }
     Ok(())
 }

@@ -6,6 +6,7 @@
 //! `specs/` says what is written.
 #![tactic(auto)]
 
+mod between;
 mod into;
 mod labels;
 mod rows;

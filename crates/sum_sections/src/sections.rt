@@ -4,8 +4,9 @@ ghost use Rattle.std.specs.Prelude.{◌≡◌, ◌++◌, codes, IfOk, OnOk};
 ghost use Rattle.std.specs.List.{flat_map};
 ghost use Rattle.std.specs.String.{string_bytes};
 ghost use Rattle.ledger_text.specs.Names.{cycle_text};
-ghost use Rattle.sum_sections.specs.Sections.{back_text, before_text, behind_text, first_sum, front_text, head_text, open_text, section_text, sum_sections_text, sum_entry, sum_words, why_some, why_text};
+ghost use Rattle.sum_sections.specs.Sections.{back_text, before_text, behind_text, first_sum, front_text, head_text, open_text, section_text, sum_sections_text, sum_entry, sum_words, why_some, why_text, why_words};
 
+use crate::between::write_cards_between;
 use crate::into::write_higher_sums;
 use crate::labels::write_label;
 use crate::rows::write_table;
@@ -81,34 +82,48 @@ fn write_front(alloc: Global, text: &mut String, sum: &PageSum) -> Result<(), Al
     write_before(alloc, text, sum)
 }
 
-#[tactic(auto, unfolding(crate::specs::Sections::why_some))]
+#[tactic(auto, unfolding(crate::specs::Sections::why_words))]
 // Why the cycle ran that printed the figure.
-fn write_why_some(text: &mut String, why: &[u8]) -> Result<(), AllocError>
-    ensures { OnOk result (string_bytes text.new ≡ string_bytes text.old ++ why_some why.now) }
+fn write_why_words(text: &mut String, why: &[u8]) -> Result<(), AllocError>
+    ensures { OnOk result (string_bytes text.new ≡ string_bytes text.old ++ why_words why.now) }
 {
     text.push_str("<p>Why it was printed then:</p>\n<pre>")?;
     push_escaped(text, why)?;
     text.push_str("</pre>\n")
 }
 
+#[tactic(auto, unfolding(crate::specs::Sections::why_some))]
+// The same, with the cards between which it ran, of which the first has this number.
+fn write_why_some(text: &mut String, shown: Shown, card: u32, why: &[u8]) -> Result<(), AllocError>
+    ensures { OnOk result (string_bytes text.new ≡ string_bytes text.old ++ why_some shown card why.now) }
+{
+    write_why_words(text, why)?;
+    write_cards_between(text, shown, card as usize)
+}
+
 // The same, if it is told.
-fn write_why(text: &mut String, why: &[u8]) -> Result<(), AllocError>
-    ensures { OnOk result (string_bytes text.new ≡ string_bytes text.old ++ why_text why.now) }
+fn write_why(text: &mut String, shown: Shown, card: u32, why: &[u8]) -> Result<(), AllocError>
+    ensures { OnOk result (string_bytes text.new ≡ string_bytes text.old ++ why_text shown card why.now) }
 {
     if why.is_empty() {
         Ok(())
     } else {
-        write_why_some(text, why)
+        write_why_some(text, shown, card, why)
     }
 }
 
 #[tactic(auto, unfolding(crate::specs::Sections::behind_text))]
 // What stands behind the rows: into which sums it went, and why it was printed then.
-fn write_behind(text: &mut String, sums: &[PageSum], sum: &PageSum) -> Result<(), AllocError>
-    ensures { OnOk result (string_bytes text.new ≡ string_bytes text.old ++ behind_text sums.now sum.now) }
+fn write_behind(
+    text: &mut String,
+    shown: Shown,
+    sums: &[PageSum],
+    sum: &PageSum,
+) -> Result<(), AllocError>
+    ensures { OnOk result (string_bytes text.new ≡ string_bytes text.old ++ behind_text shown sums.now sum.now) }
 {
     write_higher_sums(text, sums, sum)?;
-    write_why(text, &sum.why)?;
+    write_why(text, shown, sum.found.card, &sum.why)?;
     text.push_str("</section>\n")
 }
 
@@ -125,12 +140,13 @@ fn write_section(
 {
     write_front(alloc, text, sum)?;
     write_table(alloc, text, shown, sums, sum)?;
-    write_behind(text, sums, sum)
+    write_behind(text, shown, sums, sum)
 }
 
 #[tactic(auto, using(markup::proofs::Pieces::one_more))]
 /// Writes the elements of the sums of a page: what each is called, its counter, a row for each cycle in which something was added or
-/// subtracted, into which higher sums it went, and why it was printed then. Rows link to the cards that are shown, and to the lower totals among the sums.
+/// subtracted, into which higher sums it went, why it was printed then, and the cards between which it was. Rows link to the cards that are
+/// shown, and to the lower totals among the sums.
 ///
 /// Fails only if no memory is left; a front of the elements may then have been written.
 pub fn write_sum_sections(

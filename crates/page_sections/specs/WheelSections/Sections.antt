@@ -6,7 +6,6 @@ use Rattle.std.specs.String.{string_bytes}
 use Rattle.std.specs.declared.alloc.Global.{Global}
 use Rattle.explanations.specs.declared.explanation.Explanation.{Explanation}
 use Rattle.hubs.specs.declared.hub.Hub.{Hub}
-use Rattle.markup.specs.Escapes.{escaped}
 use Rattle.panel_drawing.specs.Drawing.{picture_open, way_curve}
 use Rattle.page_links.specs.Links.{card_link, is_shown}
 use Rattle.page_links.specs.declared.shown.Shown.{Shown}
@@ -14,6 +13,7 @@ use Rattle.sum_places.specs.Places.{sum_behind, sum_link}
 use Rattle.sum_places.specs.declared.places.SumPlace.{SumPlace}
 use Rattle.wheel_ledgers.specs.declared.chart_totals.TitledAccount.{TitledAccount}
 use Rattle.page_sections.specs.ReportSheets.Sheets.{row_name, wheel_name}
+use Rattle.page_sections.specs.WheelSections.Words.{linked}
 use Rattle.page_sections.specs.declared.wheel_sections.told.ToldWheel.{ToldWheel}
 
 -- the way at a row as a path; nothing where none is told
@@ -37,7 +37,7 @@ section_open shown page line wheel card = name_open page line wheel ++ back_text
 
 -- the words of an element
 unfoldable pub words_text : List ℕ → List ℕ
-words_text words = codes "<pre>" ++ escaped words ++ codes "</pre>"
+words_text words = codes "<pre>" ++ linked words ++ codes "</pre>"
 
 -- the end of a picture and of its element
 unfoldable pub section_close : List ℕ

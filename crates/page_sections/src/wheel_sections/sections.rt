@@ -8,9 +8,9 @@ ghost use Rattle.page_sections.specs.WheelSections.Sections.{back_text, card_tex
 
 use crate::report_sheets::{write_row_name, write_wheel_name};
 use crate::wheel_sections::told::ToldWheel;
+use crate::wheel_sections::words::write_linked;
 use explanations::Explanation;
 use hubs::Hub;
-use markup::push_escaped;
 use page_links::{Shown, write_card_link};
 use panel_drawing::{write_picture_open, write_way};
 use std::alloc::AllocError;
@@ -97,7 +97,7 @@ fn write_words(text: &mut String, words: &[u8]) -> Result<(), AllocError>
     ensures { OnOk result (string_bytes text.new ≡ string_bytes text.old ++ words_text words.now) }
 {
     text.push_str("<pre>")?;
-    push_escaped(text, words)?;
+    write_linked(text, words)?;
     text.push_str("</pre>")
 }
 

@@ -1,13 +1,13 @@
 use Rattle.std.specs.Prelude.{◌≡◌, ◌≤◌, ◌+◌, length}
 use Rattle.card_code.specs.Lines.{lines_of}
-use Rattle.card_sections.specs.Stations.{nth_line}
+use Rattle.card_sections.specs.Readings.{nth_line}
 use Rattle.card_sections.proofs.readings.nth_line.Given as goal
 
 -- the line is among those that are left
 abbrev pub invariant-loop-line : goal.invariant-loop-line
 invariant-loop-line l = record {
-  among : nth_line l.letter l.left l.number (lines_of l.rest) ≡ nth_line l.letter l.nth 1 (lines_of l.trace);
-  within : l.number + length l.rest ≤ 1 + length l.trace;
+  among : nth_line l.letter l.left l.number (lines_of l.rest) ≡ nth_line l.letter l.nth l.first (lines_of l.trace);
+  within : l.number + length l.rest ≤ l.first + length l.trace;
 }
 
 abbrev pub decreases-loop-line : goal.decreases-loop-line

@@ -12,6 +12,7 @@ use Rattle.sum_places.specs.declared.places.SumPlace.{SumPlace}
 use Rattle.sum_sections.specs.Sums.{AreSums, IsExplained, place_of}
 use Rattle.sum_sections.specs.declared.sums.PageSum.{PageSum}
 use Rattle.traces.specs.Parts.{IsTracePart}
+use Rattle.traces.specs.declared.parts.CycleChoice.{CycleChoice}
 use Rattle.show_page.specs.Choice.{cycles_shown}
 use Rattle.show_page.specs.Helper.{GainsBody, GainsHead}
 use Rattle.show_page.specs.Page.{cards_part, sheets_part}
@@ -46,9 +47,15 @@ returns c =
     let long : c.from-form_lines.result ≡ setup.tape.lines =
     c.from-form_lines.ensures ∙ c.lines.ensures.value ∙ ap (λ (t : CarriageTape). t.lines) c.tape.ensures.value in
     let sums = c.in_ok-sums.sums.items in
-    let run : c.shown_run-run.result ≡ shown_run around cards part = c.shown_run-run.ensures in
-    let at_places : c.deref-10.result.now ≡ map place_of sums =
-    c.deref-10.ensures.value ∙ c.in_ok-places.ensures ∙ ap (λ (l : List PageSum). map place_of l) c.deref-5.ensures.value in
+    let chosen = cycles_shown around cards found in
+    let choice : c.cycles_shown-choice.result ≡ chosen =
+    c.cycles_shown-choice.ensures ∙ ap (λ (f : List FoundLine). cycles_shown around cards f) c.deref.ensures.value in
+    let run : c.shown_run-run.result ≡ shown_run chosen cards part =
+    c.shown_run-run.ensures.value ∙ ap (λ (x : CycleChoice). shown_run x cards part) choice in
+    let shown : c.shown_cards-cards_shown.result.now ≡ shown_cards chosen deck =
+    c.shown_cards-cards_shown.ensures.value ∙ ap (λ (x : CycleChoice). shown_cards x deck) choice in
+    let at_places : c.deref-11.result.now ≡ map place_of sums =
+    c.deref-11.ensures.value ∙ c.in_ok-places.ensures ∙ ap (λ (l : List PageSum). map place_of l) c.deref-5.ensures.value in
     let none = string_bytes c.new-text.result in
     let one = string_bytes c.write_head.new.text in
     let two = string_bytes c.write_sheets_part.new.text in
@@ -56,8 +63,7 @@ returns c =
     let new = string_bytes c.write_body.new.text in
     page_whole setup c.args.asked.now totals deck chart around placed found part wires told sums legend none one two three new
     c.in_ok-shown.ensures
-    (subst (λ (f : List FoundLine). IsTracePart setup deck (cycles_shown around cards f) part) c.deref.ensures.value
-    c.in_ok-part.ensures.part)
+    (subst (λ (x : CycleChoice). IsTracePart setup deck x part) choice c.in_ok-part.ensures.part)
     (subst (λ (l : List PlacedLine). AreTold setup c.args.asked.now deck (printed_places l) told) c.deref-2.ensures.value
     c.in_ok-told.ensures)
     (subst (λ (l : List ToldWheel). AreSums setup totals deck l sums) c.deref-4.ensures.value c.in_ok-sums.ensures)
@@ -67,22 +73,29 @@ returns c =
     (subst (λ (r : ShownRun). two ≡ one ++ sheets_part r.cards around cards placed found setup.tape.lines) run
     (subst (λ (n : ℕ). two ≡ one ++ sheets_part c.shown_run-run.result.cards around cards placed found n) long
     (subst (λ (l : List PlacedLine). two ≡ one ++ sheets_part c.shown_run-run.result.cards around cards l found c.from-form_lines.result)
-    c.deref-6.ensures.value
+    c.deref-7.ensures.value
     (subst (λ (f : List FoundLine).
-    two ≡ one ++ sheets_part c.shown_run-run.result.cards around cards c.deref-6.result.now f c.from-form_lines.result)
-    c.deref-7.ensures.value c.in_ok-write_sheets_part.ensures))))
-    (subst (λ (r : ShownRun). three ≡ two ++ cards_part chart r.cards.first (shown_cards around deck)) run
+    two ≡ one ++ sheets_part c.shown_run-run.result.cards around cards c.deref-7.result.now f c.from-form_lines.result)
+    c.deref-8.ensures.value c.in_ok-write_sheets_part.ensures))))
+    (subst (λ (r : ShownRun). three ≡ two ++ cards_part chart r.cards.first (shown_cards chosen deck)) run
     (subst (λ (l : List (List ℕ)). three ≡ two ++ cards_part chart c.shown_run-run.result.cards.first l)
-    c.shown_cards-cards_shown.ensures.value c.in_ok-write_cards_part.ensures))
-    (subst (λ (r : ShownRun). GainsBody chart r (shown_cards around deck) part wires legend totals told sums (map place_of sums) three new) run
+    shown c.in_ok-write_cards_part.ensures))
+    (subst (λ (f : List FoundLine).
+    GainsBody setup f chart (shown_run chosen cards part) (shown_cards chosen deck) part wires legend totals told sums (map place_of sums)
+    three new) c.deref-12.ensures.value
+    (subst (λ (r : ShownRun).
+    GainsBody setup c.deref-12.result.now chart r (shown_cards chosen deck) part wires legend totals told sums (map place_of sums) three new)
+    run
     (subst (λ (l : List SumPlace).
-    GainsBody chart c.shown_run-run.result (shown_cards around deck) part wires legend totals told sums l three new) at_places
+    GainsBody setup c.deref-12.result.now chart c.shown_run-run.result (shown_cards chosen deck) part wires legend totals told sums l three
+    new) at_places
     (subst (λ (l : List PageSum).
-    GainsBody chart c.shown_run-run.result (shown_cards around deck) part wires legend totals told l c.deref-10.result.now three new)
-    c.deref-9.ensures.value
+    GainsBody setup c.deref-12.result.now chart c.shown_run-run.result (shown_cards chosen deck) part wires legend totals told l
+    c.deref-11.result.now three new)
+    c.deref-10.ensures.value
     (subst (λ (l : List ToldWheel).
-    GainsBody chart c.shown_run-run.result (shown_cards around deck) part wires legend totals l c.deref-9.result.now c.deref-10.result.now
-    three new) c.deref-8.ensures.value
+    GainsBody setup c.deref-12.result.now chart c.shown_run-run.result (shown_cards chosen deck) part wires legend totals l
+    c.deref-10.result.now c.deref-11.result.now three new) c.deref-9.ensures.value
     (subst (λ (l : List (List ℕ)).
-    GainsBody chart c.shown_run-run.result l part wires legend totals c.deref-8.result.now c.deref-9.result.now c.deref-10.result.now
-    three new) c.shown_cards-cards_shown.ensures.value c.in_ok-write_body.ensures)))))
+    GainsBody setup c.deref-12.result.now chart c.shown_run-run.result l part wires legend totals c.deref-9.result.now
+    c.deref-10.result.now c.deref-11.result.now three new) shown c.in_ok-write_body.ensures))))))

@@ -19,6 +19,8 @@ returns c =
     let seven = string_bytes c.write_card_sections.new.text in
     let eight = string_bytes c.write_wire_sections.new.text in
     let nine = string_bytes c.write_shown_cycles.new.text in
+    let ten = string_bytes c.write_step_links.new.text in
+    let eleven = string_bytes c.write_step_sections.new.text in
     let new = string_bytes c.write_document_close.new.text in
     let totals = c.args.totals.now in
     let told = c.args.told.now in
@@ -27,12 +29,15 @@ returns c =
     let chart = c.args.chart.now in
     let cards = c.args.cards.now in
     let part = c.args.part.now in
-    where_ok (new ≡ nine ++ document_close)
-    (GainsBody chart c.args.run cards part c.args.wires.now c.args.legend.now totals told sums places old new)
+    let setup = c.args.setup.now in
+    let found = c.args.found.now in
+    where_ok (new ≡ eleven ++ document_close)
+    (GainsBody setup found chart c.args.run cards part c.args.wires.now c.args.legend.now totals told sums places old new)
     c.write_document_close.result
-    (body_whole chart c.args.run cards part c.args.wires.now totals told sums places c.args.legend.now old one two three four
-    five six seven eight nine new c.in_ok-write_drawing.ensures c.in_ok-push_str.ensures.bytes c.in_ok-write_stage_open.ensures
+    (body_whole setup found chart c.args.run cards part c.args.wires.now totals told sums places c.args.legend.now old one two three four
+    five six seven eight nine ten eleven new c.in_ok-write_drawing.ensures c.in_ok-push_str.ensures.bytes c.in_ok-write_stage_open.ensures
     c.in_ok-write_begin.ensures c.in_ok-write_told_sections.ensures c.in_ok-write_sum_sections.ensures (subst (λ (t : List ℕ). seven ≡ six ++ sections_text chart c.args.run t sums cards) c.deref.ensures.value
     c.in_ok-write_card_sections.ensures)
-    c.in_ok-write_wire_sections.ensures c.in_ok-write_shown_cycles.ensures)
+    c.in_ok-write_wire_sections.ensures c.in_ok-write_shown_cycles.ensures c.in_ok-write_step_links.ensures
+    c.in_ok-write_step_sections.ensures)
     c.write_document_close.ensures

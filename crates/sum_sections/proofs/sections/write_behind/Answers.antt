@@ -13,7 +13,7 @@ returns c =
     let one = string_bytes c.write_higher_sums.new.text in
     let two = string_bytes c.write_why.new.text in
     let new = string_bytes c.push_str.new.self in
-    where_ok (new ≡ two ++ codes "</section>\n") (new ≡ old ++ behind_text c.args.sums.now c.args.sum.now) c.push_str.result
-    (three old one two new (higher_sums c.args.sums.now c.args.sum.now) (why_text c.args.sum.now.why.items) (codes "</section>\n") c.in_ok-write_higher_sums.ensures
-    (c.in_ok-write_why.ensures ∙ ap (λ (l : List ℕ). one ++ why_text l) c.deref.ensures.value))
+    where_ok (new ≡ two ++ codes "</section>\n") (new ≡ old ++ behind_text c.args.shown c.args.sums.now c.args.sum.now) c.push_str.result
+    (three old one two new (higher_sums c.args.sums.now c.args.sum.now) (why_text c.args.shown c.args.sum.now.found.card c.args.sum.now.why.items) (codes "</section>\n") c.in_ok-write_higher_sums.ensures
+    (c.in_ok-write_why.ensures ∙ ap (λ (l : List ℕ). one ++ why_text c.args.shown c.args.sum.now.found.card l) c.deref.ensures.value))
     (pushed c.push_str.result new (two ++ codes "</section>\n") two c.push_str.ensures.bytes)

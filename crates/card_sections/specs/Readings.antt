@@ -1,9 +1,10 @@
--- In which cycles of a run a card stood at the two reading stations, by the trace of the run: it has a line for each cycle, of which the
--- first letter tells the kind.
+-- In which cycles of a run a card stood at the two reading stations, by the part of the run's trace that is shown: it has a line for each
+-- cycle, of which the first letter tells the kind. The card cycles of this part are those of the cards that are shown, from the first one on.
 use Rattle.std.specs.Prelude.{ℕ, ◌+◌, ◌-◌, ◌==◌, ◌&&◌, Bool, false, List, [], ◌∷◌, ◌++◌, codes, if◌then◌else◌}
 use Rattle.card_code.specs.Lines.{lines_of}
 use Rattle.page_links.specs.Links.{cycle_word}
 use Rattle.page_links.specs.declared.shown.Shown.{Shown}
+use Rattle.page_links.specs.declared.shown.ShownRun.{ShownRun}
 use Rattle.sum_sections.specs.Into.{card_sums}
 use Rattle.sum_sections.specs.declared.sums.PageSum.{PageSum}
 
@@ -24,13 +25,16 @@ nth_line letter nth number (line ∷ lines) =
     if begins_with letter line && nth == 1 then number
     else nth_line letter (left_behind (begins_with letter line) nth) (number + 1) lines
 
--- A card stands at second reading in its own card cycle, of which the line begins with a C: the third card in the third one. It stands at
--- first reading in that of the card before it, and the first card in the run-in, of which the line begins with an R.
-unfoldable pub second_reading : (card : ℕ) → List ℕ → ℕ
-second_reading card trace = nth_line 67 card 1 (lines_of trace)
+-- A card stands at second reading in its own card cycle, of which the line begins with a C: the first card that is shown in the first one, the
+-- third in the third one. It stands at first reading in that of the card before it, and card 1 in the run-in, of which the line begins with an
+-- R. So where the cards that are shown begin later, the cycle in which the first of them stood at first reading isn't shown.
+unfoldable pub second_reading : ShownRun → (card : ℕ) → (trace : List ℕ) → ℕ
+second_reading shown card trace = nth_line 67 (card + 1 - shown.cards.first) shown.cycles.first (lines_of trace)
 
-unfoldable pub first_reading : (card : ℕ) → List ℕ → ℕ
-first_reading card trace = if card == 1 then nth_line 82 1 1 (lines_of trace) else nth_line 67 (card - 1) 1 (lines_of trace)
+unfoldable pub first_reading : ShownRun → (card : ℕ) → (trace : List ℕ) → ℕ
+first_reading shown card trace =
+    if card == 1 then nth_line 82 1 shown.cycles.first (lines_of trace)
+    else nth_line 67 (card - shown.cards.first) shown.cycles.first (lines_of trace)
 
 -- a cycle, as a link if it is shown; 0 is one that isn't shown
 abbrev pub cycle_text : Shown → (cycle : ℕ) → List ℕ
@@ -52,12 +56,9 @@ second_text shown second = second_open ++ cycle_text shown second ++ codes ".</p
 unfoldable pub stations_text : Shown → (first second : ℕ) → List ℕ
 stations_text shown first second = first_text shown first ++ second_text shown second
 
-unfoldable pub card_stations : Shown → (card : ℕ) → (trace : List ℕ) → List ℕ
-card_stations shown card trace = stations_text shown (first_reading card trace) (second_reading card trace)
+unfoldable pub card_stations : ShownRun → (card : ℕ) → (trace : List ℕ) → List ℕ
+card_stations shown card trace = stations_text shown.cycles (first_reading shown card trace) (second_reading shown card trace)
 
--- into which sums it went, by its cycle at second reading
-abbrev pub sums_text : List PageSum → (second : ℕ) → List ℕ
-sums_text sums second = if second == 0 then [] else card_sums sums (second - 1)
-
-unfoldable pub card_run : Shown → (trace : List ℕ) → List PageSum → (card : ℕ) → List ℕ
-card_run shown trace sums card = card_stations shown card trace ++ sums_text sums (second_reading card trace)
+-- in which cycles it stood there, and into which sums it went
+unfoldable pub card_run : ShownRun → (trace : List ℕ) → List PageSum → (card : ℕ) → List ℕ
+card_run shown trace sums card = card_stations shown card trace ++ card_sums sums card

@@ -1,0 +1,12 @@
+-- Rules of the style sheet that mark a printed character while its explanation is shown: one for each line gives its row a mark, one for each
+-- wheel puts the mark of its row behind the character of the wheel.
+use Rattle.std.specs.Prelude.{ℕ, List, ◌++◌, codes, decimal}
+use Rattle.page_sections.specs.ReportSheets.Sheets.{row_name}
+
+unfoldable pub row_rule : (page line : ℕ) → List ℕ
+row_rule page line =
+    codes "body:has(>aside>[id^=" ++ row_name page line ++ codes "w]:target) #" ++ row_name page line ++ codes "{--mark:var(--pick)}\n"
+
+unfoldable pub wheel_rule : (wheel : ℕ) → List ℕ
+wheel_rule wheel =
+    codes "body:has(>aside>[id$=w" ++ decimal wheel ++ codes "]:target) .sheets [href$=w" ++ decimal wheel ++ codes "]{background:var(--mark)}\n"
