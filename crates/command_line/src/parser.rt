@@ -6,7 +6,7 @@ use std::alloc::{AllocError, Global};
 
 /// What stands behind the commands of the program's help.
 const AFTER_HELP: &str =
-    "Status: 0 done, 2 words that can't be obeyed, 3 a text that is refused, a line or wheel that isn't there, or a panel that isn't wired for its chart, 4 a file that can't be read or an output that can't be written, 5 no memory. Why is told on one line of standard error. A file that is read may be -, standard input; one of them at most.\n\nDocuments, in the folder docs: CHART.md the planning chart, GALLERY.md whole charts with their pages, WIRING.md wiring charts, MACHINE.md the machine, EXPLAIN.md explanations, SHOW.md the page for a browser, FAULTS.md every fault.";
+    "Status: 0 done, 2 words that can't be obeyed, 3 a text that is refused, a line or wheel that isn't there, or a panel that isn't wired for its chart, 4 a file that can't be read or an output that can't be written, 5 no memory. Why is told on one line of standard error. A file that is read may be -, standard input; one of them at most.\n\nDocuments, in the folder docs: CHART.md the planning chart, DECKS.md decks, REPORT.md what a report is, GALLERY.md whole charts with their pages, WIRING.md wiring charts, MACHINE.md the machine, EXPLAIN.md explanations, SHOW.md the page for a browser, FAULTS.md every fault.";
 
 /// How large a number may be: as large as the type has it.
 #[derive(Clone, Copy)]
@@ -109,7 +109,7 @@ const DECKS: Word = Word::Files {
 
 const DECK_TOO: Word = Word::Extra {
     name: "DECK",
-    help: "a deck of cards, a file; all its cards that the chart can't be run with are listed",
+    help: "a deck of cards, a file; its bad cards are listed",
 };
 
 const WIRING: Word = Word::File {
@@ -126,41 +126,41 @@ const ORDERS: Word = Word::Option {
     name: "ORDERS",
     long: "orders",
     value: "FILE",
-    help: "the orders that serve the units, a file; the rounds and the hubs that were seen are told",
+    help: "a file with the orders in which the units run; tells how many rounds and hubs there were",
 };
 
 const DECK_ON_BOTH: Word = Word::Option {
     name: "DECK",
     long: "deck",
     value: "DECK",
-    help: "a deck of cards, a file; the first line that the panel prints otherwise is told",
+    help: "a deck of cards, a file; shows the first line that the panel prints differently",
 };
 
 const HINT: Word = Word::Flag {
     name: "HINT",
     long: "hint",
-    help: "tells lines of the planning chart and counts alone, and no wire",
+    help: "tells only lines of the planning chart and counts, and no wire",
 };
 
 const OUTPUT: Word = Word::Value {
     name: "OUTPUT",
     long: "output",
     value: "FILE",
-    help: "the file that is written, in place of standard output; it is there only once it is whole",
+    help: "writes this file instead of standard output; it appears only when it is complete",
 };
 
 const PAGES: Word = Word::Value {
     name: "PAGES",
     long: "page",
     value: "N",
-    help: "prints page N alone, or pages N to M by N-M, once the whole deck has run",
+    help: "prints only page N, or pages N to M (as 3-5), once the whole deck has run",
 };
 
 const AROUND: Word = Word::Value {
     name: "AROUND",
     long: "page",
     value: "N",
-    help: "shows page N, the one before it and the one behind it, with the cycles from the card of their first line to that of their last one",
+    help: "shows page N with its neighbours, and the cycles from the card of the first line to the card of the last",
 };
 
 const CHECK_FIRST: Word = Word::Flag {
@@ -226,13 +226,13 @@ const ALL: Word = Word::Flag {
 const ALL_FAULTS: Word = Word::Flag {
     name: "ALL",
     long: "all",
-    help: "tells every fault of the chart by its line, and not only the first; the chart may be a wiring chart; if it has none, the bad cards of the deck are shown",
+    help: "lists every fault of the chart, or of a wiring chart in its place; if there are none, shows the bad cards of the deck",
 };
 
 const GROUPS: Word = Word::Flag {
     name: "GROUPS",
     long: "groups",
-    help: "tells the control keys that come back in the deck, which then isn't sorted by its control fields; each with its cards",
+    help: "lists the control keys that come back, each with its cards; if there are any, the deck isn't sorted",
 };
 
 /// The commands in the order of the help.
@@ -274,7 +274,7 @@ pub(crate) static COMMANDS: &[CommandRow] = &[
     },
     CommandRow {
         name: "chart",
-        about: "Prints the planning chart that a panel is wired for",
+        about: "Prints the planning chart that a panel is wired for, or a near one",
         words: &[WIRING],
     },
     CommandRow {
@@ -304,7 +304,7 @@ pub(crate) static COMMANDS: &[CommandRow] = &[
     },
     CommandRow {
         name: "show",
-        about: "Prints one page for a browser: the pages of a deck, the panel and one way of each impulse",
+        about: "Prints one page for a browser: the pages of a deck, its cards and sums, the panel and one way of each impulse",
         words: &[AROUND, OUTPUT, TEXT, DECK],
     },
     CommandRow {
