@@ -3,7 +3,7 @@
 ghost use Rattle.std.specs.Prelude.{◌≡◌, ◌≢◌, ℕ, ◌⊎◌, List, IfErr, IfOk, IsErrOf, IsOkAnd, OnOk};
 ghost use Rattle.card_code.specs.declared.deck.DeckFault.{DeckFault};
 ghost use Rattle.card_code.specs.Deck.{Deck, HasDeckFault, HasLineFault, IsCardOf};
-ghost use Rattle.card_code.specs.declared.deck.DeckFault.TheVariants.{Memory};
+ghost use Rattle.card_code.specs.declared.deck.DeckFault.TheVariants.{CardTooLong, Memory};
 
 use crate::card::{CARD_COLUMNS, Card};
 use crate::lines::next_line;
@@ -107,8 +107,8 @@ pub fn read_card(number: u32, line: &[u8]) -> Result<Card, DeckFault>
     Ok(card)
 }
 
-/// Punches the line with the number `number`, from 1, into a card, in the place of what was punched in it. At a fault the card has some
-/// columns of the line alone.
+/// Punches the line with the number `number`, from 1, into a card, in the place of what was punched in it. After `CardTooLong` the card is
+/// as it was. After `NoSuchCharacter` it has some columns of the line alone.
 ///
 /// # Errors
 ///
@@ -116,6 +116,7 @@ pub fn read_card(number: u32, line: &[u8]) -> Result<Card, DeckFault>
 pub fn punch_line(number: u32, line: &[u8], card: &mut Card) -> Result<(), DeckFault>
     ensures card { OnOk result (IsCardOf line.now card.new) }
     ensures fault { IfErr result (λ fault. HasLineFault line.now number fault) }
+    ensures too_long { IfErr result (λ fault. fault ≡ CardTooLong number → card.new ≡ card.old) }
 {
     if line.len() > CARD_COLUMNS {
         return Err(DeckFault::CardTooLong { line: number });

@@ -1,11 +1,11 @@
 -- Reads until a whole line, one that is surely too long, or the end is held.
-use Rattle.std.proofs.Common.{◌≡◌, ℕ, ◌+◌, ◌-◌, ◌≤◌, ◌⊎◌, inl, inr, true, false, List, Option, length, arith}
+use Rattle.std.proofs.Common.{◌≡◌, ℕ, ◌+◌, ◌-◌, ◌≤◌, ◌⊎◌, inl, inr, true, false, Bool, List, Option, length, arith}
 use Rattle.std.specs.Io.KnownBytes.{IsAtEnd, Keeps}
 use Rattle.card_lines.specs.Front.{IsPart}
 use Rattle.card_lines.specs.Reading.{Reading, still_to_come, IsSettled}
 
 -- How a reading goes on while it is filled: the text stays, each read but the last brings a byte, and nothing is read where a line was held.
-pub record IsFilling {S : Type 0} (left : S → Option (List ℕ)) (reads borrow : S → ℕ) (old now : Reading S) : Type 0 where
+pub record IsFilling {S : Type 0} (left : S → Option (List ℕ)) (reads borrow : S → ℕ) (failed : S → Bool) (old now : Reading S) : Type 0 where
   pub text : Keeps (still_to_come left old) (still_to_come left now)
   pub given : now.given ≡ old.given
   pub has_failed : now.has_failed ≡ old.has_failed
@@ -14,6 +14,7 @@ pub record IsFilling {S : Type 0} (left : S → Option (List ℕ)) (reads borrow
   pub bounded : now.given ≤ 999999
   pub end : now.at_end ≡ true → IsAtEnd (left now.source)
   pub same : borrow now.source ≡ borrow old.source
+  pub well : failed now.source ≡ failed old.source
   pub begun : (now ≡ old) ⊎ ((IsSettled old.held → ⊥) × (old.at_end ≡ false))
 
 -- a part of a line is no whole line and none that is too long

@@ -1,6 +1,7 @@
 -- The next card, or the fault in its place.
 use Rattle.std.proofs.Common.{◌≡◌, ◌∙◌, ℕ, ◌+◌, ◌<◌, List, [], ◌∷◌, ◌++◌, length, take, drop, Option, Some, None, Result, Ok, Err, OnOk, IfSome, is_some, refl, sym, ap, subst, arith, append-nil, append_assoc, take-append-drop}
 use Rattle.std.proofs.Math.Seq.{take-length, drop-length}
+use Rattle.std.proofs.lemmas.List.{drop_more}
 use Rattle.std.proofs.lemmas.Bool.Decides.{nat_tests}
 use Rattle.std.proofs.lemmas.Bool.{false≢true}
 use Rattle.std.specs.Io.KnownBytes.{IsAtEnd, Keeps, prepend_known}
@@ -11,8 +12,8 @@ use Rattle.card_code.specs.declared.deck.DeckFault.{DeckFault}
 use Rattle.card_code.specs.declared.deck.DeckFault.TheVariants.{CardTooLong, NoSuchCharacter, TooManyCards, Memory}
 use Rattle.card_lines.proofs.FirstLines.{long_first}
 use Rattle.card_lines.specs.Faults.{HasFaultNext}
-use Rattle.card_lines.specs.Front.{IsPart, IsTooLong}
-use Rattle.card_lines.specs.Reading.{GivesCard, HasFirstLine}
+use Rattle.card_lines.specs.Front.{IsLine, IsPart, IsTooLong}
+use Rattle.card_lines.specs.Reading.{GivesCard, HasFirstLine, TakesEndedLine}
 use Rattle.card_lines.specs.declared.fault.ReadFault.TheVariants as read
 
 -- the bytes of a text that is known
@@ -103,6 +104,29 @@ none_left held text left part end empty known =
     let none : rest.0 ≡ [] = subst IsAtEnd (rest.1) end in
     ap lines_of (rest.2) ∙ ap (λ (t : List ℕ). lines_of (held ++ t)) none ∙ ap lines_of (append-nil held)
     ∙ lines_of_none held (without_cr held) part.unended refl (grind (arith, nat_tests, empty))
+
+-- a whole line that is held comes off the front with its LF
+pub ended_line : (held text : List ℕ) (left : Option (List ℕ)) (end : ℕ) → IsLine held end → prepend_known held left ≡ Some text
+    → TakesEndedLine text (prepend_known (drop (end + 1) held) left)
+ended_line held text left end at known =
+    let rest = left_of held text left known in
+    let behind : drop end held ≡ 10 ∷ drop (end + 1) held =
+    drop_more held end 0 (at.within) ∙ ap (λ b. b ∷ drop (end + 1) held) (at.found) in
+    let whole : held ≡ take end held ++ 10 ∷ drop (end + 1) held =
+    sym (take-append-drop end held) ∙ ap (λ (t : List ℕ). take end held ++ t) behind in
+    record {
+      line = take end held;
+      rest = drop (end + 1) held ++ rest.0;
+      parts = rest.2 ∙ ap (λ (t : List ℕ). t ++ rest.0) whole ∙ append_assoc (take end held) (10 ∷ drop (end + 1) held) (rest.0);
+      left = ap (prepend_known (drop (end + 1) held)) (rest.1);
+    }
+
+-- what is said of a card where bytes were used up
+pub of_used : {C D E U : Type 0} (Q : C → Type 0) → (U → (card : C) → Q card) → (taken : Result D E) (found : Option C)
+    → OnOk taken U → OnOk taken (IfSome found Q)
+of_used Q more (Ok done) None used = tt
+of_used Q more (Ok done) (Some card) used = more used card
+of_used Q more (Err fault) found used = tt
 
 -- a text that stays is known where it was
 pub still_known : (before after : Option (List ℕ)) (text : List ℕ) → Keeps before after → before ≡ Some text → after ≡ Some text

@@ -23,6 +23,17 @@ still_to_come left reading = prepend_known reading.held (left reading.source)
 abbrev pub IsSettled : List ℕ → Type 0
 IsSettled held = ((end : ℕ) × IsLine held end) ⊎ IsTooLong held
 
+-- The line to come is there: it is held whole, or it is surely too long, or the source has ended.
+abbrev pub IsThere : {S : Type 0} → Reading S → Type 0
+IsThere reading = IsSettled reading.held ⊎ (reading.at_end ≡ true)
+
+-- What is taken off the front of a text ends in an LF, and the rest is still to come.
+pub record TakesEndedLine (text : List ℕ) (to_come : Option (List ℕ)) : Type 0 where
+  pub line : List ℕ
+  pub rest : List ℕ
+  pub parts : text ≡ line ++ 10 ∷ rest
+  pub left : to_come ≡ Some rest
+
 -- No card is left: the end of the source was met, nothing but one CR at most is held, and no fault was told.
 pub record IsOver {S : Type 0} (reading : Reading S) : Type 0 where
   pub at_end : reading.at_end ≡ true

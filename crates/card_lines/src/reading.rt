@@ -1,11 +1,12 @@
 //! Cards off the front of what a source gives.
 
-ghost use Rattle.std.specs.Prelude.{◌≡◌, ◌≢◌, ◌+◌, ◌≤◌, ℕ, List, Option, [], ◌∷◌, length, Some, true, false, IfOk, IfErr, IfSome, IfNone, IsErr, IsOk, IsSome, MatchResult, None, Ok, OnErr, OnOk};
+ghost use Rattle.std.specs.Prelude.{◌≡◌, ◌≢◌, ◌+◌, ◌≤◌, ℕ, List, Option, [], ◌∷◌, length, Some, true, false, IfOk, IfErr, IfSome, IfNone, IsErr, IsOk, IsSome, drop, MatchResult, None, Ok, OnErr, OnOk};
 ghost use Rattle.std.specs.Io.KnownBytes.{IsAtEnd, Keeps};
 ghost use Rattle.card_code.specs.Deck.{HasLineFault, IsCardOf};
+ghost use Rattle.card_code.specs.declared.deck.DeckFault.{DeckFault};
 ghost use Rattle.card_code.specs.Lines.{lines_of, without_cr};
 ghost use Rattle.card_code.specs.MostCards.{most_cards};
-ghost use Rattle.card_lines.specs.Reading.{Reading, still_to_come, IsSettled, IsOver, GivesCard, HasFirstLine};
+ghost use Rattle.card_lines.specs.Reading.{Reading, still_to_come, IsSettled, IsThere, IsOver, GivesCard, TakesEndedLine, HasFirstLine};
 ghost use Rattle.card_lines.specs.Front.{IsFront, IsPart, IsTooLong};
 ghost use Rattle.card_lines.specs.Faults.{HasFaultNext};
 ghost use Rattle.card_lines.specs.declared.fault.ReadFault.TheVariants as read;
@@ -74,7 +75,8 @@ impl<S: Source + Drop> CardLines<S> {
     /// The next card, or `None` where no line is left, and then always.
     ///
     /// It reads only while it holds no whole line, and none that is surely too long, at most 82 times, and never again after the
-    /// end of the source or a fault.
+    /// end of the source or a fault. A line is at fault only once it is there whole or surely too long, or the source has ended. Where the
+    /// last line has no LF, the end is known as soon as its card is given.
     ///
     /// # Errors
     ///
@@ -84,6 +86,8 @@ impl<S: Source + Drop> CardLines<S> {
         ensures card { IfOk result (λ found. IfSome found (λ card. (text : List ℕ) → still_to_come S.left self.old ≡ Some text →
             GivesCard self.old.given text card (still_to_come S.left self.new))) }
         ensures one_more { IfOk result (λ found. IfSome found (λ _. self.new.given ≡ self.old.given + 1)) }
+        ensures unended { self.new.at_end ≡ false → IfOk result (λ found. IfSome found (λ _. (text : List ℕ) →
+            still_to_come S.left self.old ≡ Some text → TakesEndedLine text (still_to_come S.left self.new))) }
         ensures few { self.new.given ≤ most_cards }
         ensures none { IfOk result (λ found. IfNone found ((text : List ℕ) → still_to_come S.left self.old ≡ Some text →
             lines_of text ≡ [])) }
@@ -98,8 +102,11 @@ impl<S: Source + Drop> CardLines<S> {
             (line ≡ self.old.given + 1) × (S.has_failed self.new.source ≡ true)) }
         ensures part { self.old.has_failed ≡ false → IfErr result (λ fault. (line : ℕ) → fault ≡ read.Read line →
             IsPart self.new.held) }
+        ensures there { IfErr result (λ fault. (it : DeckFault) → fault ≡ read.Deck it → IsThere self.new) }
+        ensures end_stays { self.old.at_end ≡ true → self.new.at_end ≡ true }
         ensures told { IfErr result (λ _. self.new.has_failed ≡ true) }
         ensures well { OnOk result (self.new.has_failed ≡ false) }
+        ensures sound { OnOk result (S.has_failed self.new.source ≡ S.has_failed self.old.source) }
         ensures again { self.old.has_failed ≡ true → IfErr result (λ fault. fault ≡ read.Failed) }
         ensures no_card_again { self.old.has_failed ≡ true → IsErr result }
         ensures unread_again { self.old.has_failed ≡ true → self.new ≡ self.old }
@@ -119,7 +126,8 @@ impl<S: Source + Drop> CardLines<S> {
     /// the card that it replaces, so that no card is copied. What stands there after a fault is not told.
     ///
     /// It reads only while it holds no whole line, and none that is surely too long, at most 82 times, and never again after the
-    /// end of the source or a fault.
+    /// end of the source or a fault. A line is at fault only once it is there whole or surely too long, or the source has ended. Where the
+    /// last line has no LF, the end is known as soon as its card is given.
     ///
     /// # Errors
     ///
@@ -129,6 +137,8 @@ impl<S: Source + Drop> CardLines<S> {
         ensures card { OnOk result (IfSome next.new (λ card. (text : List ℕ) → still_to_come S.left self.old ≡ Some text →
             GivesCard self.old.given text card (still_to_come S.left self.new))) }
         ensures one_more { OnOk result (IfSome next.new (λ _. self.new.given ≡ self.old.given + 1)) }
+        ensures unended { self.new.at_end ≡ false → OnOk result (IfSome next.new (λ _. (text : List ℕ) →
+            still_to_come S.left self.old ≡ Some text → TakesEndedLine text (still_to_come S.left self.new))) }
         ensures few { self.new.given ≤ most_cards }
         ensures none { OnOk result (IfNone next.new ((text : List ℕ) → still_to_come S.left self.old ≡ Some text →
             lines_of text ≡ [])) }
@@ -143,8 +153,11 @@ impl<S: Source + Drop> CardLines<S> {
             (line ≡ self.old.given + 1) × (S.has_failed self.new.source ≡ true)) }
         ensures part { self.old.has_failed ≡ false → IfErr result (λ fault. (line : ℕ) → fault ≡ read.Read line →
             IsPart self.new.held) }
+        ensures there { IfErr result (λ fault. (it : DeckFault) → fault ≡ read.Deck it → IsThere self.new) }
+        ensures end_stays { self.old.at_end ≡ true → self.new.at_end ≡ true }
         ensures told { IfErr result (λ _. self.new.has_failed ≡ true) }
         ensures well { OnOk result (self.new.has_failed ≡ false) }
+        ensures sound { OnOk result (S.has_failed self.new.source ≡ S.has_failed self.old.source) }
         ensures again { self.old.has_failed ≡ true → IfErr result (λ fault. fault ≡ read.Failed) }
         ensures no_card_again { self.old.has_failed ≡ true → IsErr result }
         ensures unread_again { self.old.has_failed ≡ true → self.new ≡ self.old }
@@ -169,6 +182,8 @@ impl<S: Source + Drop> CardLines<S> {
         ensures card { OnOk result (IfSome next.new (λ card. (text : List ℕ) → still_to_come S.left self.old ≡ Some text →
             GivesCard self.old.given text card (still_to_come S.left self.new))) }
         ensures one_more { OnOk result (IfSome next.new (λ _. self.new.given ≡ self.old.given + 1)) }
+        ensures unended { self.new.at_end ≡ false → OnOk result (IfSome next.new (λ _. (text : List ℕ) →
+            still_to_come S.left self.old ≡ Some text → TakesEndedLine text (still_to_come S.left self.new))) }
         ensures none { OnOk result (IfNone next.new ((text : List ℕ) → still_to_come S.left self.old ≡ Some text →
             lines_of text ≡ [])) }
         ensures all { OnOk result (IfNone next.new (IsAtEnd (S.left self.new.source))) }
@@ -181,6 +196,9 @@ impl<S: Source + Drop> CardLines<S> {
         ensures read { IfErr result (λ fault. (line : ℕ) → fault ≡ read.Read line →
             (line ≡ self.old.given + 1) × (S.has_failed self.new.source ≡ true)) }
         ensures part { IfErr result (λ fault. (line : ℕ) → fault ≡ read.Read line → IsPart self.new.held) }
+        ensures there { IfErr result (λ fault. (it : DeckFault) → fault ≡ read.Deck it → IsThere self.new) }
+        ensures end_stays { self.old.at_end ≡ true → self.new.at_end ≡ true }
+        ensures sound { OnOk result (S.has_failed self.new.source ≡ S.has_failed self.old.source) }
         ensures unread { IsSettled self.old.held → self.new.source ≡ self.old.source }
         ensures ended { self.old.at_end ≡ true → self.new.source ≡ self.old.source }
         ensures counted { S.reads self.new.source ≤ S.reads self.old.source + 82 }
@@ -213,6 +231,7 @@ impl<S: Source + Drop> CardLines<S> {
         ensures given { self.new.given ≡ self.old.given }
         ensures has_failed { self.new.has_failed ≡ self.old.has_failed }
         ensures failed { OnErr result (S.has_failed self.new.source ≡ true) }
+        ensures well { OnOk result (S.has_failed self.new.source ≡ S.has_failed self.old.source) }
         ensures part { OnErr result (IsPart self.new.held) }
         ensures unread { IsSettled self.old.held → self.new.source ≡ self.old.source }
         ensures ended { self.old.at_end ≡ true → (self.new ≡ self.old) × IsOk result }
@@ -246,6 +265,8 @@ impl<S: Source + Drop> CardLines<S> {
             still_to_come S.left self.old ≡ Some text → HasFaultNext self.old.given text fault) }
         ensures not_read { IfErr result (λ fault. (line : ℕ) → fault ≢ read.Read line) }
         ensures kept { OnErr result (self.new ≡ self.old) }
+        ensures used { OnOk result (self.new.held ≡ drop used self.old.held) }
+        ensures at_end { self.new.at_end ≡ self.old.at_end }
         ensures unread { self.new.source ≡ self.old.source }
     {
         if self.given == MOST_CARDS as u32 {

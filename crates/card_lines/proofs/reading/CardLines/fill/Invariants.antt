@@ -5,7 +5,7 @@ use Rattle.card_lines.proofs.reading.CardLines.fill.Given as goal
 abbrev pub invariant-loop-front : goal.invariant-loop-front
 invariant-loop-front g l =
     let now = l.self-inside in
-    IsFilling g.S.Source.left g.S.Source.reads g.S.Source.borrow l.fn.self
+    IsFilling g.S.Source.left g.S.Source.reads g.S.Source.borrow g.S.Source.has_failed l.fn.self
     (record { source = now.source; held = now.held; given = now.given; at_end = now.at_end; has_failed = now.has_failed })
 
 abbrev pub decreases-loop-front : goal.decreases-loop-front

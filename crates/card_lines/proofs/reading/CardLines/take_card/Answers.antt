@@ -1,12 +1,12 @@
-use Rattle.std.proofs.Common.{◌≡◌, ◌∙◌, ◌<◌, List, ℕ, length, ap, subst, arith}
+use Rattle.std.proofs.Common.{◌≡◌, ◌∙◌, ◌<◌, ◌+◌, List, ℕ, length, drop, sym, ap, subst, arith}
 use Rattle.std.proofs.lemmas.Bool.Decides.{nat_tests}
-use Rattle.std.specs.Io.KnownBytes.{IsAtEnd}
+use Rattle.std.specs.Io.KnownBytes.{IsAtEnd, prepend_known}
 use Rattle.card_code.specs.Lines.{without_cr}
 use Rattle.card_lines.proofs.FirstLines.{held_line}
-use Rattle.card_lines.proofs.Next.{given_as, last_first, none_left, of_found, still_known}
+use Rattle.card_lines.proofs.Next.{ended_line, given_as, last_first, none_left, of_found, of_used, still_known}
 use Rattle.card_lines.proofs.reading.CardLines.take_card.Goals as goal
 use Rattle.card_lines.specs.Front.{IsFront}
-use Rattle.card_lines.specs.Reading.{Reading}
+use Rattle.card_lines.specs.Reading.{Reading, TakesEndedLine}
 
 pub take_line-requires-clause-first : goal.take_line-requires-clause-first
 take_line-requires-clause-first g c = λ rest is.
@@ -45,3 +45,15 @@ returns-in-Part-2-clause-card g c =
     (λ card gave text known. given_as _ _ text card c.in-Ok.ensures.given
     (gave text (still_known _ _ text c.in-Ok.ensures.text known)))
     c.take_line-in-Part-2.result c.take_line-in-Part-2.new.next c.take_line-in-Part-2.ensures.card
+
+pub returns-in-Line-clause-unended : goal.returns-in-Line-clause-unended
+returns-in-Line-clause-unended g c = λ _.
+    of_used _
+    (λ used _ text known.
+    let left = g.S.Source.left in
+    subst (λ (held : List ℕ). TakesEndedLine text (prepend_known held (left c.take_line.new.self.source))) (sym used)
+    (subst (λ (source : g.row.S.Denot). TakesEndedLine text (prepend_known (drop (c.in-Line.end + 1) c.fill.new.self.held) (left source)))
+    (sym c.take_line.ensures.unread)
+    (ended_line c.fill.new.self.held text (left c.fill.new.self.source) c.in-Line.end
+    (subst (IsFront c.fill.new.self.held) c.in-Line.is c.in-Ok.ensures.front) (still_known _ _ text c.in-Ok.ensures.text known))))
+    c.take_line.result c.take_line.new.next c.take_line.ensures.used
