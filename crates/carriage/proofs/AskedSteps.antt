@@ -1,10 +1,14 @@
 -- What is asked for by a picture, and by the word of the carriage's hubs in it.
-use Rattle.std.proofs.Common.{◌≡◌, ◌≤◌, ◌<◌, ℕ, zero, suc, ◌+◌, Bool, true, false, Some, refl, arith}
+use Rattle.std.proofs.Common.{◌≡◌, ◌∙◌, ◌≤◌, ◌<◌, ℕ, zero, suc, ◌+◌, ◌&&◌, Bool, true, false, Some, refl, sym, ap, arith}
+use Rattle.std.specs.Prelude.{nat_lt}
+use Rattle.std.specs.Int.Bits.{bit_and}
+use Rattle.std.proofs.Math.Bool.{and-true}
+use Rattle.net.proofs.Below.bit_sets.BitLemmas.{is_bit-and, is_bit-ones, is_bit-zero}
 use Rattle.std.proofs.lemmas.Bool.Decides.{nat_tests}
 use Rattle.hubs.specs.declared.hub.Hub.{Hub}
 use Rattle.hubs.specs.declared.hub.Hub.TheVariants.{SP, SK, RS}
 use Rattle.net.specs.HubSets.{is_bit, is_in_row, is_in_reach}
-use Rattle.carriage.specs.Asked.{asked_by, lowest_from}
+use Rattle.carriage.specs.Asked.{asked_by, lowest_from, nothing_asked}
 
 -- the bit of a channel in the word from SP.2 on
 pub is_in_row-SK : (hubs channel : ℕ) → 1 ≤ channel → channel ≤ 12 → is_in_row (SP 2) hubs (SK channel) ≡ is_bit hubs (channel + 1)
@@ -41,3 +45,15 @@ pub asked_by-same : (one other : Hub → Bool)
     → asked_by one ≡ asked_by other
 asked_by-same one other two three restore channels =
     rw (two, three, restore, lowest_from-same one other 1 12 (λ c from to. channels c from (omega arith))) refl
+
+-- a row without the first fifteen bits asks for nothing
+pub asked_by-nothing : (hubs : ℕ) → bit_and hubs 32767 ≡ 0 → asked_by (is_in_row (SP 2) hubs) ≡ nothing_asked
+asked_by-nothing hubs none =
+    asked_by-same (is_in_row (SP 2) hubs) (λ hub. false) (off 0 (omega arith)) (off 1 (omega arith)) (off 14 (omega arith))
+    (λ channel from to. is_in_row-SK hubs channel from to ∙ off (channel + 1) (omega (arith, to)))
+  where
+    off : (k : ℕ) → k < 15 → is_bit hubs k ≡ false
+    off k low =
+        let few : nat_lt k 15 ≡ true = grind (arith, nat_tests, low) in
+        sym (ap (λ b. is_bit hubs k && b) (is_bit-ones 15 k ∙ few) ∙ and-true _)
+        ∙ sym (is_bit-and hubs 32767 k) ∙ ap (λ (n : ℕ). is_bit n k) none ∙ is_bit-zero k

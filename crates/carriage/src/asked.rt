@@ -5,8 +5,7 @@ ghost use Rattle.hubs.specs.declared.hub.Hub.TheVariants.{SP};
 ghost use Rattle.net.specs.HubSets.{is_in_row};
 ghost use Rattle.carriage.specs.Asked.{asked_by, lines_asked, lowest_from};
 
-use hubs::Hub;
-use net::{Picture, has_bit};
+use net::has_bit;
 
 /// What is asked for in a cycle.
 #[derive(Clone, Copy, Debug, PartialEq, Eq)]
@@ -20,8 +19,9 @@ pub struct Asked {
 }
 
 impl Asked {
-    ghost use Rattle.std.specs.Prelude.{◌≡◌};
-    ghost use Rattle.net.specs.HubSets.{has_hub};
+    ghost use Rattle.std.specs.Prelude.{◌≡◌, Bool};
+    ghost use Rattle.hubs.specs.declared.hub.Hub.{Hub};
+    ghost use Rattle.net.specs.Orders.{IsRowOf};
     ghost use Rattle.carriage.specs.Asked.{nothing_asked, asked_by};
 
     /// Single spacing, no skip and no restore.
@@ -35,15 +35,19 @@ impl Asked {
         }
     }
 
-    /// What the picture of the control point asks for.
-    pub fn by(picture: &Picture) -> Self
-        ensures { result ≡ asked_by (has_hub picture.now) }
+    /// What the hubs of the carriage ask for, as the row of them in the picture of the control point: SP 2 and 3, SK 1 to 12, RS.
+    pub fn by(row: u128) -> Self
+        ensures { (picture : Hub → Bool) → IsRowOf (SP 2) picture row → result ≡ asked_by picture }
     {
-        asked_in(picture.row(Hub::SP(2)))
+        if row & 0x7fff == 0 {
+            Asked::nothing()
+        } else {
+            asked_in(row)
+        }
     }
 }
 
-// What the carriage's hubs ask for, in the order of their numbers: SP 2 and 3, SK 1 to 12, RS.
+// What the row of the carriage's hubs asks for.
 fn asked_in(hubs: u128) -> Asked
     ensures { result ≡ asked_by (is_in_row (SP 2) hubs) }
 {

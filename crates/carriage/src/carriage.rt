@@ -4,6 +4,7 @@ ghost use Rattle.std.specs.Prelude.{◌≡◌};
 
 use crate::asked::Asked;
 use crate::spot::Spot;
+use hubs::Hub;
 use net::{Cycle, Ordinal, Picture, Point, Printing, Unit};
 use setups::{Setup, Tape};
 use std::marker::Model;
@@ -32,8 +33,13 @@ impl Model for Carriage {
 }
 
 impl Carriage {
-    ghost use Rattle.std.specs.Prelude.{◌≡◌};
-    ghost use Rattle.carriage.specs.Carriage.{carriage_at_start, moved};
+    ghost use Rattle.std.specs.Prelude.{◌≡◌, Bool};
+    ghost use Rattle.hubs.specs.declared.hub.Hub.{Hub};
+    ghost use Rattle.hubs.specs.declared.hub.Hub.TheVariants.{SP};
+    ghost use Rattle.net.specs.Orders.{IsRowOf};
+    ghost use Rattle.net.specs.declared.cycle.Cycle.{Cycle};
+    ghost use Rattle.net.specs.declared.cycle.Point.TheVariants.{C};
+    ghost use Rattle.carriage.specs.Carriage.{carriage_at_start, carriage_sensed, moved};
 
     /// The carriage of a setup, before the first page, with its restore latch set.
     pub fn new(setup: &Setup) -> Self
@@ -71,6 +77,14 @@ impl Carriage {
         ensures { result ≡ self.now.printed }
     {
         self.printed
+    }
+
+    /// Senses the control point, by the row of its hubs from SP.2 on.
+    pub fn sense_controls(&mut self, row: u128)
+        ensures { (cycle : Cycle) (picture : Hub → Bool) → IsRowOf (SP 2) picture row
+            → self.new ≡ carriage_sensed self.old cycle C picture }
+    {
+        self.asked = Asked::by(row);
     }
 
     // The first move at the end of a cycle.
@@ -113,7 +127,7 @@ impl Unit for Carriage {
 
     fn sense(&mut self, _cycle: Cycle, point: Point, picture: &Picture) {
         if let Point::C = point {
-            self.asked = Asked::by(picture);
+            self.sense_controls(picture.row(Hub::SP(2)));
         }
     }
 

@@ -6,10 +6,10 @@ use Rattle.hubs.specs.Hubs.{number_of}
 use Rattle.hub_table.specs.Places.{group_place}
 use Rattle.hubs.specs.declared.hub.Hub.{Hub}
 use Rattle.hubs.specs.declared.hub.Hub.TheVariants.{PL, MI, RO, BT}
-use Rattle.net.specs.HubSets.{HubSet, has_hub, is_bit}
+use Rattle.net.specs.HubSets.{is_bit}
+use Rattle.net.specs.Orders.{IsRowOf}
 use Rattle.net.proofs.Rows.{row_read}
 use Rattle.net.specs.Panel.{unit_after, unit_of}
-use Rattle.counters.specs.ControlRows.{IsControlRow}
 use Rattle.counters.specs.Counters.{controls_of, group_of_unit, width_of}
 use Rattle.counters.specs.declared.controls.Controls.{Controls}
 
@@ -45,24 +45,24 @@ pub number_of-BT : (unit : ℕ) → 3 ≤ unit → unit ≤ 34 → number_of (BT
 number_of-BT unit from to = placed 1364 1269 unit (unit - 3 + 96) from to (omega arith)
 
 -- a bit of the row of control hubs
-control_bit : (hub : Hub) (k bits : ℕ) (set : HubSet) (test : Bool) → number_of hub ≡ Some (1269 + k) → k < 128
-    → IsControlRow bits set → test ≡ is_bit bits k → test ≡ has_hub set hub
-control_bit hub k bits set test numbered near row is =
-    is ∙ row_read (PL (record { width = 3; number = 1 })) hub 1269 k bits set refl numbered near row
+control_bit : (hub : Hub) (k bits : ℕ) (picture : Hub → Bool) (test : Bool) → number_of hub ≡ Some (1269 + k) → k < 128
+    → IsRowOf (PL (record { width = 3; number = 1 })) picture bits → test ≡ is_bit bits k → test ≡ picture hub
+control_bit hub k bits picture test numbered near row is =
+    is ∙ row_read (PL (record { width = 3; number = 1 })) hub 1269 k bits picture refl numbered near row
 
 -- the controls of a group from the row
 pub controls_of-row :
-    (unit bits : ℕ) (set : HubSet) (plus minus read_out test : Bool) → 3 ≤ unit → unit ≤ 34 → IsControlRow bits set
+    (unit bits : ℕ) (picture : Hub → Bool) (plus minus read_out test : Bool) → 3 ≤ unit → unit ≤ 34 → IsRowOf (PL (record { width = 3; number = 1 })) picture bits
     → plus ≡ is_bit bits (unit - 3) → minus ≡ is_bit bits (unit - 3 + 32) → read_out ≡ is_bit bits (unit - 3 + 64)
     → test ≡ is_bit bits (unit - 3 + 96)
-    → controls_made plus minus read_out test ≡ controls_of (group_of_unit unit) (has_hub set)
-controls_of-row unit bits set plus minus read_out test from to row p m r t =
+    → controls_made plus minus read_out test ≡ controls_of (group_of_unit unit) picture
+controls_of-row unit bits picture plus minus read_out test from to row p m r t =
     let name = group_of_unit unit in
-    let e = control_bit (PL name) (unit - 3) bits set plus (number_of-PL unit from to) (omega arith) row p in
-    let f = control_bit (MI name) (unit - 3 + 32) bits set minus (number_of-MI unit from to) (omega arith) row m in
-    let g = control_bit (RO name) (unit - 3 + 64) bits set read_out (number_of-RO unit from to) (omega arith) row r in
-    let h = control_bit (BT name) (unit - 3 + 96) bits set test (number_of-BT unit from to) (omega arith) row t in
+    let e = control_bit (PL name) (unit - 3) bits picture plus (number_of-PL unit from to) (omega arith) row p in
+    let f = control_bit (MI name) (unit - 3 + 32) bits picture minus (number_of-MI unit from to) (omega arith) row m in
+    let g = control_bit (RO name) (unit - 3 + 64) bits picture read_out (number_of-RO unit from to) (omega arith) row r in
+    let h = control_bit (BT name) (unit - 3 + 96) bits picture test (number_of-BT unit from to) (omega arith) row t in
     ap (λ b. controls_made b minus read_out test) e
-    ∙ ap (λ b. controls_made (has_hub set (PL name)) b read_out test) f
-    ∙ ap (λ b. controls_made (has_hub set (PL name)) (has_hub set (MI name)) b test) g
-    ∙ ap (λ b. controls_made (has_hub set (PL name)) (has_hub set (MI name)) (has_hub set (RO name)) b) h
+    ∙ ap (λ b. controls_made (picture (PL name)) b read_out test) f
+    ∙ ap (λ b. controls_made (picture (PL name)) (picture (MI name)) b test) g
+    ∙ ap (λ b. controls_made (picture (PL name)) (picture (MI name)) (picture (RO name)) b) h

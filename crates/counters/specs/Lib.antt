@@ -9,6 +9,5 @@ pub mod Rings
 pub mod Shown
 pub mod Wheels
 pub mod WholeCycles
-pub mod ControlRows
 pub mod Kinds
 pub mod OwnHubs

@@ -241,10 +241,12 @@ impl Unit for Group {
 
 impl Group {
     ghost use Rattle.net.specs.RowSets.{GainsRows, after_rows, pictures_of};
-    ghost use Rattle.net.specs.HubSets.{HubSet, has_hub};
+    ghost use Rattle.std.specs.Prelude.{Bool};
+    ghost use Rattle.hubs.specs.declared.hub.Hub.{Hub};
+    ghost use Rattle.hubs.specs.declared.hub.Hub.TheVariants.{PL};
+    ghost use Rattle.net.specs.Orders.{IsRowOf};
     ghost use Rattle.net.specs.declared.cycle.Cycle.{Cycle};
     ghost use Rattle.net.specs.declared.cycle.Point.TheVariants.{C, Row as AtRow};
-    ghost use Rattle.counters.specs.ControlRows.{IsControlRow};
     ghost use Rattle.counters.specs.Counters.{counter_emits, counter_sensed};
 
     /// Adds to the sets of the exits the rows at whose points they emit.
@@ -260,7 +262,8 @@ impl Group {
 
     /// Senses the control point, by the row of the hubs PL, MI, RO and BT of all groups, 32 each in the order of their units.
     pub fn sense_controls(&mut self, row: u128)
-        ensures { (cycle : Cycle) (set : HubSet) → IsControlRow row set → self.new ≡ counter_sensed self.old cycle C (has_hub set) }
+        ensures { (cycle : Cycle) (picture : Hub → Bool) → IsRowOf (PL (record { width = 3; number = 1 })) picture row
+            → self.new ≡ counter_sensed self.old cycle C picture }
     {
         self.controls = controls_in(self.unit, row);
     }

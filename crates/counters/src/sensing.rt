@@ -1,10 +1,12 @@
 //! What a counter group emits and senses at its positions.
 
-ghost use Rattle.std.specs.Prelude.{◌≡◌, ℕ, ◌≤◌, ◌<◌, ◌+◌, ◌==◌, ◌&&◌, true, All, length, reverse, slice_index_or};
+ghost use Rattle.std.specs.Prelude.{◌≡◌, ℕ, Bool, ◌≤◌, ◌<◌, ◌+◌, ◌==◌, ◌&&◌, true, All, length, reverse, slice_index_or};
 ghost use Rattle.hub_table.specs.Places.{is_width};
 ghost use Rattle.hub_table.specs.Ranges.{is_within};
-ghost use Rattle.net.specs.HubSets.{GainsHubs, HubSet, has_hub, is_bit};
-ghost use Rattle.counters.specs.ControlRows.{IsControlRow};
+ghost use Rattle.hubs.specs.declared.hub.Hub.{Hub};
+ghost use Rattle.hubs.specs.declared.hub.Hub.TheVariants.{PL};
+ghost use Rattle.net.specs.HubSets.{GainsHubs, has_hub, is_bit};
+ghost use Rattle.net.specs.Orders.{IsRowOf};
 ghost use Rattle.counters.specs.Counters.{controls_of, group_of_unit, shows, taken, takes};
 ghost use Rattle.counters.specs.Laws.{IsDigit};
 ghost use Rattle.counters.specs.Shown.{shows_at};
@@ -56,7 +58,8 @@ pub(crate) fn controls_of(unit: u8, name: hubs::Group, picture: &Picture) -> Con
 pub(crate) fn controls_in(unit: u8, row: u128) -> Controls
     requires from { 3 ≤ unit }
     requires to { unit ≤ 34 }
-    ensures { (set : HubSet) → IsControlRow row set → result ≡ controls_of (group_of_unit unit) (has_hub set) }
+    ensures { (picture : Hub → Bool) → IsRowOf (PL (record { width = 3; number = 1 })) picture row
+        → result ≡ controls_of (group_of_unit unit) picture }
 {
     let place = unit as usize - 3;
     let entering = from_bit(low_half(row), place);

@@ -28,3 +28,4 @@ mod Marks
 mod UnitOrder
 pub mod AllRows
 pub mod RestingRows
+mod ControlPoint

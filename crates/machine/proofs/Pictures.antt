@@ -102,10 +102,3 @@ no-carries machine cycle point picture ordered idle group on = by (closes machin
         absurd
         (carry-idle point (nines_of machine.groups) picture (CI group) (CO group) idle refl on
         (sym (carry-closed machine cycle point group ordered) ∙ is))
-
--- nor at the points before the closing point
-pub no-carries-before : (machine : MachineState) (cycle : Cycle) (point : Point) (picture : Hub → Bool) → AreInUnitOrder machine.groups
-    → is_closing point ≡ false → PassesNoCarry (closes machine cycle point) picture
-no-carries-before machine cycle point picture ordered before group on =
-    carry-closed machine cycle point group ordered
-    ∙ ap (λ b. b && (nat_le 3 (unit_of group) && is_nines (nines_of machine.groups) group)) before

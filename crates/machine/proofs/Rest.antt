@@ -1,5 +1,5 @@
 -- Counter groups that are under no control emit nothing, sense nothing but controls and carries, and end a cycle as they are.
-use Rattle.std.proofs.Common.{◌≡◌, ℕ, zero, suc, ◌+◌, ◌/◌, ◌^◌, ◌<◌, ◌≤◌, ◌-◌, Bool, true, false, not, ◌&&◌, ◌||◌, nat_le, List, [], ◌∷◌, Option, Some, None, option_map, map, length, get_or, if◌then◌else◌, refl, sym, ap, ◌∙◌, arith, rules}
+use Rattle.std.proofs.Common.{◌≡◌, ℕ, zero, suc, ◌+◌, ◌/◌, ◌^◌, ◌<◌, ◌≤◌, ◌-◌, Bool, true, false, not, ◌&&◌, ◌||◌, nat_le, List, [], ◌∷◌, Option, Some, None, option_map, map, length, get_or, if◌then◌else◌, refl, sym, ap, subst, ◌∙◌, arith, rules}
 use Rattle.std.proofs.lemmas.Bool.Decides.{nat_tests}
 use Rattle.std.specs.List.{list_any}
 use Rattle.std.proofs.lemmas.Bool.{false≢true}
@@ -21,6 +21,7 @@ use Rattle.std.specs.Int.Bits.{bit_and, bit_or}
 use Rattle.std.specs.Prelude.{◌==◌, slice_index_or}
 use Rattle.std.proofs.lemmas.Nat.{and_mask}
 use Rattle.net.specs.HubSets.{HubSet, has_hub, is_bit, is_hub, is_bit_from, is_in_reach, is_in_row, is_near}
+use Rattle.net.specs.Orders.{IsRowOf}
 use Rattle.net.specs.Cycles.{is_closing}
 use Rattle.net.specs.Panel.{unit_after, unit_of}
 use Rattle.net.specs.declared.cycle.Cycle.{Cycle}
@@ -244,6 +245,59 @@ pub busy-after : (groups : List Counter) (cycle : Cycle) (point : Point) (pictur
 busy-after groups cycle point picture before after ordered held goes =
     after-from 3 0 groups cycle point picture before after (omega arith) (from_third groups ordered) held goes
 
+-- at the control point and at rows the groups sense that may be under a control, at the closing point those into which a carry may come
+pub control-senses : (groups new : List Counter) (cycle : Cycle) (picture : Hub → Bool) (before after : Busy) → AreInUnitOrder groups
+    → AreBusy before groups → BusyAfter C picture before after
+    → new ≡ marked_changed after.controlled 0 (λ group. counter_sensed group cycle C picture) groups
+    → (new ≡ map (λ group. counter_sensed group cycle C picture) groups) × AreBusy after new
+control-senses groups new cycle picture before after ordered held goes is =
+    let sensed = is ∙ busy-senses groups cycle C picture before after ordered held goes in
+    (sensed, subst (AreBusy after) (sym sensed) (busy-after groups cycle C picture before after ordered held goes))
+
+pub row-senses : (groups new : List Counter) (cycle : Cycle) (point : Point) (row : CardRow) (picture : Hub → Bool) (busy : Busy) → point ≡ Row row
+    → AreInUnitOrder groups → AreBusy busy groups
+    → new ≡ marked_changed busy.controlled 0 (λ group. counter_sensed group cycle point picture) groups
+    → (new ≡ map (λ group. counter_sensed group cycle point picture) groups) × AreBusy busy new
+row-senses groups new cycle point row picture busy at ordered held =
+    subst
+    (λ (p : Point). new ≡ marked_changed busy.controlled 0 (λ group. counter_sensed group cycle p picture) groups
+    → (new ≡ map (λ group. counter_sensed group cycle p picture) groups) × AreBusy busy new)
+    (sym at) here
+  where
+    goes : BusyAfter (Row row) picture busy busy
+    goes = record {
+      uncontrolled = λ k off. off;
+      told = λ never. cc;
+      unread = λ k off. off;
+      read_out = λ never. cc;
+      untested = λ k off. off;
+      tests = λ never. cc;
+      empty = λ k off. off;
+      carries = λ never. cc;
+    }
+
+    here : new ≡ marked_changed busy.controlled 0 (λ group. counter_sensed group cycle (Row row) picture) groups
+        → (new ≡ map (λ group. counter_sensed group cycle (Row row) picture) groups) × AreBusy busy new
+    here is =
+        let sensed = is ∙ busy-senses groups cycle (Row row) picture busy busy ordered held goes in
+        (sensed, subst (AreBusy busy) (sym sensed) (busy-after groups cycle (Row row) picture busy busy ordered held goes))
+
+pub closing-senses : (groups new : List Counter) (cycle : Cycle) (point : Point) (picture : Hub → Bool) (before after : Busy) → point ≡ K
+    → AreInUnitOrder groups → AreBusy before groups → BusyAfter K picture before after
+    → new ≡ marked_changed after.carried 0 (λ group. counter_sensed group cycle point picture) groups
+    → (new ≡ map (λ group. counter_sensed group cycle point picture) groups) × AreBusy after new
+closing-senses groups new cycle point picture before after at ordered held goes =
+    subst
+    (λ (p : Point). new ≡ marked_changed after.carried 0 (λ group. counter_sensed group cycle p picture) groups
+    → (new ≡ map (λ group. counter_sensed group cycle p picture) groups) × AreBusy after new)
+    (sym at) here
+  where
+    here : new ≡ marked_changed after.carried 0 (λ group. counter_sensed group cycle K picture) groups
+        → (new ≡ map (λ group. counter_sensed group cycle K picture) groups) × AreBusy after new
+    here is =
+        let sensed = is ∙ busy-senses groups cycle K picture before after ordered held goes in
+        (sensed, subst (AreBusy after) (sym sensed) (busy-after groups cycle K picture before after ordered held goes))
+
 -- a group at rest, into which no carry came, ends the cycle as it is
 rest-ends : (group : Counter) (cycle : Cycle) → IsCounter group → IsAtRest group → group.carry ≡ false → counter_ended group cycle ≡ group
 rest-ends group cycle lawful rest empty = λ i.
@@ -342,12 +396,10 @@ row_bit bits start before k (Some p) from is =
     let on : nat_le start (before + p) ≡ true = grind (arith, nat_tests, is) in
     ap (λ (b : Bool). b && is_bit bits (before + p - start)) on ∙ ap (is_bit bits) place
 
-hub-at : (set : HubSet) (bits : ℕ) (first hub : Hub) (start before k : ℕ) (place : Option ℕ) → number_of first ≡ Some start
+hub-at : (picture : Hub → Bool) (bits : ℕ) (first hub : Hub) (start before k : ℕ) (place : Option ℕ) → number_of first ≡ Some start
     → number_of hub ≡ option_map (λ p. before + p) place → 3 ≤ unit_after 2 place → before + unit_after 2 place ≡ start + k + 2
-    → ((other : Hub) → is_in_reach first other ≡ true → is_in_row first bits other ≡ has_hub set other)
-    → is_near (Some start) (option_map (λ p. before + p) place) ≡ true
-    → has_hub set hub ≡ is_bit bits k
-hub-at set bits first hub start before k place numbered also from is row reach =
+    → IsRowOf first picture bits → is_near (Some start) (option_map (λ p. before + p) place) ≡ true → picture hub ≡ is_bit bits k
+hub-at picture bits first hub start before k place numbered also from is row reach =
     sym (row hub (ap (λ n. is_near n (number_of hub)) numbered ∙ ap (is_near (Some start)) also ∙ reach))
     ∙ ap (λ n. is_bit_from n bits (number_of hub)) numbered ∙ ap (is_bit_from (Some start) bits) also
     ∙ row_bit bits start before k place from is
@@ -369,12 +421,11 @@ pub is_bit-low_half : (word k : ℕ) → k < 32 → is_bit (bit_and word 0xffff_
 is_bit-low_half word k low = ap (λ m. is_bit m k) (and_mask word 32) ∙ is_bit-low word 32 k low
 
 -- the groups that are told are those with a bit in one of the four parts of the row
-pub told-marked : (set : HubSet) (bits marks : ℕ)
+pub told-marked : (picture : Hub → Bool) (bits marks : ℕ)
     → ((k : ℕ) → k < 32
     → is_bit marks k ≡ ((is_bit bits k || is_bit bits (64 + k)) || (is_bit bits (32 + k) || is_bit bits (64 + (32 + k)))))
-    → ((hub : Hub) → is_in_reach (PL first_group) hub ≡ true → is_in_row (PL first_group) bits hub ≡ has_hub set hub)
-    → AreToldMarked marks (has_hub set)
-told-marked set bits marks are row name from off =
+    → IsRowOf (PL first_group) picture bits → AreToldMarked marks picture
+told-marked picture bits marks are row name from off =
     let place = group_place name.width name.number in
     let last = unit_of-last name in
     let k = unit_of name - 3 in
@@ -387,19 +438,19 @@ told-marked set bits marks are row name from off =
     let test : 1364 + u ≡ 1269 + (64 + (32 + k)) + 2 = omega (arith, from) in
     record {
       plus =
-          hub-at set bits (PL first_group) (PL name) 1269 1268 k place refl refl from plus row
+          hub-at picture bits (PL first_group) (PL name) 1269 1268 k place refl refl from plus row
           (near place 1268 (omega arith) (omega arith) from last)
           ∙ parts.0;
       minus =
-          hub-at set bits (PL first_group) (MI name) 1269 1300 (32 + k) place refl refl from minus row
+          hub-at picture bits (PL first_group) (MI name) 1269 1300 (32 + k) place refl refl from minus row
           (near place 1300 (omega arith) (omega arith) from last)
           ∙ parts.2;
       read_out =
-          hub-at set bits (PL first_group) (RO name) 1269 1332 (64 + k) place refl refl from read_out row
+          hub-at picture bits (PL first_group) (RO name) 1269 1332 (64 + k) place refl refl from read_out row
           (near place 1332 (omega arith) (omega arith) from last)
           ∙ parts.1;
       test =
-          hub-at set bits (PL first_group) (BT name) 1269 1364 (64 + (32 + k)) place refl refl from test row
+          hub-at picture bits (PL first_group) (BT name) 1269 1364 (64 + (32 + k)) place refl refl from test row
           (near place 1364 (omega arith) (omega arith) from last)
           ∙ parts.3;
     }
@@ -408,6 +459,21 @@ told-marked set bits marks are row name from off =
         → (a ≡ false) × (b ≡ false) × (c ≡ false) × (d ≡ false)
     none_of_four false false false false e = (refl, refl, refl, refl)
     none_of_four a b c d e = cc
+
+-- a hub of a group whose bit is not set, where the bits are those of the row of control hubs from one of the first group's on
+pub control-unmarked : (picture : Hub → Bool) (bits marks shift before : ℕ) (hub : Hub) (name : Group)
+    → number_of hub ≡ option_map (λ p. before + p) (group_place name.width name.number) → before ≡ 1268 + shift → shift ≤ 96
+    → ((k : ℕ) → k < 32 → is_bit marks k ≡ is_bit bits (shift + k)) → IsRowOf (PL first_group) picture bits
+    → 3 ≤ unit_of name → is_bit marks (unit_of name - 3) ≡ false → picture hub ≡ false
+control-unmarked picture bits marks shift before hub name numbered shifted few are row from off =
+    let place = group_place name.width name.number in
+    let last = unit_of-last name in
+    let k = unit_of name - 3 in
+    let u = unit_of name in
+    let here : before + u ≡ 1269 + (shift + k) + 2 = omega (arith, from, shifted) in
+    hub-at picture bits (PL first_group) hub 1269 before (shift + k) place refl numbered from here row
+    (near place before (omega (arith, shifted)) (omega (arith, shifted, few)) from last)
+    ∙ sym (are k (omega (arith, from, last))) ∙ off
 
 -- The hubs of one kind of all groups are within reach of the first one's.
 near_first : (before : ℕ) (place : Option ℕ) → 3 ≤ unit_after 2 place → unit_after 2 place < 35
@@ -426,22 +492,8 @@ unmarked set bits marks before first hub name numbered also are row from off =
     let last = unit_of-last name in
     let u = unit_of name in
     let here : before + u ≡ before + 1 + (u - 3) + 2 = omega (arith, from) in
-    hub-at set bits first hub (before + 1) before (u - 3) place numbered also from here row (near_first before place from last)
+    hub-at (has_hub set) bits first hub (before + 1) before (u - 3) place numbered also from here row (near_first before place from last)
     ∙ sym (are (u - 3) (omega (arith, from, last))) ∙ off
-
--- the groups that are told to read out are the bits of the row from the first read-out entry on
-pub read-outs-marked : (set : HubSet) (bits marks : ℕ) → ((k : ℕ) → k < 32 → is_bit marks k ≡ is_bit bits k)
-    → ((hub : Hub) → is_in_reach (RO first_group) hub ≡ true → is_in_row (RO first_group) bits hub ≡ has_hub set hub)
-    → AreReadOutsMarked marks (has_hub set)
-read-outs-marked set bits marks are row name from off =
-    unmarked set bits marks 1332 (RO first_group) (RO name) name refl refl are row from off
-
--- the groups that are told to be under balance test are the bits of the row from the first balance test on
-pub tests-marked : (set : HubSet) (bits marks : ℕ) → ((k : ℕ) → k < 32 → is_bit marks k ≡ is_bit bits k)
-    → ((hub : Hub) → is_in_reach (BT first_group) hub ≡ true → is_in_row (BT first_group) bits hub ≡ has_hub set hub)
-    → AreTestsMarked marks (has_hub set)
-tests-marked set bits marks are row name from off =
-    unmarked set bits marks 1364 (BT first_group) (BT name) name refl refl are row from off
 
 -- the carries that come in are the bits of the row from the first carry entry on
 pub carries-marked : (set : HubSet) (bits marks : ℕ) → ((k : ℕ) → k < 32 → is_bit marks k ≡ is_bit bits k)

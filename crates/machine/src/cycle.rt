@@ -3,17 +3,19 @@
 ghost use Rattle.std.specs.Prelude.{◌≡◌, map};
 
 use crate::closed::Closed;
-use crate::groups::{comes_to_nines, nines};
+use crate::groups::{comes_to_nines, has_carry, nines};
 use crate::lines::{append_placed, placed_line};
 use crate::units::Units;
 use card_code::Row;
-use net::{Cycle, Net, POINTS, Picture, Point, RowSets};
+use net::{Cycle, Net, Orders, POINTS, Picture, Point, RowSets};
 use placed_lines::PlacedLine;
 use selectors::{steady_contacts, with_carries, with_splits};
 use std::alloc::AllocError;
 
 impl Units {
-    ghost use Rattle.std.specs.Prelude.{◌≡◌, ◌++◌, true, false, option_to_list, OnErr, OnOk};
+    ghost use Rattle.std.specs.Prelude.{◌≡◌, ◌++◌, true, false, None, option_to_list, IfSome, OnErr, OnOk};
+    ghost use Rattle.net.specs.Orders.{AreToldBy};
+    ghost use Rattle.net.specs.declared.cycle.Point.TheVariants.{C, K};
     ghost use Rattle.std.specs.Option.{ForSome};
     ghost use Rattle.setups.specs.Wiring.{Wiring};
     ghost use Rattle.net.specs.Nets.{IsNetOf};
@@ -21,9 +23,9 @@ impl Units {
     ghost use Rattle.net.specs.Impulsed.{IsPicture};
     ghost use Rattle.machine.specs.Cycles.{PointStep, CycleRun, Reached, line_of};
     ghost use Rattle.machine.specs.Ends.{SensesSome, EndsCycle};
-    ghost use Rattle.machine.specs.Machine.{closes};
+    ghost use Rattle.hubs.specs.declared.hub.Hub.{Hub};
+    ghost use Rattle.machine.specs.Machine.{closes, emits};
     ghost use Rattle.machine.specs.Steady.{AreSteady};
-    ghost use Rattle.net.specs.Passing.{PassesNoCarry};
     ghost use Rattle.net.specs.RowSets.{LeadsToNoContact};
     ghost use Rattle.net.specs.declared.cycle.Cycle.{Cycle};
     ghost use Rattle.machine.specs.Keeps.{Keeps};
@@ -44,107 +46,179 @@ impl Units {
         ensures keeps { Keeps cycle self.old self.new }
     {
         if net.is_direct() {
-            self.run_direct_points(net, sets, cycle);
+            self.run_points_by(net, None, sets, cycle);
         } else {
-            let closed = self.closed(cycle);
-            self.run_led_points(net, &closed, sets, cycle);
+            self.run_led_points(net, sets, cycle);
         }
     }
 
-    // The points of a cycle, where no wire leads to a contact.
-    fn run_direct_points(&mut self, net: &Net, sets: &mut RowSets, cycle: Cycle)
-        requires { (wiring : Wiring) → IsNetOf wiring net.now → LeadsToNoContact wiring }
+    // The points of a cycle, where wires lead to contacts. The closed ones have a function of their own, since room for them is cleared in
+    // the one that has them, whether they are asked for or not.
+    fn run_led_points(&mut self, net: &Net, sets: &mut RowSets, cycle: Cycle)
         ensures reached { (wiring : Wiring) → IsNetOf wiring net.now → Reached wiring cycle 14 self.old self.new }
         ensures keeps { Keeps cycle self.old self.new }
     {
-        self.run_end(net, None, cycle, Point::C);
-        self.run_direct_rows(net, sets, cycle);
-        self.run_end(net, None, cycle, Point::K);
+        let closed = self.closed(cycle);
+        self.run_points_by(net, Some(&closed), sets, cycle);
     }
 
-    // The points of a cycle, where wires lead to contacts.
-    fn run_led_points(&mut self, net: &Net, closed: &Closed, sets: &mut RowSets, cycle: Cycle)
-        requires { AreSteady cycle closed.now self.old }
+    // The points of a cycle, with its closed contacts, or with none where no wire leads to a contact.
+    fn run_points_by(
+        &mut self,
+        net: &Net,
+        closed: Option<&Closed>,
+        sets: &mut RowSets,
+        cycle: Cycle,
+    )
+        requires steady { ForSome closed (λ kept. AreSteady cycle kept.now self.old) }
+        requires direct { closed ≡ None → (wiring : Wiring) → IsNetOf wiring net.now → LeadsToNoContact wiring }
         ensures reached { (wiring : Wiring) → IsNetOf wiring net.now → Reached wiring cycle 14 self.old self.new }
         ensures keeps { Keeps cycle self.old self.new }
     {
-        self.run_end(net, Some(closed), cycle, Point::C);
-        self.run_led_rows(net, closed, sets, cycle);
-        self.run_end(net, Some(closed), cycle, Point::K);
+        self.run_control(net, closed, cycle);
+        self.run_rows(net, closed, sets, cycle);
+        self.run_closing(net, closed, cycle);
     }
 
-    // The control point or the closing point. Mostly no impulse comes to a contact there, as none does where no wire leads to one: so
-    // the closed contacts may be left out, and are looked for then alone where one comes.
-    fn run_end(&mut self, net: &Net, closed: Option<&Closed>, cycle: Cycle, point: Point)
-        requires { ForSome closed (λ kept. AreSteady cycle kept.now self.old) }
-        ensures step { (wiring : Wiring) → IsNetOf wiring net.now → PointStep wiring cycle point self.old self.new }
-        ensures senses { SensesSome cycle point self.old self.new }
+    // The points of the rows.
+    fn run_rows(&mut self, net: &Net, closed: Option<&Closed>, sets: &mut RowSets, cycle: Cycle)
+        requires steady { ForSome closed (λ kept. AreSteady cycle kept.now self.old) }
+        requires direct { closed ≡ None → (wiring : Wiring) → IsNetOf wiring net.now → LeadsToNoContact wiring }
+        ensures ran { (wiring : Wiring) → IsNetOf wiring net.now → RunsRows wiring cycle self.old self.new }
+        ensures keeps { Keeps cycle self.old self.new }
         ensures steady { ForSome closed.entry (λ kept. AreSteady cycle kept.now self.new) }
     {
-        let mut emitted = Picture::new();
-        self.emit(cycle, point, &mut emitted);
-        // Nothing is impulsed then.
-        if emitted.is_empty() {
-            self.sense(cycle, point, &emitted);
-            return;
+        match closed {
+            Some(closed) => self.run_led_rows(net, closed, sets, cycle),
+            None => self.run_direct_rows(net, sets, cycle),
         }
-        let mut picture = Picture::new();
-        self.impulse_end(net, closed, cycle, point, &emitted, &mut picture);
-        self.sense(cycle, point, &picture);
     }
 
-    // Makes the picture of the exits that emit at the control point or the closing point, by the wires alone where that is right.
-    fn impulse_end(
+    // The control point. What is told there hangs on the cycle and on which contacts are closed alone, so the wires need not be followed,
+    // unless an impulse comes from one contact to another.
+    fn run_control(&mut self, net: &Net, closed: Option<&Closed>, cycle: Cycle)
+        requires { ForSome closed (λ kept. AreSteady cycle kept.now self.old) }
+        ensures step { (wiring : Wiring) → IsNetOf wiring net.now → PointStep wiring cycle C self.old self.new }
+        ensures senses { SensesSome cycle C self.old self.new }
+        ensures steady { ForSome closed.entry (λ kept. AreSteady cycle kept.now self.new) }
+    {
+        match self.told(net, closed, cycle) {
+            Some(orders) => self.obey(&orders),
+            None => self.step_control(net, closed, cycle),
+        }
+    }
+
+    // The control point, where an impulse may come from one contact to another.
+    fn step_control(&mut self, net: &Net, closed: Option<&Closed>, cycle: Cycle)
+        requires { ForSome closed (λ kept. AreSteady cycle kept.now self.old) }
+        ensures step { (wiring : Wiring) → IsNetOf wiring net.now → PointStep wiring cycle C self.old self.new }
+        ensures senses { SensesSome cycle C self.old self.new }
+    {
+        match closed {
+            Some(closed) => self.step(net, closed, cycle, Point::C),
+            None => {
+                let closed = self.closed(cycle);
+                self.step(net, &closed, cycle, Point::C);
+            }
+        }
+    }
+
+    // What is told at the control point, where that is known.
+    fn told(&self, net: &Net, closed: Option<&Closed>, cycle: Cycle) -> Option<Orders>
+        requires { ForSome closed (λ kept. AreSteady cycle kept.now self.now) }
+        ensures { (wiring : Wiring) → IsNetOf wiring net.now
+            → IfSome result (AreToldBy wiring cycle (closes self.now cycle C)) }
+    {
+        // That the groups stand in order is told with them.
+        let _groups = &self.groups;
+        match closed {
+            Some(closed) => net.told(cycle, &closed.steady),
+            None => net.told_by_wires(cycle),
+        }
+    }
+
+    // The closing point. Mostly nothing emits there.
+    fn run_closing(&mut self, net: &Net, closed: Option<&Closed>, cycle: Cycle)
+        requires { ForSome closed (λ kept. AreSteady cycle kept.now self.old) }
+        ensures step { (wiring : Wiring) → IsNetOf wiring net.now → PointStep wiring cycle K self.old self.new }
+        ensures senses { SensesSome cycle K self.old self.new }
+    {
+        if self.emits_at_closing() {
+            self.close(net, closed, cycle);
+        } else {
+            self.close_in_silence(cycle);
+        }
+    }
+
+    // Whether a unit emits at the closing point: only comparing and the counter groups may.
+    fn emits_at_closing(&self) -> bool
+        ensures { result ≡ false → (cycle : Cycle) (exit : Hub) → emits self.now cycle K exit ≡ false }
+    {
+        if self.comparing.has_difference() {
+            return true;
+        }
+        has_carry(&self.groups, self.busy)
+    }
+
+    // The closing point, where nothing is impulsed.
+    fn close_in_silence(&mut self, cycle: Cycle)
+        requires { (exit : Hub) → emits self.old cycle K exit ≡ false }
+        ensures step { (wiring : Wiring) → PointStep wiring cycle K self.old self.new }
+        ensures senses { SensesSome cycle K self.old self.new }
+    {
+        self.sense(cycle, Point::K, &Picture::new());
+    }
+
+    // The closing point, where something emits. Mostly no impulse comes to a contact there, as none does where no wire leads to one: so the
+    // closed contacts may be left out, and are looked for then alone where one comes.
+    fn close(&mut self, net: &Net, closed: Option<&Closed>, cycle: Cycle)
+        requires { ForSome closed (λ kept. AreSteady cycle kept.now self.old) }
+        ensures step { (wiring : Wiring) → IsNetOf wiring net.now → PointStep wiring cycle K self.old self.new }
+        ensures senses { SensesSome cycle K self.old self.new }
+    {
+        let mut emitted = Picture::new();
+        self.emit(cycle, Point::K, &mut emitted);
+        let mut picture = Picture::new();
+        self.impulse_closing(net, closed, cycle, &emitted, &mut picture);
+        self.sense(cycle, Point::K, &picture);
+    }
+
+    // Makes the picture of the exits that emit at the closing point, by the wires alone where that is right.
+    fn impulse_closing(
         &self,
         net: &Net,
         closed: Option<&Closed>,
         cycle: Cycle,
-        point: Point,
         exits: &Picture,
         picture: &mut Picture,
     )
         requires { ForSome closed (λ kept. AreSteady cycle kept.now self.now) }
         ensures { (wiring : Wiring)
             → IsNetOf wiring net.now
-            → IsPicture wiring (has_hub exits.now) (closes self.now cycle point) (has_hub picture.new) }
+            → IsPicture wiring (has_hub exits.now) (closes self.now cycle K) (has_hub picture.new) }
     {
-        if self.impulse_by_wires(net, point, exits, picture) {
+        if self.impulse_by_wires(net, exits, picture) {
             return;
         }
         match closed {
-            Some(closed) => self.impulse(net, closed, cycle, point, exits, picture),
-            None => self.impulse(net, &self.closed(cycle), cycle, point, exits, picture),
+            Some(closed) => self.impulse(net, closed, cycle, Point::K, exits, picture),
+            None => self.impulse(net, &self.closed(cycle), cycle, Point::K, exits, picture),
         }
     }
 
-    // Makes what the wires alone make of the exits that emit at a point. Answers whether that is the picture, whatever contacts are closed.
-    fn impulse_by_wires(
-        &self,
-        net: &Net,
-        point: Point,
-        exits: &Picture,
-        picture: &mut Picture,
-    ) -> bool
+    // Makes what the wires alone make of the exits that emit at the closing point. Answers whether that is the picture, whatever contacts are
+    // closed: so it is unless a carry comes to a group that stands at nines.
+    fn impulse_by_wires(&self, net: &Net, exits: &Picture, picture: &mut Picture) -> bool
         ensures { result ≡ true
             → (wiring : Wiring)
             → IsNetOf wiring net.now
             → (cycle : Cycle)
-            → IsPicture wiring (has_hub exits.now) (closes self.now cycle point) (has_hub picture.new) }
+            → IsPicture wiring (has_hub exits.now) (closes self.now cycle K) (has_hub picture.new) }
     {
-        if net.picture_by_wires(point, exits, picture) {
-            !self.passes_carries(point, picture)
+        if net.picture_by_wires(exits, picture) {
+            !comes_to_nines(&self.groups, picture)
         } else {
             false
-        }
-    }
-
-    // Whether a carry comes to a group whose carry contact is closed: it is where the group stands at nines, at the closing point.
-    fn passes_carries(&self, point: Point, picture: &Picture) -> bool
-        ensures { result ≡ false → (cycle : Cycle) → PassesNoCarry (closes self.now cycle point) (has_hub picture.now) }
-    {
-        match point {
-            Point::C | Point::Row(_) => false,
-            Point::K => comes_to_nines(&self.groups, picture),
         }
     }
 
@@ -155,7 +229,7 @@ impl Units {
         ensures keeps { Keeps cycle self.old self.new }
     {
         rows.clear();
-        self.emit_rows(cycle, rows);
+        self.emit_rows(cycle, net.reads_first(), net.reads_second(), rows);
         net.spread(rows);
         self.sense_rows(cycle, rows);
     }
@@ -169,7 +243,7 @@ impl Units {
         ensures steady { AreSteady cycle closed.now self.new }
     {
         sets.clear();
-        self.emit_rows(cycle, sets);
+        self.emit_rows(cycle, net.reads_first(), net.reads_second(), sets);
         if net.spread_through(&closed.digits, &closed.zones, sets) {
             self.sense_rows(cycle, sets);
         } else {

@@ -1,12 +1,13 @@
 //! The counter groups of a machine. A group that is told nothing at the control point emits nothing in the cycle, and senses nothing
 //! but a carry: so the groups that may have work are noted, a bit for each, and the others are left alone.
 
-ghost use Rattle.std.specs.Prelude.{◌≡◌, ℕ, ◌<◌, ◌==◌, ◌&&◌, false, map, slice_index_or, if◌then◌else◌};
+ghost use Rattle.std.specs.Prelude.{◌≡◌, ℕ, Bool, ◌<◌, ◌==◌, ◌&&◌, false, map, slice_index_or};
 ghost use Rattle.std.specs.List.{list_any};
-ghost use Rattle.counters.specs.ControlRows.{IsControlRow};
 ghost use Rattle.counters.specs.Counters.{counter_at_start, counter_emits, counter_ended, counter_sensed};
-ghost use Rattle.net.specs.Cycles.{is_closing};
-ghost use Rattle.net.specs.HubSets.{GainsHubs, HubSet, has_hub, is_bit};
+ghost use Rattle.hubs.specs.declared.hub.Hub.{Hub};
+ghost use Rattle.hubs.specs.declared.hub.Hub.TheVariants.{PL};
+ghost use Rattle.net.specs.HubSets.{GainsHubs, has_hub, is_bit};
+ghost use Rattle.net.specs.Orders.{IsRowOf};
 ghost use Rattle.net.specs.declared.cycle.Cycle.{Cycle};
 ghost use Rattle.net.specs.declared.cycle.Point.TheVariants.{C, K};
 ghost use Rattle.machine.specs.Fields.{AreInUnitOrder};
@@ -82,10 +83,11 @@ pub(crate) struct Busy {
 }
 
 impl Busy {
-    ghost use Rattle.std.specs.Prelude.{◌≡◌, ℕ, ◌||◌, false, if◌then◌else◌};
-    ghost use Rattle.net.specs.Cycles.{is_closing};
+    ghost use Rattle.std.specs.Prelude.{◌≡◌, ℕ, Bool, ◌||◌, false};
+    ghost use Rattle.hubs.specs.declared.hub.Hub.{Hub};
+    ghost use Rattle.hubs.specs.declared.hub.Hub.TheVariants.{PL};
     ghost use Rattle.net.specs.HubSets.{has_hub, is_bit};
-    ghost use Rattle.net.specs.declared.cycle.Point.TheVariants.{C, K};
+    ghost use Rattle.net.specs.Orders.{IsRowOf};
     ghost use Rattle.machine.specs.Rest.{AreCarriesMarked, AreReadOutsMarked, AreTestsMarked, AreToldMarked};
 
     // No group is told anything, and no carry came in.
@@ -103,41 +105,42 @@ impl Busy {
         }
     }
 
-    // What they may have to do after a point at which this picture is sensed.
-    fn after(self, point: Point, picture: &Picture) -> Self
+    // What they may have to do after the control point, by the row of their control hubs: their hubs PL, MI, RO and BT follow one another,
+    // 32 of each.
+    fn told(self, row: u128) -> Self
         ensures uncontrolled { (k : ℕ) → is_bit result.controlled k ≡ false → is_bit self.controlled k ≡ false }
-        ensures told { point ≡ C → AreToldMarked result.controlled (has_hub picture.now) }
+        ensures told { (picture : Hub → Bool) → IsRowOf (PL (record { width = 3; number = 1 })) picture row
+            → AreToldMarked result.controlled picture }
         ensures unread { (k : ℕ) → is_bit result.reading_out k ≡ false → is_bit self.reading_out k ≡ false }
-        ensures read_out { point ≡ C → AreReadOutsMarked result.reading_out (has_hub picture.now) }
+        ensures read_out { (picture : Hub → Bool) → IsRowOf (PL (record { width = 3; number = 1 })) picture row
+            → AreReadOutsMarked result.reading_out picture }
         ensures untested { (k : ℕ) → is_bit result.tested k ≡ false → is_bit self.tested k ≡ false }
-        ensures tests { point ≡ C → AreTestsMarked result.tested (has_hub picture.now) }
-        ensures empty { (k : ℕ) → is_bit result.carried k ≡ false → is_bit self.carried k ≡ false }
-        ensures carries { point ≡ K → AreCarriesMarked result.carried (has_hub picture.now) }
+        ensures tests { (picture : Hub → Bool) → IsRowOf (PL (record { width = 3; number = 1 })) picture row
+            → AreTestsMarked result.tested picture }
+        ensures carried { result.carried ≡ self.carried }
     {
-        match point {
-            Point::C => Busy {
-                controlled: self.controlled | told(picture),
-                reading_out: self.reading_out | read_outs(picture),
-                tested: self.tested | tests(picture),
-                carried: self.carried,
-            },
-            Point::Row(_) => self,
-            Point::K => Busy {
-                controlled: self.controlled,
-                reading_out: self.reading_out,
-                tested: self.tested,
-                carried: self.carried | carries(picture),
-            },
+        let pairs = row | row >> 64;
+        Busy {
+            controlled: self.controlled | low_bits(pairs | pairs >> 32),
+            reading_out: self.reading_out | low_bits(row >> 64),
+            tested: self.tested | low_bits(row >> 96),
+            carried: self.carried,
         }
     }
 
-    // The groups that may change by what they sense at a point: by a carry at the closing point, at others by their controls.
-    fn sensing(self, point: Point) -> u64
-        ensures { result ≡ (if is_closing point then self.carried else self.controlled) }
+    // What they may have to do after the closing point at which this picture is sensed.
+    fn after_carries(self, picture: &Picture) -> Self
+        ensures controlled { result.controlled ≡ self.controlled }
+        ensures reading_out { result.reading_out ≡ self.reading_out }
+        ensures tested { result.tested ≡ self.tested }
+        ensures empty { (k : ℕ) → is_bit result.carried k ≡ false → is_bit self.carried k ≡ false }
+        ensures carries { AreCarriesMarked result.carried (has_hub picture.now) }
     {
-        match point {
-            Point::C | Point::Row(_) => self.controlled,
-            Point::K => self.carried,
+        Busy {
+            controlled: self.controlled,
+            reading_out: self.reading_out,
+            tested: self.tested,
+            carried: self.carried | carries(picture),
         }
     }
 
@@ -167,6 +170,15 @@ pub(crate) fn emit_groups(
         Point::Row(_) => emit_marked(groups, busy.controlled, cycle, point, exits),
         Point::K => emit_carries(groups, busy.controlled, exits),
     }
+}
+
+// Whether a carry leaves a group.
+pub(crate) fn has_carry(groups: &[Group; GROUPS], busy: Busy) -> bool
+    requires ordered { AreInUnitOrder groups.now }
+    requires busy { AreBusy busy groups.now }
+    ensures { result ≡ false → (cycle : Cycle) (exit : Hub) → list_any (λ group. counter_emits group cycle K exit) groups.now ≡ false }
+{
+    carrying(groups, busy.controlled) != 0
 }
 
 // The marked groups emit the carries that leave them, as a row: the carry exits of all groups follow one another.
@@ -214,34 +226,38 @@ pub(crate) fn sense_groups(
     ensures sensed { groups.new ≡ map (λ group. counter_sensed group cycle point (has_hub picture.now)) groups.old }
     ensures busy { AreBusy result groups.new }
 {
-    let busy = busy.after(point, picture);
-    sense_busy(groups, busy, cycle, point, picture);
-    busy
-}
-
-// The groups that may change by it sense the picture: at the control point all of them by one row of it.
-fn sense_busy(
-    groups: &mut [Group; GROUPS],
-    busy: Busy,
-    cycle: Cycle,
-    point: Point,
-    picture: &Picture,
-)
-    ensures { groups.new ≡ marked_changed (if is_closing point then busy.carried else busy.controlled) 0
-        (λ group. counter_sensed group cycle point (has_hub picture.now)) groups.old }
-{
     match point {
-        Point::C => control_marked(groups, busy.controlled, picture.row(Hub::PL(FIRST))),
-        Point::Row(_) | Point::K => {
-            sense_marked(groups, busy.sensing(point), cycle, point, picture);
+        Point::C => control_groups(groups, busy, picture.row(Hub::PL(FIRST))),
+        Point::Row(_) => {
+            sense_marked(groups, busy.controlled, cycle, point, picture);
+            busy
+        }
+        Point::K => {
+            let busy = busy.after_carries(picture);
+            sense_marked(groups, busy.carried, cycle, point, picture);
+            busy
         }
     }
 }
 
+// All groups sense the control point, by the row of their control hubs, and stay as they are where they are told nothing. Answers what they
+// may have to do from then on.
+pub(crate) fn control_groups(groups: &mut [Group; GROUPS], busy: Busy, row: u128) -> Busy
+    requires ordered { AreInUnitOrder groups.old }
+    requires busy { AreBusy busy groups.old }
+    ensures sensed { (cycle : Cycle) (picture : Hub → Bool) → IsRowOf (PL (record { width = 3; number = 1 })) picture row
+        → groups.new ≡ map (λ group. counter_sensed group cycle C picture) groups.old }
+    ensures busy { AreBusy result groups.new }
+{
+    let busy = busy.told(row);
+    control_marked(groups, busy.controlled, row);
+    busy
+}
+
 // The marked groups sense the control point, by the row of the control hubs of all groups.
 fn control_marked(groups: &mut [Group], marks: u64, row: u128)
-    ensures { (cycle : Cycle) (set : HubSet) → IsControlRow row set
-        → groups.new ≡ marked_changed marks 0 (λ group. counter_sensed group cycle C (has_hub set)) groups.old }
+    ensures { (cycle : Cycle) (picture : Hub → Bool) → IsRowOf (PL (record { width = 3; number = 1 })) picture row
+        → groups.new ≡ marked_changed marks 0 (λ group. counter_sensed group cycle C picture) groups.old }
 {
     let mut left = marks;
     while let Some(place) = take_lowest(&mut left) {
@@ -257,29 +273,6 @@ pub(crate) fn end_groups(groups: &mut [Group; GROUPS], busy: Busy, cycle: Cycle)
     ensures { groups.new ≡ map (λ group. counter_ended group cycle) groups.old }
 {
     end_marked(groups, busy.ending(), cycle);
-}
-
-// The groups of which a control hub is impulsed: their hubs PL, MI, RO and BT follow one another, 32 of each.
-fn told(picture: &Picture) -> u64
-    ensures { AreToldMarked result (has_hub picture.now) }
-{
-    let row = picture.row(Hub::PL(FIRST));
-    let pairs = row | row >> 64;
-    low_bits(pairs | pairs >> 32)
-}
-
-// The groups of which the read-out entry is impulsed.
-fn read_outs(picture: &Picture) -> u64
-    ensures { AreReadOutsMarked result (has_hub picture.now) }
-{
-    low_bits(picture.row(Hub::RO(FIRST)))
-}
-
-// The groups of which the balance test is impulsed.
-fn tests(picture: &Picture) -> u64
-    ensures { AreTestsMarked result (has_hub picture.now) }
-{
-    low_bits(picture.row(Hub::BT(FIRST)))
 }
 
 // The groups of which the carry entry is impulsed.

@@ -1,14 +1,19 @@
 //! The storage units of a machine, at one point and at the points of all rows at once.
 
-ghost use Rattle.std.specs.Prelude.{◌≡◌, map};
+ghost use Rattle.std.specs.Prelude.{◌≡◌, Bool, map};
 ghost use Rattle.std.specs.List.{list_any};
+ghost use Rattle.hubs.specs.declared.hub.Hub.{Hub};
+ghost use Rattle.hubs.specs.declared.hub.Hub.TheVariants.{SI};
 ghost use Rattle.net.specs.HubSets.{GainsHubs, has_hub};
+ghost use Rattle.net.specs.Orders.{IsRowOf};
 ghost use Rattle.net.specs.RowSets.{GainsRows, after_rows, pictures_of};
-ghost use Rattle.net.specs.declared.cycle.Point.TheVariants.{Row as AtRow};
+ghost use Rattle.net.specs.declared.cycle.Cycle.{Cycle};
+ghost use Rattle.net.specs.declared.cycle.Point.TheVariants.{C, Row as AtRow};
 ghost use Rattle.storage_units.specs.Storage.{storage_at_start, storage_emits, storage_sensed};
 ghost use Rattle.machine.specs.Machine.{storage_units};
 
 use crate::rows::{emit_all, sense_all};
+use hubs::Hub;
 use net::{Cycle, Picture, Point, RowSets};
 use storage_units::Storage;
 
@@ -42,8 +47,19 @@ pub(crate) fn sense_storage(storage: &mut [Storage], cycle: Cycle, point: Point,
     ensures { storage.new ≡ map (λ unit. storage_sensed unit cycle point (has_hub picture.now)) storage.old }
 {
     match point {
-        Point::C | Point::Row(_) => sense_all(storage, cycle, point, picture),
+        Point::C => control_storage(storage, picture.row(Hub::SI(1))),
+        Point::Row(_) => sense_all(storage, cycle, point, picture),
         Point::K => {}
+    }
+}
+
+// All storage units sense the control point, by the row of their hubs SI and SO.
+pub(crate) fn control_storage(storage: &mut [Storage], row: u128)
+    ensures { (cycle : Cycle) (picture : Hub → Bool) → IsRowOf (SI 1) picture row
+        → storage.new ≡ map (λ unit. storage_sensed unit cycle C picture) storage.old }
+{
+    for unit in storage {
+        unit.sense_controls(row);
     }
 }
 

@@ -1,15 +1,17 @@
 //! The units of a machine.
 
 use crate::group_rows::{emit_group_rows, sense_group_rows};
-use crate::groups::{Busy, emit_groups, end_groups, groups_at_start, keep_latches, sense_groups};
+use crate::groups::{
+    Busy, control_groups, emit_groups, end_groups, groups_at_start, keep_latches, sense_groups,
+};
 use crate::rows::end_all;
 use crate::storage_rows::{
-    STORAGE_UNITS, emit_storage, emit_storage_rows, sense_storage, sense_storage_rows,
-    storage_at_start,
+    STORAGE_UNITS, control_storage, emit_storage, emit_storage_rows, sense_storage,
+    sense_storage_rows, storage_at_start,
 };
 use carriage::Carriage;
 use counters::Group;
-use net::{Cycle, Picture, Point, RowSets, Unit};
+use net::{Cycle, Orders, Picture, Point, RowSets, Unit};
 use print_unit::{Emitters, Wheels};
 use program_unit::Program;
 use selectors::{BalanceLatches, GROUPS, Indicate, Pilots, Splits};
@@ -35,7 +37,7 @@ pub(crate) struct Units {
     pub(crate) carriage: Carriage,
     pub(crate) program: Program,
     // What the counter groups may have to do in the cycle that runs.
-    busy: Busy,
+    pub(crate) busy: Busy,
     // Their balance latches once more, as the contacts that they close.
     pub(crate) latches: BalanceLatches,
 }
@@ -52,12 +54,16 @@ impl Model for Units {
 }
 
 impl Units {
-    ghost use Rattle.std.specs.Prelude.{◌≡◌};
+    ghost use Rattle.std.specs.Prelude.{◌≡◌, Bool};
+    ghost use Rattle.hubs.specs.declared.hub.Hub.{Hub};
     ghost use Rattle.net.specs.HubSets.{GainsHubs, has_hub};
+    ghost use Rattle.net.specs.Orders.{AreOrdersOf};
+    ghost use Rattle.net.specs.declared.cycle.Cycle.{Cycle};
+    ghost use Rattle.machine.specs.AllRows.{seeing};
     ghost use Rattle.machine.specs.Fields.{AreInUnitOrder};
     ghost use Rattle.machine.specs.Machine.{machine_at_start, emits, sensed, ended};
     ghost use Rattle.net.specs.RowSets.{GainsRows, after_rows, pictures_of};
-    ghost use Rattle.net.specs.declared.cycle.Point.TheVariants.{Row as AtRow};
+    ghost use Rattle.net.specs.declared.cycle.Point.TheVariants.{C, Row as AtRow};
 
     // The units of a setup as they start, with no card in the machine.
     pub(crate) fn new(setup: &Setup) -> Self
@@ -106,12 +112,23 @@ impl Units {
         self.program.sense(cycle, point, picture);
     }
 
-    // Adds to the sets of the exits the rows at whose points they emit.
-    pub(crate) fn emit_rows(&self, cycle: Cycle, sets: &mut RowSets)
-        ensures rows { GainsRows (λ row. emits self.now cycle (AtRow row)) sets.old sets.new }
+    // Each unit does what it is told at the control point. Counter groups, storage units and the carriage alone sense anything there.
+    pub(crate) fn obey(&mut self, orders: &Orders)
+        ensures { (cycle : Cycle) (picture : Hub → Bool) → AreOrdersOf picture orders.now
+            → self.new ≡ sensed self.old cycle C picture }
+    {
+        let busy = control_groups(&mut self.groups, self.busy, orders.controls);
+        self.busy = busy;
+        control_storage(&mut self.storage, orders.storage);
+        self.carriage.sense_controls(orders.carriage);
+    }
+
+    // Adds to the sets of the exits the rows at whose points they emit, those of first and of second reading where these are looked at.
+    pub(crate) fn emit_rows(&self, cycle: Cycle, first: bool, second: bool, sets: &mut RowSets)
+        ensures rows { GainsRows (λ row. emits (seeing first second self.now) cycle (AtRow row)) sets.old sets.new }
         ensures ordered { AreInUnitOrder self.now.groups }
     {
-        self.stations.emit_rows(cycle, sets);
+        self.stations.emit_rows(cycle, first, second, sets);
         emit_group_rows(&self.groups, self.busy, cycle, sets);
         emit_storage_rows(&self.storage, cycle, sets);
         self.emitters.emit_rows(cycle, sets);

@@ -65,7 +65,7 @@ module _ (at : ℕ → Hub) (start last : ℕ) (numbered : (n : ℕ) → number_
       let from : 1 ≤ n = grind (arith, nat_tests, within) in
       let to : n ≤ last = grind (arith, nat_tests, within) in
       let index : start + n ≡ start + 1 + (n - 1) = omega arith in
-      row_read (at 1) (at n) (start + 1) (n - 1) bits set (first_is (omega arith))
+      row_read (at 1) (at n) (start + 1) (n - 1) bits (has_hub set) (first_is (omega arith))
       (numbered n ∙ numbered_in start last n from to ∙ ap Some index) (omega arith) read
 
 -- the numbers of a kind that has one number

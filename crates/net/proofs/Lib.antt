@@ -14,3 +14,5 @@ pub mod DirectWires
 pub mod PassedRows
 pub mod PassedHubs
 pub mod WiredPictures
+pub mod TellingLemmas
+pub mod ToldPictures

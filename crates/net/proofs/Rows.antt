@@ -8,6 +8,7 @@ use Rattle.hubs.proofs.HubLemmas.{number_of-injective}
 use Rattle.hubs.specs.Hubs.{number_of}
 use Rattle.hubs.specs.declared.hub.Hub.{Hub}
 use Rattle.bit_sets.proofs.BitLemmas.{is_bit-above}
+use Rattle.net.specs.Orders.{IsRowOf}
 use Rattle.net.specs.HubSets.{GainsHubs, HubSet, has_hub, is_bit, is_bit_from, is_hub, is_in_reach, is_in_row, is_near, is_same_number}
 
 -- one test, and then another
@@ -68,10 +69,9 @@ row_elsewhere first hub at n count bits is small numbered none = ap (λ m. is_bi
       (cases_lt m n)
 
 -- what a row that was read says of the hub that is k after the first one
-pub row_read : (first hub : Hub) (n k bits : ℕ) (set : HubSet) → number_of first ≡ Some n → number_of hub ≡ Some (n + k) → k < 128
-    → ((other : Hub) → is_in_reach first other ≡ true → is_in_row first bits other ≡ has_hub set other)
-    → is_bit bits k ≡ has_hub set hub
-row_read first hub n k bits set is and_is near read =
+pub row_read : (first hub : Hub) (n k bits : ℕ) (picture : Hub → Bool) → number_of first ≡ Some n → number_of hub ≡ Some (n + k) → k < 128
+    → IsRowOf first picture bits → is_bit bits k ≡ picture hub
+row_read first hub n k bits picture is and_is near read =
     let low : nat_le n (n + k) ≡ true = grind (arith, nat_tests) in
     let high : nat_lt (n + k) (n + 128) ≡ true = grind (arith, nat_tests) in
     let reach : is_in_reach first hub ≡ true =

@@ -13,3 +13,6 @@ pub mod RowSets
 pub mod WholeCycles
 pub mod Nothing
 pub mod Units
+pub mod Orders
+pub mod Tells
+pub mod Tellings

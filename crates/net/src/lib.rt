@@ -7,9 +7,11 @@ mod cycle;
 mod laws;
 mod links;
 mod net;
+mod orders;
 mod picture;
 mod printing;
 mod row_sets;
+mod tellings;
 mod unit;
 
 pub use bits::has_bit;
@@ -19,6 +21,7 @@ pub use laws::{
     wires_to_entries_lead_no_further,
 };
 pub use net::Net;
+pub use orders::Orders;
 pub use picture::{Contacts, HUBS, Picture};
 pub use printing::Printing;
 pub use row_sets::RowSets;

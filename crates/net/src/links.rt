@@ -1,17 +1,14 @@
 //! The wires of a setup one by one.
 
-ghost use Rattle.std.specs.Prelude.{◌≡◌, ◌<◌, All, OnOk, false};
+ghost use Rattle.std.specs.Prelude.{◌≡◌, ℕ, ◌<◌, ◌≤◌, All, OnOk, false};
 ghost use Rattle.bit_sets.specs.Bits.{has_place};
 ghost use Rattle.setups.specs.Wiring.{IsEntryNumber};
-ghost use Rattle.spreads.specs.Links.{IsInRange};
+ghost use Rattle.spreads.specs.Links.{IsInRange, is_linked};
 ghost use Rattle.net.specs.AddedWires.{AddsLinks};
 
 use bit_sets::WORDS;
 use spreads::Link;
 use std::alloc::AllocError;
-
-// The place of the first of the exits that tell of cycles: CC, PX and HX are the last ones.
-const TELLING: u16 = 1024;
 
 // Adds the links from a place to the places of the entries with these numbers.
 pub(crate) fn add_links(
@@ -46,10 +43,12 @@ pub(crate) fn leads_to_any(links: &[Link], places: &[u64; WORDS]) -> bool
     false
 }
 
-// Whether a link leads to one of these places from an exit that tells of cycles. The answer saves time and changes nothing else.
-pub(crate) fn telling_exits_lead_to_any(links: &[Link], places: &[u64; WORDS]) -> bool {
+// Whether a link leads from a place of these: from a first one up to one before an end.
+pub(crate) fn leads_from_any(links: &[Link], first: u16, end: u16) -> bool
+    ensures { result ≡ false → (from to : ℕ) → first ≤ from → from < end → is_linked links.now from to ≡ false }
+{
     for link in links {
-        if link.from >= TELLING && bit_sets::has(places, link.to as usize) {
+        if first <= link.from && link.from < end {
             return true;
         }
     }

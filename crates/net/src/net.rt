@@ -6,10 +6,12 @@ ghost use Rattle.net.specs.NetInside.{IsWiredFor};
 ghost use Rattle.net.specs.AddedWires.{AddsRow};
 
 use crate::contacts::CONTACTS;
-use crate::cycle::Point;
-use crate::links::{add_links, leads_to_any, telling_exits_lead_to_any};
+use crate::cycle::Cycle;
+use crate::links::{add_links, leads_from_any, leads_to_any};
+use crate::orders::Orders;
 use crate::picture::{Contacts, Picture, cut_after_hubs};
 use crate::row_sets::RowSets;
+use crate::tellings::{Telling, kind_of, tellings_of, told_through};
 use bit_sets::{EXITS, Rows, WORDS, commons_of, meet, reach, reach_by_rows};
 use hubs::Hub;
 use setups::Setup;
@@ -34,8 +36,11 @@ pub struct Net {
     has_many: bool,
     // Whether no wire leads to a common hub.
     is_direct: bool,
-    // Whether a wire leads to one, other than a carry entry, from an exit that tells of a cycle.
-    is_controlled: bool,
+    // What each of the exits that tell of cycles makes at the control point.
+    tellings: Vec<Telling>,
+    // Whether a wire leads from an exit of first reading, and from one of second reading.
+    reads_first: bool,
+    reads_second: bool,
 }
 
 // By hand, so that a function that drops one calls this, and doesn't drop its parts one by one.
@@ -48,7 +53,9 @@ impl Drop for Net {
             commons: _commons,
             others: _others,
             is_direct: _is_direct,
-            is_controlled: _is_controlled,
+            tellings: _tellings,
+            reads_first: _reads_first,
+            reads_second: _reads_second,
         } = self;
     }
 }
@@ -63,13 +70,16 @@ impl Model for Net {
 
     ghost use Rattle.net.specs.NetInside.{IsNetInside};
 
-    ghost invariant = { λ net. IsNetInside CONTACTS net.commons net.others net.paths net.is_direct net.rows };
+    ghost invariant = { λ net. IsNetInside CONTACTS net.commons net.others net.paths net.is_direct net.tellings.items net.reads_first net.reads_second net.rows };
 }
 
 impl Net {
-    ghost use Rattle.std.specs.Prelude.{IfOk};
+    ghost use Rattle.std.specs.Prelude.{IfOk, IfSome};
     ghost use Rattle.setups.specs.Wiring.{Wiring};
     ghost use Rattle.net.specs.HubSets.{has_hub};
+    ghost use Rattle.net.specs.Orders.{AreToldBy};
+    ghost use Rattle.hubs.specs.declared.hub.Hub.TheVariants.{FR, SR};
+    ghost use Rattle.net.specs.Laws.{IsUnwired};
     ghost use Rattle.net.specs.Impulsed.{IsPicture};
     ghost use Rattle.net.specs.Nets.{IsNetOf};
     ghost use Rattle.std.specs.Prelude.{◌≡◌, ℕ, Bool, true};
@@ -92,7 +102,9 @@ impl Net {
         let others = commons_of(&CONTACTS[1..]);
         let has_many = links.len() > MOST_LINKS;
         let is_direct = !leads_to_any(links.as_slice(), &commons);
-        let is_controlled = telling_exits_lead_to_any(links.as_slice(), &others);
+        let tellings = tellings_of(alloc, &rows, &commons)?;
+        let reads_first = leads_from_any(links.as_slice(), 0, 80);
+        let reads_second = leads_from_any(links.as_slice(), 80, 160);
         Ok(Net {
             rows,
             commons,
@@ -100,7 +112,9 @@ impl Net {
             paths,
             has_many,
             is_direct,
-            is_controlled,
+            tellings,
+            reads_first,
+            reads_second,
         })
     }
 
@@ -124,10 +138,8 @@ impl Net {
     }
 
     /// Makes `out` what the emitting exits and the wires from them make, whatever it had before. Answers whether, of the hubs from which
-    /// contacts lead, it has carry entries alone: then that is the picture wherever none of these carries passes. It isn't tried at the
-    /// control point where a wire leads to another such hub from an exit that tells of cycles, CC, PX or HX: then the answer is false, and
-    /// `out` keeps what it had.
-    pub fn picture_by_wires(&self, point: Point, exits: &Picture, out: &mut Picture) -> bool
+    /// contacts lead, it has carry entries alone: then that is the picture wherever none of these carries passes.
+    pub fn picture_by_wires(&self, exits: &Picture, out: &mut Picture) -> bool
         ensures { result ≡ true
             → (wiring : Wiring)
             → IsNetOf wiring self.now
@@ -135,12 +147,37 @@ impl Net {
             → PassesNoCarry closed (has_hub out.new)
             → IsPicture wiring (has_hub exits.now) closed (has_hub out.new) }
     {
-        if self.is_controlled && point == Point::C {
-            return false;
-        }
         reach_by_rows(&self.rows, &exits.words, &mut out.words);
         cut_after_hubs(&mut out.words);
         !meet(&self.others, &out.words)
+    }
+
+    /// What is told at the control point of a cycle with these contacts closed. `None` where an impulse passes one contact and comes to
+    /// another.
+    pub fn told(&self, cycle: Cycle, closed: &Contacts) -> Option<Orders>
+        ensures { (wiring : Wiring) → IsNetOf wiring self.now → IfSome result (AreToldBy wiring cycle (has_hub closed.now)) }
+    {
+        match kind_of(cycle) {
+            Some(kind) => {
+                let telling = &self.tellings[kind];
+                told_through(&telling.base, telling.branches.as_slice(), closed.words())
+            }
+            None => Some(Orders::none()),
+        }
+    }
+
+    /// What is told there whichever contacts are closed. `None` where an impulse comes to a contact.
+    pub fn told_by_wires(&self, cycle: Cycle) -> Option<Orders>
+        ensures { (wiring : Wiring) → IsNetOf wiring self.now → (closed : Hub → Bool) → IfSome result (AreToldBy wiring cycle closed) }
+    {
+        match kind_of(cycle) {
+            Some(kind) => {
+                let telling = &self.tellings[kind];
+                let branches = telling.branches.as_slice();
+                branches.is_empty().then_some(telling.base)
+            }
+            None => Some(Orders::none()),
+        }
     }
 
     /// Whether no wire leads to a hub from which contacts lead: then no impulse of an exit passes a contact.
@@ -148,6 +185,20 @@ impl Net {
         ensures { result ≡ true → (wiring : Wiring) → IsNetOf wiring self.now → LeadsToNoContact wiring }
     {
         self.is_direct
+    }
+
+    /// Whether a wire leads from an exit of first reading. If none does, what is emitted there comes nowhere.
+    pub fn reads_first(&self) -> bool
+        ensures { result ≡ false → (wiring : Wiring) → IsNetOf wiring self.now → IsUnwired wiring FR }
+    {
+        self.reads_first
+    }
+
+    /// The same of second reading.
+    pub fn reads_second(&self) -> bool
+        ensures { result ≡ false → (wiring : Wiring) → IsNetOf wiring self.now → IsUnwired wiring SR }
+    {
+        self.reads_second
     }
 
     /// Spreads rows along the wires, all rows at once: each entry gains the rows of all exits that lead to it. Contacts pass on nothing

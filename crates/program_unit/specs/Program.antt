@@ -4,10 +4,9 @@
 use Rattle.std.specs.Prelude.{ℕ, Bool, false, Option, Some, None, if◌then◌else◌}
 use Rattle.setups.specs.Wiring.{Wiring}
 use Rattle.hubs.specs.declared.hub.Hub.{Hub}
-use Rattle.hubs.specs.declared.hub.Hub.TheVariants.{CC, PX, HX, ST}
-use Rattle.net.specs.Cycles.{level_number, ordinal_number}
-use Rattle.net.specs.HubSets.{is_hub}
+use Rattle.hubs.specs.declared.hub.Hub.TheVariants.{ST}
 use Rattle.net.specs.Printing.{printing_of}
+pub use Rattle.net.specs.Tells.{tells}
 use Rattle.net.specs.declared.cycle.Cycle.{Cycle}
 use Rattle.net.specs.declared.cycle.Cycle.TheVariants.{RunIn, Card, Prog, Head}
 use Rattle.net.specs.declared.cycle.ProgramLevel.{ProgramLevel}
@@ -34,13 +33,6 @@ program_number program = 45
 -- at the start no cycle has run
 abbrev pub program_at_start : Wiring → ProgramState
 program_at_start wiring = record { printing = printing_of wiring; stage = Fresh; highest = None }
-
--- the exit that tells of a cycle
-abbrev pub tells : Cycle → Hub → Bool
-tells RunIn hub = false
-tells Card hub = is_hub CC hub
-tells (Prog level ordinal) hub = is_hub (PX (level_number level) (ordinal_number ordinal)) hub
-tells (Head heading) hub = is_hub (HX (ordinal_number heading)) hub
 
 -- it emits that exit at the control point
 abbrev pub program_emits : ProgramState → Cycle → Point → Hub → Bool

@@ -178,3 +178,12 @@ rows-all count card columns words end sets are = record {
   punched = λ row bit.
       are.done (passing_place row) (let low = place_below row in omega (arith, low, end)) bit ∙ sets row bit;
 }
+
+-- where there is no card nothing is emitted
+pub first_unseen : (row : Row) (hub : Hub) → first_emits None row hub ≡ false
+first_unseen row (FR column) = refl
+first_unseen row other = refl
+
+pub second_unseen : (row : Row) (hub : Hub) → second_emits None row hub ≡ false
+second_unseen row (SR column) = refl
+second_unseen row other = refl

@@ -37,9 +37,12 @@ impl Model for Comparing {
 }
 
 impl Comparing {
-    ghost use Rattle.std.specs.Prelude.{◌≡◌};
+    ghost use Rattle.std.specs.Prelude.{◌≡◌, false};
+    ghost use Rattle.hubs.specs.declared.hub.Hub.{Hub};
     ghost use Rattle.net.specs.RowSets.{after_rows, pictures_of};
-    ghost use Rattle.stations.specs.Comparing.{comparing_at_start, comparing_sensed};
+    ghost use Rattle.net.specs.declared.cycle.Cycle.{Cycle};
+    ghost use Rattle.net.specs.declared.cycle.Point.TheVariants.{K};
+    ghost use Rattle.stations.specs.Comparing.{comparing_at_start, comparing_emits, comparing_sensed};
 
     /// Comparing with nothing collected.
     pub fn new() -> Self
@@ -54,6 +57,13 @@ impl Comparing {
         ensures { result.now ≡ self.now.sets }
     {
         &self.sets
+    }
+
+    /// Whether a position differs in what was collected. If none does, comparing emits nothing at the closing point.
+    pub fn has_difference(&self) -> bool
+        ensures { result ≡ false → (cycle : Cycle) (hub : Hub) → comparing_emits self.now cycle K hub ≡ false }
+    {
+        low_thirty(u128::from(differences(&self.sets))) != 0
     }
 
     /// Senses the points of all rows at once.

@@ -4,3 +4,4 @@ pub mod WordLemmas
 pub mod RowWords
 pub mod RowMasks
 pub mod AllRows
+mod ControlHubs

@@ -52,7 +52,12 @@ impl Storage {
     ghost use Rattle.std.specs.Prelude.{◌≡◌, ◌≤◌, slice_index};
     ghost use Rattle.card_code.specs.Rows.{passing_place};
     ghost use Rattle.net.specs.RowSets.{GainsRows, after_rows, pictures_of};
-    ghost use Rattle.net.specs.declared.cycle.Point.TheVariants.{Row as AtRow};
+    ghost use Rattle.std.specs.Prelude.{Bool};
+    ghost use Rattle.hubs.specs.declared.hub.Hub.{Hub};
+    ghost use Rattle.hubs.specs.declared.hub.Hub.TheVariants.{SI};
+    ghost use Rattle.net.specs.Orders.{IsRowOf};
+    ghost use Rattle.net.specs.declared.cycle.Cycle.{Cycle};
+    ghost use Rattle.net.specs.declared.cycle.Point.TheVariants.{C, Row as AtRow};
     ghost use Rattle.storage_units.specs.Storage.{storage_at_start, storage_emits, storage_sensed, holds};
 
     /// The storage unit with this number among the units, 35 to 38. It holds nothing.
@@ -92,6 +97,16 @@ impl Storage {
             let columns = columns_of(&self.held);
             sets.insert_sets(Hub::SX(self.place, 1), &columns);
         }
+    }
+
+    /// Senses the control point, by the row of the hubs SI and SO of all units, four each.
+    pub fn sense_controls(&mut self, row: u128)
+        ensures { (cycle : Cycle) (picture : Hub → Bool) → IsRowOf (SI 1) picture row
+            → self.new ≡ storage_sensed self.old cycle C picture }
+    {
+        self.received = [0; 12];
+        self.reads_in = net::has_bit(row, self.place as usize - 1);
+        self.reads_out = net::has_bit(row, self.place as usize + 3);
     }
 
     /// Senses the points of all rows at once.
@@ -138,11 +153,7 @@ impl Unit for Storage {
 
     fn sense(&mut self, _cycle: Cycle, point: Point, picture: &Picture) {
         match point {
-            Point::C => {
-                self.received = [0; 12];
-                self.reads_in = picture.has(Hub::SI(self.place));
-                self.reads_out = picture.has(Hub::SO(self.place));
-            }
+            Point::C => self.sense_controls(picture.row(Hub::SI(1))),
             Point::Row(row) if self.reads_in => {
                 self.received[row.place()] = columns_in(picture, self.place);
             }

@@ -5,7 +5,7 @@ use Rattle.counters.proofs.ControlHubs.{controls_of-row}
 use Rattle.counters.proofs.sensing.controls_in.Goals as goal
 
 pub returns : goal.returns
-returns c set row =
+returns c picture row =
     let bits = c.args.row in
     let place = c.args.unit - 3 in
     let near : place + 32 < 64 = omega (arith, c.requires.to) in
@@ -16,6 +16,6 @@ returns c set row =
     let plus : place + 0 ≡ place = omega arith in
     let read_out : 64 + (place + 0) ≡ place + 64 = omega arith in
     let test : 64 + (place + 32) ≡ place + 96 = omega arith in
-    controls_of-row c.args.unit bits set c.has_bit.result c.has_bit-2.result c.has_bit-3.result c.has_bit-4.result c.requires.from
+    controls_of-row c.args.unit bits picture c.has_bit.result c.has_bit-2.result c.has_bit-3.result c.has_bit-4.result c.requires.from
     c.requires.to row (c.has_bit.ensures ∙ low 0 (omega arith) ∙ ap (is_bit bits) plus) (c.has_bit-2.ensures ∙ low 32 (omega arith))
     (c.has_bit-3.ensures ∙ high 0 (omega arith) ∙ ap (is_bit bits) read_out) (c.has_bit-4.ensures ∙ high 32 (omega arith) ∙ ap (is_bit bits) test)

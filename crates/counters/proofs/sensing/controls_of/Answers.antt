@@ -6,5 +6,5 @@ use Rattle.counters.proofs.sensing.controls_of.Goals as goal
 
 pub returns : goal.returns
 returns c =
-    c.controls_in.ensures c.args.picture.now c.row.ensures.hubs
+    c.controls_in.ensures (has_hub c.args.picture.now) c.row.ensures.hubs
     ∙ ap (λ (n : Group). controls_of n (has_hub c.args.picture.now)) (sym c.requires.name)

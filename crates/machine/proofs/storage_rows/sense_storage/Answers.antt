@@ -18,3 +18,6 @@ returns-in-K c =
     unchanged c.args.storage.now c.args.cycle (has_hub c.args.picture.now)
     ∙ ap (λ (p : Point). map (λ unit. storage_sensed unit c.args.cycle p (has_hub c.args.picture.now)) c.args.storage.now)
     (sym c.in-K.is)
+
+pub returns-in-C : goal.returns-in-C
+returns-in-C c = rw c.in-C.is (c.control_storage.ensures c.args.cycle (has_hub c.args.picture.now) c.row.ensures.hubs)

@@ -2,6 +2,7 @@ use Rattle.std.proofs.Common.{◌∙◌, ◌||◌, ap, map, subst, sym}
 use Rattle.card_code.specs.Rows.{passing_place, rows}
 use Rattle.net.specs.RowSets.{pictures_of}
 use Rattle.net.specs.declared.cycle.Point.TheVariants.{Row}
+use Rattle.machine.specs.AllRows.{seeing}
 use Rattle.machine.specs.Keeps.{Keeps}
 use Rattle.machine.specs.Machine.{MachineState, emits}
 use Rattle.machine.specs.Steady.{AreSteady}
@@ -11,16 +12,17 @@ use Rattle.machine.proofs.units.Units.run_led_rows.Goals as goal
 
 pub spread_through-requires : goal.spread_through-requires
 spread_through-requires c =
-    contacts-silent c.args.self.now c.args.cycle c.emit_rows.new.sets
+    contacts-silent (seeing c.reads_first.result c.reads_second.result c.args.self.now) c.args.cycle c.emit_rows.new.sets
     (λ row hub. c.emit_rows.ensures.rows row hub
-    ∙ ap (λ b. b || emits c.args.self.now c.args.cycle (Row row) hub) (c.clear.ensures (passing_place row) hub))
+    ∙ ap (λ b. b || emits (seeing c.reads_first.result c.reads_second.result c.args.self.now) c.args.cycle (Row row) hub) (c.clear.ensures (passing_place row) hub))
 
 pub returns-then-spread_through-clause-ran : goal.returns-then-spread_through-clause-ran
 returns-then-spread_through-clause-ran c wiring is_net =
-    rows-run wiring c.args.cycle c.args.closed.now c.args.self.now c.sense_rows.new.self c.emit_rows.new.sets c.spread_through.new.sets
-    c.emit_rows.ensures.ordered c.requires
+    rows-run wiring c.reads_first.result c.reads_second.result c.args.cycle c.args.closed.now c.args.self.now c.sense_rows.new.self
+    c.emit_rows.new.sets c.spread_through.new.sets (λ none. c.reads_first.ensures none wiring is_net)
+    (λ none. c.reads_second.ensures none wiring is_net) c.emit_rows.ensures.ordered c.requires
     (λ row hub. c.emit_rows.ensures.rows row hub
-    ∙ ap (λ b. b || emits c.args.self.now c.args.cycle (Row row) hub) (c.clear.ensures (passing_place row) hub))
+    ∙ ap (λ b. b || emits (seeing c.reads_first.result c.reads_second.result c.args.self.now) c.args.cycle (Row row) hub) (c.clear.ensures (passing_place row) hub))
     (c.spread_through.ensures c.if-spread_through.true wiring is_net) c.sense_rows.ensures
 
 pub returns-then-spread_through-clause-keeps : goal.returns-then-spread_through-clause-keeps
