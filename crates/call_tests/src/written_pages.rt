@@ -2,8 +2,8 @@
 
 use devices::ToWrite;
 use devices::limited::LimitedWriter;
+use page_text::placed_lines::{PlacedLine, in_order};
 use page_writer::write_pages;
-use placed_lines::{PlacedLine, in_order};
 use std::test::Fail;
 
 #[test]

@@ -1,7 +1,7 @@
 -- A deck as markup: the names of the fields, and below them each card, which links to its element.
 use Rattle.std.specs.Prelude.{ℕ, List, ◌++◌, codes, length}
 use Rattle.std.specs.List.{flat_map, range_with_len}
-use Rattle.card_drawing.specs.Drawings.{shown_card}
+use Rattle.drawings.specs.CardDrawing.Drawings.{shown_card}
 use Rattle.page_links.specs.Links.{card_name, card_open}
 
 -- a card of the deck, by its number: its picture, which is a link

@@ -7,7 +7,7 @@ use Rattle.charts.specs.declared.chart.Line.{Line}
 use Rattle.charts.specs.declared.statement.Field.{Field}
 use Rattle.charts.specs.declared.statement.Statement.{Statement}
 use Rattle.charts.specs.declared.statement.Statement.TheVariants as says
-use Rattle.card_drawing.specs.Drawings.{characters_of}
+use Rattle.drawings.specs.CardDrawing.Drawings.{characters_of}
 use Rattle.markup.specs.Escapes.{escaped}
 
 -- the characters of a field, of those of a card

@@ -2,7 +2,7 @@
 -- and its fields.
 use Rattle.std.specs.Prelude.{ℕ, ◌+◌, ◌-◌, List, [], ◌++◌, codes, decimal, if◌then◌else◌, nat_lt}
 use Rattle.charts.specs.declared.chart.Line.{Line}
-use Rattle.card_drawing.specs.Drawings.{shown_card}
+use Rattle.drawings.specs.CardDrawing.Drawings.{shown_card}
 use Rattle.card_sections.specs.Fields.{card_fields}
 use Rattle.card_sections.specs.Readings.{card_run}
 use Rattle.markup.specs.Pieces.{numbered_words}

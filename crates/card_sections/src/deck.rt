@@ -6,7 +6,7 @@ ghost use Rattle.std.specs.String.{string_bytes};
 ghost use Rattle.card_sections.specs.Decks.{deck_open, deck_text, entry_front, entry_picture, entry_text};
 
 use card_code::Card;
-use card_drawing::write_shown_card;
+use drawings::card_drawing::write_shown_card;
 use page_links::{write_card_name, write_card_open};
 use std::alloc::AllocError;
 

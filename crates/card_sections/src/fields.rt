@@ -7,8 +7,8 @@ ghost use Rattle.charts.specs.Field.{columns_of};
 ghost use Rattle.card_sections.specs.Fields.{card_fields, columns_text, field_characters, field_close, field_of, field_open, field_text, fields_text, first_text, last_text, line_field, named_open};
 
 use card_code::Card;
-use card_drawing::characters;
 use charts::{Field, Line, Name, Statement};
+use drawings::card_drawing::characters;
 use markup::push_escaped;
 use numerals::{push_between, push_numbered};
 use std::alloc::{AllocError, Global};

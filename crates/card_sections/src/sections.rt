@@ -8,8 +8,8 @@ ghost use Rattle.card_sections.specs.Sections.{back_text, before_text, front_tex
 use crate::fields::write_card_fields;
 use crate::readings::write_run;
 use card_code::Card;
-use card_drawing::write_shown_card;
 use charts::Line;
+use drawings::card_drawing::write_shown_card;
 use numerals::push_between;
 use page_links::{Shown, ShownRun, write_card_open};
 use std::alloc::{AllocError, Global};

@@ -1,6 +1,6 @@
 //! The carriage: it moves the form, and says where a printing cycle's line stands.
 //!
-//! [`Carriage`] is the unit of the machine. A line that is printed at its place is a [`PlacedLine`], of the crate `placed_lines`.
+//! [`Carriage`] is the unit of the machine. A line that is printed at its place is a [`PlacedLine`], of `page_text`.
 #![tactic(auto)]
 
 mod asked;
@@ -10,4 +10,4 @@ mod spot;
 
 pub use carriage::Carriage;
 pub use laws::{going_down_notices_the_overflow_line, skips_go_to_the_next_stop_below};
-pub use placed_lines::PlacedLine;
+pub use page_text::placed_lines::PlacedLine;

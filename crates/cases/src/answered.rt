@@ -5,23 +5,23 @@ ghost use Rattle.card_code.specs.CardCode.{rows_of};
 
 use anyhow::Result;
 use browser_pages::show_to_end;
-use chart_calls::chart_to_end;
 use check_calls::{check_deck_to_end, check_groups_to_end, show_deck_to_end};
 use commands::{replay_by_orders, serve};
 use decks_in_row::DecksInRow;
 use devices::limited::LimitedReader;
 use fault_guide::guides::fault_to_end;
-use fold_calls::fold_to_end;
-use ledger_calls::{Question, tell_to_end};
+use folding::fold_calls::fold_to_end;
+use match_calls::chart_calls::chart_to_end;
 use match_calls::match_texts::Telling;
 use match_calls::{match_deck_to_end, match_to_end};
+use panel_guides::ledger_calls::{Question, tell_to_end};
+use panel_guides::trace_calls::trace_to_end;
 use panel_guides::{Place, legend_to_end};
-use sheet_calls::{fields_to_end, layout_to_end};
+use sheets::sheet_calls::{fields_to_end, layout_to_end};
 use std::alloc::Global;
 use std::collections::VecDeque;
 use std::io::{Read, Write};
 use text_lists::list_text_to_end;
-use trace_calls::trace_to_end;
 use whole_runs::{PageRange, run_whole_to_end};
 
 /// What a command printed, what it told, and its status.

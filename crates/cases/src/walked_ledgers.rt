@@ -6,8 +6,8 @@ use crate::walked_texts::{
 };
 use crate::walked_ways::Ground;
 use anyhow::{Result, bail};
-use ledger_calls::Question;
 use panel_guides::Place;
+use panel_guides::ledger_calls::Question;
 use std::alloc::Global;
 
 /// What was walked: figures that have a ledger, entries of ledgers, and holes of cards that made them.

@@ -3,3 +3,4 @@ pub mod Members
 pub mod Order
 pub mod Exact
 pub mod Steps
+pub mod FaultWords

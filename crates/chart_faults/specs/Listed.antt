@@ -5,9 +5,9 @@ use Rattle.charts.specs.Chart.{Chart}
 use Rattle.charts.specs.declared.chart.Line.{Line}
 use Rattle.charts.specs.declared.statement.Statement.{Statement}
 use Rattle.charts.specs.declared.statement.Statement.TheVariants as says
-use Rattle.field_rules.specs.Fields.{fields_of}
-use Rattle.field_rules.specs.Names.{breaks_unknown_name, breaks_wrong_kind}
-use Rattle.print_rules.specs.Forms.{lacks_form}
+use Rattle.line_rules.specs.FieldRules.Fields.{fields_of}
+use Rattle.line_rules.specs.FieldRules.Names.{breaks_unknown_name, breaks_wrong_kind}
+use Rattle.line_rules.specs.PrintRules.Forms.{lacks_form}
 use Rattle.chart_rules.specs.declared.rule.Rule.{Rule}
 use Rattle.chart_rules.specs.declared.rule.Rule.TheVariants as rule
 use Rattle.chart_rules.specs.Rules.{breaks_at, lacks, rule_number, Broken, IsFirstBroken}

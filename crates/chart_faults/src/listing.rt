@@ -3,7 +3,7 @@
 ghost use Rattle.std.specs.Prelude.{◌≡◌, ◌++◌, [], ◌∷◌, List, length, map, filter, OnOk, IfOk, AllPairs};
 ghost use Rattle.charts.specs.Chart.{NumbersRise};
 ghost use Rattle.charts.specs.declared.statement.Field.{Field};
-ghost use Rattle.field_rules.specs.Fields.{fields_of};
+ghost use Rattle.line_rules.specs.FieldRules.Fields.{fields_of};
 ghost use Rattle.chart_rules.specs.Rules as law;
 ghost use Rattle.chart_faults.specs.Listed.{BeginsAsChecked, ComesBefore, HasAllListed, LeavesOutWhatFollows, is_at_fault};
 ghost use Rattle.chart_faults.specs.HelperLists.{at_line, faults_at, faults_at_end, faults_of};
@@ -11,7 +11,7 @@ ghost use Rattle.chart_faults.specs.HelperLists.{at_line, faults_at, faults_at_e
 use crate::tests::{is_at_fault, lacks};
 use chart_rules::Rule;
 use charts::{Line, RawChart};
-use field_rules::Fields;
+use line_rules::field_rules::Fields;
 use std::alloc::{AllocError, Global};
 
 /// The rules in the order of their numbers.

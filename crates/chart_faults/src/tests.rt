@@ -2,18 +2,18 @@
 
 ghost use Rattle.std.specs.Prelude.{◌≡◌, ◌++◌, List};
 ghost use Rattle.charts.specs.declared.statement.Field.{Field};
-ghost use Rattle.field_rules.specs.Fields.{fields_of};
+ghost use Rattle.line_rules.specs.FieldRules.Fields.{fields_of};
 ghost use Rattle.chart_rules.specs.Rules as law;
 ghost use Rattle.chart_faults.specs.Listed.{is_at_fault, misnames, only_follows};
 
 use chart_rules::Rule;
 use charts::{Line, RawChart, Statement};
-use field_rules::{
+use line_rules::field_rules::{
     Fields, breaks_amount_size, breaks_columns, breaks_coupled_mark, breaks_digits_range,
     breaks_digits_shrink, breaks_line_twice, breaks_name_twice, breaks_no_control,
     breaks_total_text_not_control, breaks_unknown_name, breaks_wrong_kind,
 };
-use print_rules::{
+use line_rules::print_rules::{
     breaks_form, breaks_mark_mismatch, breaks_print_kind, breaks_tape, breaks_wheel_clash,
     breaks_wheel_overlap, breaks_wheel_range, lacks_form, lacks_print,
 };

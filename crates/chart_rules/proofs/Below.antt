@@ -1,2 +1,2 @@
 pub use Rattle.charts.proofs as charts
-pub use Rattle.field_rules.proofs as field_rules
+pub use Rattle.line_rules.proofs as line_rules

@@ -10,7 +10,7 @@ use Rattle.charts.proofs.Listed.{given-by, listed-at}
 use Rattle.charts.specs.declared.statement.Statement.{Statement}
 use Rattle.charts.specs.declared.statement.Statement.TheVariants as says
 use Rattle.charts.specs.Levels.{control_number}
-use Rattle.field_rules.specs.Fields.{field_named}
+use Rattle.line_rules.specs.FieldRules.Fields.{field_named}
 use Rattle.chart_rules.specs.Controls.{control_on, controls_among, controls_of}
 use Rattle.chart_rules.specs.HelperOnCard.{AreOnCard}
 use Rattle.chart_rules.specs.Rules.{IsLawful}

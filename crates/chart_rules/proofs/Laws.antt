@@ -13,10 +13,10 @@ use Rattle.charts.specs.declared.statement.FieldKind.TheVariants as holds
 use Rattle.charts.specs.declared.statement.Statement.{Statement}
 use Rattle.charts.specs.declared.statement.Statement.TheVariants as says
 use Rattle.charts.proofs.Listed.{Order, is_one, goes_before, goes_after, listed-first, listed-at, listed-place, listed-order, place-of, found-listed, given-by, none-any}
-use Rattle.field_rules.proofs.Places.{is_same_name-equal}
-use Rattle.field_rules.specs.Columns.{breaks_columns, breaks_amount_size, has_good_sign, is_too_large}
-use Rattle.field_rules.specs.Fields.{field_of, fields_of, field_named}
-use Rattle.field_rules.specs.Repeats.{repeats}
+use Rattle.line_rules.proofs.FieldRules.Places.{is_same_name-equal}
+use Rattle.line_rules.specs.FieldRules.Columns.{breaks_columns, breaks_amount_size, has_good_sign, is_too_large}
+use Rattle.line_rules.specs.FieldRules.Fields.{field_of, fields_of, field_named}
+use Rattle.line_rules.specs.FieldRules.Repeats.{repeats}
 use Rattle.chart_rules.specs.declared.rule.Rule.{Rule}
 use Rattle.chart_rules.specs.declared.rule.Rule.TheVariants as rule
 use Rattle.chart_rules.specs.HelperAmounts.{AreSized}

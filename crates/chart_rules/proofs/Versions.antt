@@ -3,8 +3,8 @@ use Rattle.std.proofs.Common.{◌≡◌, ℕ, Bool, true, false, ◌&&◌, List,
 use Rattle.std.proofs.lemmas.List.Elements.{Contains-append_right}
 use Rattle.charts.proofs.Listed.{listed-first}
 use Rattle.charts.specs.declared.chart.Line.{Line}
-use Rattle.field_rules.specs.Coupled.{is_coupled, is_mismarked, is_total, takes_two}
-use Rattle.field_rules.specs.Fields.{fields_of}
+use Rattle.line_rules.specs.FieldRules.Coupled.{is_coupled, is_mismarked, is_total, takes_two}
+use Rattle.line_rules.specs.FieldRules.Fields.{fields_of}
 use Rattle.chart_rules.specs.declared.rule.Rule.{Rule}
 use Rattle.chart_rules.specs.declared.rule.Rule.TheVariants as rule
 use Rattle.chart_rules.specs.Rules.{breaks_at, Broken, by_line, by_end, IsKept, IsLawful}

@@ -8,7 +8,7 @@ use Rattle.charts.specs.declared.level.ControlLevel.TheVariants as level
 use Rattle.charts.specs.declared.statement.Field.{Field}
 use Rattle.charts.specs.declared.statement.Statement.{Statement}
 use Rattle.charts.specs.declared.statement.Statement.TheVariants as says
-use Rattle.field_rules.specs.Fields.{field_named}
+use Rattle.line_rules.specs.FieldRules.Fields.{field_named}
 use Rattle.chart_rules.specs.declared.controls.Controls.{Controls}
 
 -- the control field that a line of a chart names for a level, if it does

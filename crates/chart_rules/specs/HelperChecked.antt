@@ -2,7 +2,7 @@
 use Rattle.std.specs.Prelude.{◌≡◌, List, length}
 use Rattle.charts.specs.Chart.{Chart}
 use Rattle.charts.specs.declared.statement.Field.{Field}
-use Rattle.field_rules.specs.Fields.{fields_of}
+use Rattle.line_rules.specs.FieldRules.Fields.{fields_of}
 use Rattle.chart_rules.specs.Controls.{AreControlsOf}
 use Rattle.chart_rules.specs.HelperAmounts.{AreAmountsMarked}
 use Rattle.chart_rules.specs.HelperTexts.{AreMarked}

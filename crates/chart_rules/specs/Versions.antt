@@ -4,8 +4,8 @@ use Rattle.std.specs.List.{Contains}
 use Rattle.charts.specs.Chart.{Chart}
 use Rattle.charts.specs.declared.chart.Line.{Line}
 use Rattle.charts.specs.declared.chart.Version.TheVariants.{First, Second}
-use Rattle.field_rules.specs.Coupled.{is_coupled, takes_two}
-use Rattle.field_rules.specs.Fields.{fields_of}
+use Rattle.line_rules.specs.FieldRules.Coupled.{is_coupled, takes_two}
+use Rattle.line_rules.specs.FieldRules.Fields.{fields_of}
 use Rattle.chart_rules.specs.Rules.{IsLawful}
 
 -- the chart of version 1 of some lines and the number of END

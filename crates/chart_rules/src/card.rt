@@ -3,7 +3,7 @@
 ghost use Rattle.std.specs.List.{list_any};
 ghost use Rattle.std.specs.Prelude.{◌≡◌, ◌==◌, ◌+◌, ◌<◌, ◌≤◌, ◌↔◌, ℕ, IsTrue, IsOk, IfErr, length, true};
 ghost use Rattle.card_code.specs.CardCode.{deck_character};
-ghost use Rattle.field_rules.specs.Fields.{fields_of};
+ghost use Rattle.line_rules.specs.FieldRules.Fields.{fields_of};
 ghost use Rattle.charts.specs.Field.{decimals_of, sign_column};
 ghost use Rattle.chart_rules.specs.HelperOnCard.{IsOnCard, AreOnCard};
 ghost use Rattle.chart_rules.specs.ValidCard as valid;

@@ -4,8 +4,8 @@ use crate::amounts::AmountColumns;
 use crate::controls::Controls;
 use crate::texts::TextColumns;
 use charts::{ControlLevel, Field, Line, Name, RawChart, Statement, Version};
-use field_rules::first_named;
-use print_rules::Item;
+use line_rules::field_rules::first_named;
+use line_rules::print_rules::Item;
 use std::marker::Model;
 
 /// A planning chart that breaks no rule.
@@ -48,8 +48,8 @@ impl Chart {
     ghost use Rattle.std.specs.Prelude.{◌≡◌, length};
     ghost use Rattle.charts.specs.Chart.{NumbersRise};
     ghost use Rattle.charts.specs.Levels.{control_number};
-    ghost use Rattle.field_rules.specs.Fields.{fields_of, field_named};
-    ghost use Rattle.print_rules.specs.Items.{item_of};
+    ghost use Rattle.line_rules.specs.FieldRules.Fields.{fields_of, field_named};
+    ghost use Rattle.line_rules.specs.PrintRules.Items.{item_of};
     ghost use Rattle.chart_rules.specs.Controls.{AreControlsOf, controls_of};
     ghost use Rattle.chart_rules.specs.HelperAmounts.{AreAmountsMarked};
     ghost use Rattle.chart_rules.specs.HelperTexts.{AreMarked};

@@ -2,7 +2,7 @@
 
 ghost use Rattle.std.specs.Prelude.{◌≡◌, ◌≢◌, ◌<◌, ◌≤◌, ◌++◌, ℕ, List, Some, length, slice_get, MatchOption, IfSome, IfNone, IfOk, IfErr, OnOk};
 ghost use Rattle.charts.specs.declared.statement.Field.{Field};
-ghost use Rattle.field_rules.specs.Fields.{fields_of};
+ghost use Rattle.line_rules.specs.FieldRules.Fields.{fields_of};
 ghost use Rattle.chart_rules.specs.RuleFaults.{IsTold};
 ghost use Rattle.chart_rules.specs.Rules as law;
 ghost use Rattle.chart_rules.specs.HelperOrder as order;
@@ -12,12 +12,12 @@ use crate::controls::Controls;
 use crate::fault::RuleFault;
 use crate::rule::Rule;
 use charts::{Line, RawChart};
-use field_rules::{
+use line_rules::field_rules::{
     Fields, breaks_amount_size, breaks_columns, breaks_coupled_mark, breaks_digits_range,
     breaks_digits_shrink, breaks_line_twice, breaks_name_twice, breaks_no_control,
     breaks_total_text_not_control, breaks_unknown_name, breaks_wrong_kind,
 };
-use print_rules::{
+use line_rules::print_rules::{
     breaks_form, breaks_mark_mismatch, breaks_print_kind, breaks_tape, breaks_wheel_clash,
     breaks_wheel_overlap, breaks_wheel_range, lacks_form, lacks_print,
 };

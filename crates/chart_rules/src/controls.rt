@@ -3,11 +3,11 @@
 ghost use Rattle.std.specs.Prelude.{◌≡◌, IfOk, List};
 ghost use Rattle.charts.specs.declared.chart.Line.{Line};
 ghost use Rattle.charts.specs.Levels.{control_number};
-ghost use Rattle.field_rules.specs.Fields.{fields_of};
+ghost use Rattle.line_rules.specs.FieldRules.Fields.{fields_of};
 ghost use Rattle.chart_rules.specs.Controls.{control_on, controls_of};
 
 use charts::{ControlLevel, Field, Line, Statement};
-use field_rules::Fields;
+use line_rules::field_rules::Fields;
 use std::alloc::{AllocError, Global};
 
 /// The control fields of a chart, those of each level in the order of their lines. They are looked up once, since each two cards of a
@@ -21,7 +21,7 @@ pub(crate) struct Controls {
 
 impl Controls {
     ghost use Rattle.std.specs.Prelude.{◌≡◌, IfOk};
-    ghost use Rattle.field_rules.specs.Fields.{fields_of};
+    ghost use Rattle.line_rules.specs.FieldRules.Fields.{fields_of};
     ghost use Rattle.chart_rules.specs.Controls.{AreControlsOf, kept_for};
 
     /// The control fields that some lines name. It allocates, and fails only where memory is refused.

@@ -6,7 +6,7 @@ use Rattle.card_code.specs.Deck.{HasLineFault, IsCardOf, IsOddColumn}
 use Rattle.card_code.specs.declared.deck.DeckFault.{DeckFault}
 use Rattle.card_code.specs.declared.deck.DeckFault.TheVariants as text
 use Rattle.chart_rules.proofs.OneFault.{cards_have_one_fault}
-use Rattle.chart_rules.specs.Below.field_rules.Fields.{fields_of}
+use Rattle.chart_rules.specs.Below.line_rules.FieldRules.Fields.{fields_of}
 use Rattle.chart_rules.specs.ValidCard.{IsFirstInvalid}
 use Rattle.chart_rules.specs.declared.card.CardFault.{CardFault}
 use Rattle.chart_rules.specs.declared.card.CardFault.TheVariants as card

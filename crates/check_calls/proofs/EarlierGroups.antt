@@ -3,11 +3,11 @@ use Rattle.std.proofs.Common.{◌≡◌, ◌∙◌, refl, sym, ap, ℕ, ◌+◌,
 use Rattle.compile407.specs.Below.charts.declared.chart.Line.{Line}
 use Rattle.compile407.specs.Below.report.Breaks.{cleared, ended_after, taking}
 use Rattle.compile407.specs.Below.report.Misfits.{Misfit, misfits}
-use Rattle.decks.proofs.FitSoFar.{groups-more, last-more}
-use Rattle.decks.proofs.Misfits.{misfits_of_cards}
-use Rattle.decks.specs.CardMisfits.{misfits_from, misfits_to}
-use Rattle.decks.specs.FitSoFar.{FitSoFar, groups_before, misfits_of_last}
-use Rattle.decks.specs.Stands.{Stand, at_first, last_of, stand_after, stand_before}
+use Rattle.report.proofs.FollowedDecks.FitSoFar.{groups-more, last-more}
+use Rattle.report.proofs.FollowedDecks.Misfits.{misfits_of_cards}
+use Rattle.report.specs.FollowedDecks.CardMisfits.{misfits_from, misfits_to}
+use Rattle.report.specs.FollowedDecks.FitSoFar.{FitSoFar, groups_before, misfits_of_last}
+use Rattle.report.specs.FollowedDecks.Stands.{Stand, at_first, last_of, stand_after, stand_before}
 
 -- where two lists before a list leave it as it is, they are empty
 none_before : {X : Type 0} (one other rest : List X) → one ++ (other ++ rest) ≡ rest → (one ≡ []) × (other ≡ [])

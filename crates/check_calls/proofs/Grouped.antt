@@ -20,7 +20,7 @@ use Rattle.faults.specs.declared.chart.ChartFault.{ChartFault}
 use Rattle.faults.specs.declared.chart.ChartFault.TheVariants as chart
 use Rattle.faults.specs.declared.fault.Fault.{Fault}
 use Rattle.faults.specs.declared.fault.Fault.TheVariants as fault
-use Rattle.key_returns.specs.Words.{returns_told}
+use Rattle.deck_notes.specs.KeyReturns.Words.{returns_told}
 
 -- the text of a deck of which nothing is told
 pub deck_text : (chart : Chart) (deck : List ℕ) (old new : Option (List ℕ)) → WritesFine chart (Some deck) old new → IsDeckText deck

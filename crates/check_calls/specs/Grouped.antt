@@ -11,7 +11,7 @@ use Rattle.commands.specs.Refusals.{RefusesChart}
 use Rattle.compile407.specs.Compilation.{Compilation}
 use Rattle.faults.specs.declared.fault.Fault.{Fault}
 use Rattle.faults.specs.declared.fault.Fault.TheVariants as fault
-use Rattle.key_returns.specs.Words.{returns_told}
+use Rattle.deck_notes.specs.KeyReturns.Words.{returns_told}
 
 -- what is told of the cards of a deck: which there are, and the keys that come back
 abbrev pub grouped_told : Chart → (cards : List (List ℕ)) → List ℕ

@@ -5,7 +5,7 @@ use Rattle.card_code.specs.Deck.{Deck}
 use Rattle.charts.specs.Chart.{Chart}
 use Rattle.commands.specs.Answers.{CompilesAs}
 use Rattle.compile407.specs.Compilation.{Compilation}
-use Rattle.misfit_totals.specs.Large.{large_told}
+use Rattle.deck_notes.specs.MisfitTotals.Large.{large_told}
 
 -- This is told of all totals of the deck's groups that are too large.
 pub record TellsTotals (chart : Chart) (deck text : List ℕ) : Type 0 where

@@ -5,14 +5,14 @@ ghost use Rattle.card_code.specs.Deck.{Deck, IsDeckText};
 ghost use Rattle.check_calls.specs.Grouped.{EndsGrouped, PrintsGrouped, StopsGrouped, WritesGrouped};
 ghost use Rattle.faults.specs.Lines.{IsTold};
 ghost use Rattle.faults.specs.Status.{status_of};
-ghost use Rattle.key_returns.specs.Words.{returns_told};
+ghost use Rattle.deck_notes.specs.KeyReturns.Words.{returns_told};
 
 use crate::deck_checks::{check_cards, put};
 use card_code::read_deck;
 use chart_rules::Chart;
 use compile407::compile;
+use deck_notes::key_returns::{key_returns, write_returns};
 use faults::{Ending, Fault, tell, unprinted};
-use key_returns::{key_returns, write_returns};
 use program_io::read_whole;
 use std::alloc::Global;
 use std::io::{Read, Write};

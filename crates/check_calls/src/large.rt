@@ -7,8 +7,8 @@ use crate::deck_checks::put;
 use card_code::{Card, DeckFault, read_deck};
 use chart_rules::{Chart, valid_card};
 use compile407::compile;
+use deck_notes::misfit_totals::write_large_totals;
 use faults::{Fault, unprinted};
-use misfit_totals::write_large_totals;
 use std::alloc::Global;
 use std::io::Write;
 

@@ -5,7 +5,7 @@ use Rattle.chart_rules.specs.Below.charts.Chart.{Chart}
 use Rattle.faults.proofs.Below.chart_text.ChartGrammar.{one_chart}
 use Rattle.compile407.proofs.Exclusions.{compiled_texts_have_no_fault, runnable_decks_have_no_fault}
 use Rattle.compile407.specs.RunFaults.{HasRunFault}
-use Rattle.wire_chart.proofs.Below.wiring_reader.Answered.{no_fault}
+use Rattle.wire_chart.proofs.Below.wiring_text.WiringReader.Answered.{no_fault}
 use Rattle.commands.specs.Answers.{ArePagesOf, AreReplayedPages, Compiles}
 use Rattle.commands.specs.Laws.{AnsweredTextsAreNotRefused}
 use Rattle.commands.specs.Refusals.{RefusesChart, RefusesReplay, RefusesRun, cards, chart, punches, wires}

@@ -6,7 +6,7 @@ use Rattle.commands.specs.Answers.{AreReplayedPages}
 use Rattle.commands.specs.Served.{PrintsFront, PrintsReplay}
 use Rattle.machine.specs.Runs.{MachineLines}
 use Rattle.page_text.specs.Pages.{Pages}
-use Rattle.page_text.specs.Below.placed_lines.declared.placed_line.PlacedLine.{PlacedLine}
+use Rattle.page_text.specs.declared.placed_lines.placed_line.PlacedLine.{PlacedLine}
 use Rattle.commands.specs.DeckReplays.Replays.{GainsFront, GainsPages}
 use Rattle.setups.specs.Wiring.{Wiring}
 use Rattle.wire_chart.specs.Below.wiring_text.WiringText.{ReadsAs}

@@ -4,7 +4,7 @@ use Rattle.std.specs.Prelude.{IfErr}
 use Rattle.setups.specs.Tapes.{has_stop}
 use Rattle.setups.specs.Wiring.{Wiring, is_plugged}
 use Rattle.wire_chart.specs.WrittenText.{IsWrittenIn}
-use Rattle.wire_chart.proofs.Below.wiring_reader.Answered.{one_setup}
+use Rattle.wire_chart.proofs.Below.wiring_text.WiringReader.Answered.{one_setup}
 use Rattle.wire_chart.specs.Below.wiring_text.WiringFaults as wiring_faults
 use Rattle.wire_chart.specs.Below.wiring_text.WiringText.{IsSameSetup, IsSetupOf, ReadsAs}
 use Rattle.wire_chart.specs.Below.wiring_text.declared.fault.WiringFault.{WiringFault}

@@ -6,7 +6,7 @@ use Rattle.compile407.specs.Compilation.{Compilation, IsCompiled}
 use Rattle.compile407.specs.Runnable.{IsRunnable}
 use Rattle.machine.specs.Runs.{MachineLines}
 use Rattle.page_text.specs.Pages.{Pages}
-use Rattle.page_text.specs.Below.placed_lines.declared.placed_line.PlacedLine.{PlacedLine}
+use Rattle.page_text.specs.declared.placed_lines.placed_line.PlacedLine.{PlacedLine}
 use Rattle.compile407.specs.Below.report.Report.{Report}
 use Rattle.setups.specs.Wiring.{Wiring}
 use Rattle.wire_chart.specs.WrittenText.{IsWritten, IsWrittenIn}

@@ -3,7 +3,7 @@ use Rattle.std.proofs.Common.{◌≡◌, ◌∙◌, ℕ, ◌≤◌, List, ◌∷
 use Rattle.std.specs.List.{All}
 use Rattle.card_code.specs.MostCards.{most_cards}
 use Rattle.plans.specs.Plans.{Lists, ServesChart}
-use Rattle.page_text.specs.Below.placed_lines.declared.placed_line.PlacedLine.{PlacedLine}
+use Rattle.page_text.specs.declared.placed_lines.placed_line.PlacedLine.{PlacedLine}
 use Rattle.chart_rules.specs.Rules.{IsLawful}
 use Rattle.chart_rules.specs.ValidCard.{IsValidCard}
 use Rattle.printed_reports.proofs.Begun.{machines_begin_reports}
@@ -21,8 +21,8 @@ use Rattle.page_text.specs.Pages.{Pages}
 use Rattle.misfits.specs.Below.report.ChartForm.{form_of}
 use Rattle.misfits.specs.Below.report.Report.{report_lines}
 use Rattle.misfits.specs.Below.report.Totals.{Fits}
-use Rattle.wiring_reader.proofs.Answered.{one_setup}
-use Rattle.wiring_reader.specs.Below.wiring_text.WiringText.{IsSameSetup, ReadsAs}
+use Rattle.wiring_text.proofs.WiringReader.Answered.{one_setup}
+use Rattle.wiring_text.specs.WiringText.{IsSameSetup, ReadsAs}
 use Rattle.printed_reports.specs.Below.wiring_table.WiredFor.{WiredFor}
 use Rattle.compile407.specs.Compilation.{Compilation, IsCompiled}
 use Rattle.streamed_runs.specs.PrintPromises.Promises.{IsDeck}

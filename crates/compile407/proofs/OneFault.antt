@@ -18,7 +18,7 @@ use Rattle.chart_text.specs.TextFaults.{HasTextFault}
 use Rattle.chart_text.specs.declared.fault.TextFault.{TextFault}
 use Rattle.chart_text.specs.declared.fault.TextFault.TheVariants as text
 use Rattle.chart_rules.proofs.OneFault as rules
-use Rattle.chart_rules.specs.Below.field_rules.Fields.{fields_of}
+use Rattle.chart_rules.specs.Below.line_rules.FieldRules.Fields.{fields_of}
 use Rattle.chart_rules.specs.RuleFaults.{IsTold}
 use Rattle.chart_rules.specs.Rules.{IsKept, IsLawful}
 use Rattle.chart_rules.specs.ValidCard.{IsFirstInvalid, IsValidCard}

@@ -1,7 +1,7 @@
 -- The headline: the pages that the machine prints, wired for a chart, are the chart's report of the deck.
 use Rattle.std.specs.Prelude.{ℕ, List}
 use Rattle.plans.specs.Plans.{Lists, ServesChart}
-use Rattle.page_text.specs.Below.placed_lines.declared.placed_line.PlacedLine.{PlacedLine}
+use Rattle.page_text.specs.declared.placed_lines.placed_line.PlacedLine.{PlacedLine}
 use Rattle.chart_rules.specs.Rules.{IsLawful}
 use Rattle.chart_text.specs.Below.charts.Chart.{Chart, NumbersRise}
 use Rattle.chart_text.specs.Below.charts.Literals.{HaveLiteralTexts}
@@ -9,7 +9,7 @@ use Rattle.streamed_runs.specs.PrintPromises.Promises.{BeginsReport, PrintsRepor
 use Rattle.setups.specs.Tapes.{IsCarriageTape}
 use Rattle.setups.specs.Wiring.{Wiring}
 use Rattle.machine.specs.Runs.{MachineLines}
-use Rattle.wiring_reader.specs.Below.wiring_text.WiringText.{ReadsAs}
+use Rattle.wiring_text.specs.WiringText.{ReadsAs}
 use Rattle.printed_reports.specs.Below.wiring_table.WiredFor.{WiredFor}
 
 -- A chart that breaks no rule; as in every chart that is read, the numbers of its lines rise and its literals are print characters.

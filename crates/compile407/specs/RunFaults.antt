@@ -2,7 +2,7 @@
 use Rattle.std.specs.Prelude.{◌≡◌, ℕ, ◌+◌, ◌<◌, ◌≤◌, List, Some, length, take, slice_get, All}
 use Rattle.card_code.specs.MostCards.{most_cards}
 use Rattle.chart_text.specs.Below.charts.Chart.{Chart}
-use Rattle.chart_rules.specs.Below.field_rules.Fields.{fields_of}
+use Rattle.chart_rules.specs.Below.line_rules.FieldRules.Fields.{fields_of}
 use Rattle.chart_rules.specs.ValidCard.{IsValidCard, IsFirstInvalid}
 use Rattle.chart_rules.specs.declared.card.CardFault.{CardFault}
 use Rattle.misfits.specs.Below.report.Misfits.{Misfit, first_of, misfits}

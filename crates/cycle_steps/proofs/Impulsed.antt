@@ -7,7 +7,7 @@ use Rattle.hubs.specs.declared.hub.Hub.{Hub}
 use Rattle.machine.specs.declared.kept.KeptPoint.{KeptPoint}
 use Rattle.net.specs.HubSets.{has_hub}
 use Rattle.net.specs.Impulsed.{IsPicture}
-use Rattle.panel_drawing.specs.declared.drawing.PanelWire.{PanelWire}
+use Rattle.drawings.specs.declared.panel_drawing.drawing.PanelWire.{PanelWire}
 use Rattle.setups.specs.Wiring.{Wiring}
 use Rattle.cycle_steps.specs.Live.{AreLive, leaves_any}
 

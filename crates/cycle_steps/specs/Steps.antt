@@ -8,8 +8,8 @@ use Rattle.machine.specs.declared.kept.KeptPoint.{KeptPoint}
 use Rattle.markup.specs.Pieces.{EachText}
 use Rattle.page_sections.specs.ReportSheets.Sheets.{row_name}
 use Rattle.page_sections.specs.WheelSections.Sections.{section_close}
-use Rattle.panel_drawing.specs.Drawing.{picture_open, way_curve}
-use Rattle.panel_drawing.specs.declared.drawing.PanelWire.{PanelWire}
+use Rattle.drawings.specs.PanelDrawing.Drawing.{picture_open, way_curve}
+use Rattle.drawings.specs.declared.panel_drawing.drawing.PanelWire.{PanelWire}
 use Rattle.setups.specs.Wiring.{Wiring}
 use Rattle.cycle_steps.specs.Live.{AreLive}
 

@@ -7,9 +7,9 @@ ghost use Rattle.std.specs.List.{filter};
 ghost use Rattle.net.specs.HubSets.{has_hub};
 ghost use Rattle.cycle_steps.specs.Live.{AreLive, leaves_any};
 
+use drawings::panel_drawing::PanelWire;
 use machine::KeptPoint;
 use net::{Net, Picture};
-use panel_drawing::PanelWire;
 use std::alloc::{AllocError, Global};
 
 // Of some wires those that leave a hub of a picture.

@@ -10,12 +10,12 @@ ghost use Rattle.setups.specs.Wiring.{Wiring};
 ghost use Rattle.cycle_steps.specs.Steps.{IsStep, IsStepSection, back_text, counted_wires, link_name, link_words, links_close, links_open, links_text, named_point, open_step, point_name, quiet_step, section_head, section_name, section_open, some_links, step_link, step_open, step_picture, step_text, steps_close, wire_curve, wire_word};
 
 use crate::live::live_wires;
+use drawings::panel_drawing::{PanelWire, write_picture_open, write_way};
 use explanations::FoundLine;
 use machine::KeptPoint;
 use net::Net;
 use numerals::{push_between, push_number, push_numbered};
 use page_sections::report_sheets::write_row_name;
-use panel_drawing::{PanelWire, write_picture_open, write_way};
 use setups::Setup;
 use std::alloc::{AllocError, Global};
 

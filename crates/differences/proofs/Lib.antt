@@ -6,3 +6,4 @@ mod Counts
 mod Counting
 mod Same
 mod Joined
+pub mod PanelProgress

@@ -1,3 +1,4 @@
 pub mod Differences
 pub mod Helper
 pub mod HelperSizes
+pub mod PanelProgress

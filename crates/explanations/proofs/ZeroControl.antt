@@ -9,8 +9,8 @@ use Rattle.hubs.specs.declared.hub.Hub.{Hub}
 use Rattle.hubs.specs.declared.jack.Jack.TheVariants.{Link}
 use Rattle.net.specs.declared.cycle.Cycle.{Cycle}
 use Rattle.net.specs.declared.cycle.Point.{Point}
-use Rattle.placed_lines.specs.Lines.{line_at}
-use Rattle.placed_lines.specs.declared.placed_line.PlacedLine.{PlacedLine}
+use Rattle.page_text.specs.PlacedLines.Lines.{line_at}
+use Rattle.page_text.specs.declared.placed_lines.placed_line.PlacedLine.{PlacedLine}
 use Rattle.setups.specs.Wiring.{Wiring, is_plugged}
 use Rattle.print_unit.specs.Laws.{IsZeroControlled, no_wheel, wheel_at_place}
 use Rattle.print_unit.specs.ZeroControl.{Wheel, character_of, has_zero_control, is_figure, printed_line, shown}

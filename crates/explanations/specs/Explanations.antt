@@ -4,7 +4,7 @@ use Rattle.std.specs.declared.alloc.Global.{Global}
 use Rattle.card_code.specs.Rows.{rows}
 use Rattle.card_code.specs.declared.row.Row.{Row as CardRow}
 use Rattle.card_code.specs.declared.row.Row.TheVariants.{Nine}
-use Rattle.placed_lines.specs.declared.placed_line.PlacedLine.{PlacedLine}
+use Rattle.page_text.specs.declared.placed_lines.placed_line.PlacedLine.{PlacedLine}
 use Rattle.hubs.specs.declared.hub.Hub.{Hub}
 use Rattle.hubs.specs.declared.hub.Hub.TheVariants.{W}
 use Rattle.hubs.specs.declared.jack.Jack.TheVariants.{Link}

@@ -1,7 +1,7 @@
 -- The lines that a run over a deck places on a page, each with its cycle.
 use Rattle.std.specs.Prelude.{◌≡◌, ℕ, List, All, map}
 use Rattle.std.specs.List.{AllZip, filter}
-use Rattle.placed_lines.specs.declared.placed_line.PlacedLine.{PlacedLine}
+use Rattle.page_text.specs.declared.placed_lines.placed_line.PlacedLine.{PlacedLine}
 use Rattle.setups.specs.Wiring.{Wiring}
 use Rattle.machine.specs.Kept.{is_on}
 use Rattle.machine.specs.Runs.{MachineLines}

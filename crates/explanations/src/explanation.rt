@@ -14,7 +14,7 @@ use crate::significance::{Significance, significance_of};
 use card_code::Card;
 use hubs::Hub;
 use net::Cycle;
-use placed_lines::PlacedLine;
+use page_text::placed_lines::PlacedLine;
 use setups::Setup;
 use std::alloc::{AllocError, Global};
 use ways::Ways;

@@ -11,7 +11,7 @@ ghost use Rattle.explanations.specs.PlacedInRun.{IsFound, PrintsLine};
 use crate::found::{FoundLine, find_line};
 use card_code::Card;
 use machine::{KeptCycle, Machine};
-use placed_lines::PlacedLine;
+use page_text::placed_lines::PlacedLine;
 use setups::Setup;
 use std::alloc::{AllocError, Global};
 

@@ -5,8 +5,8 @@ use Rattle.std.specs.Io.KnownBytes.{Appends}
 use Rattle.allocate.specs.Exceeded.{FitsMachine, HasCapacityFault, in_order}
 use Rattle.capacity.specs.Capacities.{standard}
 use Rattle.plans.specs.Below.wanted.Wanted.{wanted_of}
-use Rattle.capacity_faults.specs.AllOver.{AreAllOver}
-use Rattle.capacity_faults.proofs.First.{first_is}
+use Rattle.fault_lists.specs.CapacityFaults.AllOver.{AreAllOver}
+use Rattle.fault_lists.proofs.CapacityFaults.First.{first_is}
 use Rattle.charts.specs.Chart.{Chart}
 use Rattle.chart_faults.specs.Listed.{BeginsAsChecked, ComesBefore, HasAllListed}
 use Rattle.chart_faults.specs.declared.listing.BrokenRule.{BrokenRule}
@@ -19,14 +19,14 @@ use Rattle.chart_text.specs.ChartText.{Reads}
 use Rattle.chart_text.specs.TextFaults.{HasTextFault}
 use Rattle.chart_text.specs.declared.fault.TextFault.{TextFault}
 use Rattle.chart_text.specs.declared.fault.TextFault.TheVariants as text
-use Rattle.fault_words.specs.Entries.{entries_text}
+use Rattle.chart_faults.specs.FaultWords.Entries.{entries_text}
 use Rattle.faults.specs.ChartCauses.{of_rule, of_text}
 use Rattle.faults.specs.Told.{chart_told}
 use Rattle.faults.specs.declared.fault.Fault.{Fault}
 use Rattle.fault_lists.specs.Endings.{AnswersOk, EndsCapacity, EndsListing, HasListed, WritesBehind, WritesText, by_capacity, by_rules, by_text, broken_off}
 use Rattle.fault_lists.specs.CapacityEntries.{capacities_text}
 use Rattle.fault_lists.specs.TextEntries.{text_entry}
-use Rattle.misread_lines.specs.Misread.{AreMisread}
+use Rattle.fault_lists.specs.MisreadLines.Misread.{AreMisread}
 
 -- a fault of a text
 pub text_lists : (source lines : List ℕ) (old new : Option (List ℕ)) (cause : TextFault) (fault : Fault)

@@ -2,3 +2,5 @@ mod Ends
 mod Lefts
 mod Reading
 mod Rests
+pub mod MisreadLines
+pub mod CapacityFaults

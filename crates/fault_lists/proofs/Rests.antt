@@ -11,7 +11,7 @@ use Rattle.chart_text.specs.declared.fault.TextFault.TheVariants as text
 use Rattle.charts.specs.Chart.{Chart}
 use Rattle.fault_lists.specs.Behind.{ListsOwn, TellsOthers, WritesOthers, WritesRest, WritesUnended, by_rules, emptied_lines, ended, is_own, no_end_told, unended, with_end}
 use Rattle.fault_lists.specs.Endings.{TellsBehind, WritesBehind}
-use Rattle.fault_words.specs.Entries.{entries_text}
+use Rattle.chart_faults.specs.FaultWords.Entries.{entries_text}
 
 module _ {U E : Type 0} (result : Result U E) (source : List ℕ) where
   -- the rules that lines break whatever other lines say

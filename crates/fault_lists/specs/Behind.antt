@@ -12,7 +12,7 @@ use Rattle.chart_text.specs.TextFaults.{HasTextFault}
 use Rattle.chart_text.specs.declared.fault.TextFault.TheVariants as text
 use Rattle.charts.specs.Chart.{Chart}
 use Rattle.fault_lists.specs.TextEntries.{no_end_entry}
-use Rattle.fault_words.specs.Entries.{entries_text}
+use Rattle.chart_faults.specs.FaultWords.Entries.{entries_text}
 use Rattle.line_marks.specs.Below.card_code.Deck.{line_at}
 use Rattle.line_marks.specs.Emptied.{emptied}
 use Rattle.line_marks.specs.Spans.{word}

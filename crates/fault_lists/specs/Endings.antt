@@ -4,7 +4,7 @@ use Rattle.std.specs.Io.KnownBytes.{Appends}
 use Rattle.allocate.specs.Exceeded.{FitsMachine, HasCapacityFault, in_order}
 use Rattle.allocate.specs.declared.fault.CapacityFault.{CapacityFault}
 use Rattle.capacity.specs.Capacities.{standard}
-use Rattle.capacity_faults.specs.AllOver.{AreAllOver}
+use Rattle.fault_lists.specs.CapacityFaults.AllOver.{AreAllOver}
 use Rattle.charts.specs.Chart.{Chart}
 use Rattle.plans.specs.Below.wanted.Wanted.{wanted_of}
 use Rattle.chart_faults.specs.Listed.{BeginsAsChecked, ComesBefore, HasAllListed, IsFirstByRule}
@@ -15,8 +15,8 @@ use Rattle.chart_text.specs.ChartText.{Reads}
 use Rattle.chart_text.specs.TextFaults.{HasTextFault}
 use Rattle.chart_text.specs.declared.fault.TextFault.{TextFault}
 use Rattle.chart_text.specs.declared.fault.TextFault.TheVariants as text
-use Rattle.fault_words.specs.Entries.{entries_text}
-use Rattle.misread_lines.specs.Misread.{AreMisread}
+use Rattle.chart_faults.specs.FaultWords.Entries.{entries_text}
+use Rattle.fault_lists.specs.MisreadLines.Misread.{AreMisread}
 use Rattle.faults.specs.ChartCauses.{of_text}
 use Rattle.faults.specs.Told.{capacity_told, chart_told}
 use Rattle.faults.specs.declared.fault.Fault.{Fault}

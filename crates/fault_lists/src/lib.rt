@@ -6,13 +6,18 @@
 //! exceeds, with the lines that ask for it.
 //!
 //! `specs/Endings.antt` says what is listed and told in each case, `Behind.antt` what is listed behind lines of no form, and `TextEntries.antt`
-//! and `CapacityEntries.antt` the entries that `fault_words` doesn't have.
+//! and `CapacityEntries.antt` the entries that `fault_words` of `chart_faults` doesn't have.
+//!
+//! - `misread_lines`: all lines of a chart's text that no form derives
+//! - `capacity_faults`: all capacities of a machine that a chart exceeds
 #![tactic(auto)]
 
 mod behind;
 mod capacities;
+pub mod capacity_faults;
 mod entries;
 mod listing;
+pub mod misread_lines;
 mod rules;
 
 pub use listing::{list_chart, list_chart_to_end};

@@ -15,17 +15,17 @@ ghost use Rattle.fault_lists.specs.Endings.{AnswersOk, EndsCapacity, EndsListing
 
 use crate::behind::list_behind;
 use crate::capacities::{Source, write_capacities};
+use crate::capacity_faults::capacity_faults;
 use crate::entries::write_text_entry;
+use crate::misread_lines::misread_lines;
 use crate::rules::write_rules;
 use allocate::{CapacityFault, allocate};
 use capacity::Profile;
-use capacity_faults::capacity_faults;
 use chart_faults::broken_rules;
 use chart_rules::{Chart, RuleFault, check};
 use chart_text::{TextFault, read_chart};
 use charts::RawChart;
 use faults::{ChartFault, Ending, Fault, tell, unprinted};
-use misread_lines::misread_lines;
 use program_io::put;
 use std::alloc::Global;
 use std::io::Write;

@@ -3,13 +3,13 @@
 ghost use Rattle.std.specs.Prelude.{IfErr, OnOk};
 ghost use Rattle.std.specs.Io.KnownBytes.{Appends};
 ghost use Rattle.fault_lists.specs.Endings.{IsBrokenOff};
-ghost use Rattle.fault_words.specs.Entries.{entries_text};
+ghost use Rattle.chart_faults.specs.FaultWords.Entries.{entries_text};
 
 use chart_faults::BrokenRule;
+use chart_faults::fault_words::write_entries;
 use charts::RawChart;
-use fault_words::write_entries;
 use faults::{Fault, unprinted};
-use field_rules::Fields;
+use line_rules::field_rules::Fields;
 use std::alloc::Global;
 use std::io::Write;
 

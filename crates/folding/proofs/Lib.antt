@@ -1,3 +1,4 @@
 mod Bounds
 mod KeptLines
 mod Punched
+pub mod FoldCalls

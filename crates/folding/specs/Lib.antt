@@ -3,3 +3,4 @@ pub mod Folded
 pub mod Laws
 pub mod Punchable
 pub mod Told
+pub mod FoldCalls

@@ -3,8 +3,8 @@ use Rattle.std.proofs.Common.{◌≡◌, ℕ, ◌+◌, ◌<◌, ◌≤◌, ◌�
 use Rattle.std.proofs.lemmas.Bool.{cases_lt}
 use Rattle.std.proofs.lemmas.Bool.Decides.{nat_tests}
 use Rattle.std.proofs.lemmas.Option.{slice_get_read, get_or_from_slice_get}
-use Rattle.print_rules.specs.Items.{figure_width}
-use Rattle.print_rules.specs.declared.items.Figure.{Figure}
+use Rattle.line_rules.specs.PrintRules.Items.{figure_width}
+use Rattle.line_rules.specs.declared.print_rules.items.Figure.{Figure}
 use Rattle.charts.specs.Levels.{level_number}
 use Rattle.charts.specs.declared.chart.Line.{Line}
 use Rattle.charts.specs.declared.level.Level.{Level}

@@ -1,9 +1,9 @@
 -- The jacks of a line of the chart by its item.
 use Rattle.std.proofs.Common.{◌≡◌, ℕ, List, Some, sym, ap, ◌∙◌, subst}
-use Rattle.print_rules.specs.Below.field_rules.Fields.{fields_of}
-use Rattle.print_rules.specs.Items.{item_of}
-use Rattle.print_rules.specs.declared.items.Figure.{Figure}
-use Rattle.print_rules.specs.declared.items.Item.{Item}
+use Rattle.line_rules.specs.FieldRules.Fields.{fields_of}
+use Rattle.line_rules.specs.PrintRules.Items.{item_of}
+use Rattle.line_rules.specs.declared.print_rules.items.Figure.{Figure}
+use Rattle.line_rules.specs.declared.print_rules.items.Item.{Item}
 use Rattle.charts.specs.declared.chart.Line.{Line}
 use Rattle.charts.specs.declared.statement.Statement.{Statement}
 use Rattle.setups.specs.Wiring.{Wiring}

@@ -13,8 +13,8 @@ use Rattle.charts.specs.declared.statement.Statement.TheVariants as says
 use Rattle.charts.proofs.Listed.{any-listed, any-passing, listed-first, listed-after, listed-cases, listed-none}
 use Rattle.hubs.specs.declared.jack.Jack.{Jack}
 use Rattle.hubs.specs.declared.jack.Jack.TheVariants as jack
-use Rattle.print_rules.specs.Forms.{heading_count, heading_of}
-use Rattle.print_rules.specs.declared.items.Figure.{Figure}
+use Rattle.line_rules.specs.PrintRules.Forms.{heading_count, heading_of}
+use Rattle.line_rules.specs.declared.print_rules.items.Figure.{Figure}
 use Rattle.wiring_table.specs.Below.report.ChartForm.{is_print_detail, is_total_item}
 use Rattle.wiring_table.specs.Jacks.{ChartJack, HasFigure}
 use Rattle.wiring_table.specs.Jacks as chart

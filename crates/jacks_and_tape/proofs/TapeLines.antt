@@ -11,8 +11,8 @@ use Rattle.charts.proofs.Listed.{listed-first, listed-after, listed-cases, liste
 use Rattle.chart_rules.specs.Rules.{IsLawful}
 use Rattle.chart_rules.specs.declared.rule.Rule.TheVariants as rule
 use Rattle.chart_rules.proofs.Laws.{kept-line, said-once}
-use Rattle.print_rules.specs.Below.field_rules.Repeats.{repeats}
-use Rattle.print_rules.specs.Tapes.{are_within, breaks_tape, form_lines, rise_above}
+use Rattle.line_rules.specs.FieldRules.Repeats.{repeats}
+use Rattle.line_rules.specs.PrintRules.Tapes.{are_within, breaks_tape, form_lines, rise_above}
 use Rattle.wiring_table.specs.Below.report.ChartForm.{stops_from, stops_of}
 use Rattle.wiring_table.proofs.Below.report.Said.{SaysTape, tape-said}
 use Rattle.jacks_and_tape.specs.OfLine.{HasLineStop, LineStop}

@@ -1,9 +1,9 @@
 -- A helper of the code: plugging jacks and punching stops step by step.
 use Rattle.std.specs.Prelude.{◌≡◌, ◌↔◌, ◌⊎◌, ℕ, ◌+◌, ◌<◌, ◌≤◌, List, Contains, Some, slice_get, true}
-use Rattle.print_rules.specs.Items.{figure_width, item_of}
-use Rattle.print_rules.specs.Below.field_rules.Fields.{fields_of}
-use Rattle.print_rules.specs.declared.items.Item.{Item}
-use Rattle.print_rules.specs.declared.items.Figure.{Figure}
+use Rattle.line_rules.specs.PrintRules.Items.{figure_width, item_of}
+use Rattle.line_rules.specs.FieldRules.Fields.{fields_of}
+use Rattle.line_rules.specs.declared.print_rules.items.Item.{Item}
+use Rattle.line_rules.specs.declared.print_rules.items.Figure.{Figure}
 use Rattle.charts.specs.declared.chart.Line.{Line}
 use Rattle.charts.specs.declared.statement.Statement.{Statement}
 use Rattle.setups.specs.Tapes.{CarriageTape, IsFormed, IsStop, has_stop}

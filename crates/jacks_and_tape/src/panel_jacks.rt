@@ -1,7 +1,7 @@
 //! The jacks of a chart: which cycles print, and zero control on the wheels of amounts.
 
 ghost use Rattle.std.specs.Prelude.{◌≡◌, ◌+◌, ◌≤◌, ℕ, Some, slice_get, length, true};
-ghost use Rattle.print_rules.specs.Items.{figure_width};
+ghost use Rattle.line_rules.specs.PrintRules.Items.{figure_width};
 ghost use Rattle.hubs.specs.declared.jack.Jack.TheVariants as jack;
 ghost use Rattle.wiring_table.specs.Below.report.ChartForm as form;
 ghost use Rattle.wiring_table.specs.Figures.{mark_wheel, free_digits};
@@ -12,7 +12,7 @@ ghost use Rattle.charts.specs.declared.chart.Line.{Line};
 use chart_rules::{Chart, Figure};
 use charts::{Line, Printing, Statement};
 use hubs::Jack;
-use print_rules::heading_count;
+use line_rules::print_rules::heading_count;
 use setups::Setup;
 
 // Plugs LINK on the wheels from one on and before another.

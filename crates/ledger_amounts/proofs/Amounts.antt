@@ -8,8 +8,8 @@ use Rattle.ledgers.proofs.Places.{comes-to, places-one}
 use Rattle.ledgers.specs.Summaries.{summary_of}
 use Rattle.ledgers.specs.declared.account.Account.{Account}
 use Rattle.ledgers.specs.declared.entry.Entry.{Entry}
-use Rattle.placed_lines.specs.Lines.{line_at}
-use Rattle.placed_lines.specs.declared.placed_line.PlacedLine.{PlacedLine}
+use Rattle.page_text.specs.PlacedLines.Lines.{line_at}
+use Rattle.page_text.specs.declared.placed_lines.placed_line.PlacedLine.{PlacedLine}
 use Rattle.charts.proofs.Listed.{any-listed}
 use Rattle.charts.specs.Levels.{level_number as chart_level}
 use Rattle.charts.specs.declared.chart.Line.{Line}
@@ -28,7 +28,7 @@ use Rattle.net.specs.declared.cycle.Cycle.TheVariants.{RunIn, Card, Prog, Head}
 use Rattle.net.specs.declared.cycle.Ordinal.TheVariants.{First, Second, Third}
 use Rattle.net.specs.declared.cycle.ProgramLevel.{ProgramLevel}
 use Rattle.net.specs.declared.cycle.ProgramLevel.TheVariants.{Minor, Intermediate, Major, Final}
-use Rattle.panel_cycles.proofs.AmountFacts.{has_it, total_level}
+use Rattle.wired_panels.proofs.CycleAsks.AmountFacts.{has_it, total_level}
 use Rattle.printed_reports.specs.Content.{held}
 use Rattle.program_unit.specs.CycleOrder.{cycle_after, has_level_left, level_above, next_cycle}
 use Rattle.report.specs.Breaks.{cleared, taking}

@@ -19,13 +19,13 @@ use Rattle.machine.specs.Machine.{MachineState, ended}
 use Rattle.net.specs.declared.cycle.Cycle.{Cycle}
 use Rattle.net.specs.declared.cycle.Cycle.TheVariants.{RunIn, Card, Prog, Head}
 use Rattle.net.specs.declared.cycle.Point.TheVariants.{K}
-use Rattle.panel_cycles.proofs.AmountFacts.{counter_at as counter_there, total_level}
-use Rattle.panel_cycles.proofs.AmountsLawful.{lawful_amount}
-use Rattle.panel_cycles.proofs.CounterAsks.{asks_card, asks_heading, asks_run_in, asks_step}
-use Rattle.panel_cycles.proofs.Rings.{fed_lower, fed_single, fed_upper, goes_through}
-use Rattle.panel_cycles.proofs.WheelRowsUnits.{group-named}
-use Rattle.panel_cycles.specs.ChartAmounts.{amount_of, positions_of, total_counter}
-use Rattle.panel_cycles.specs.CounterStates.{AsksCounter, held_in, number_held}
+use Rattle.wired_panels.proofs.CycleAsks.AmountFacts.{counter_at as counter_there, total_level}
+use Rattle.wired_panels.proofs.CycleAsks.AmountsLawful.{lawful_amount}
+use Rattle.wired_panels.proofs.CycleAsks.CounterAsks.{asks_card, asks_heading, asks_run_in, asks_step}
+use Rattle.wired_panels.proofs.CycleAsks.Rings.{fed_lower, fed_single, fed_upper, goes_through}
+use Rattle.wired_panels.proofs.CycleAsks.WheelRowsUnits.{group-named}
+use Rattle.wired_panels.specs.CycleAsks.ChartAmounts.{amount_of, positions_of, total_counter}
+use Rattle.wired_panels.specs.CycleAsks.CounterStates.{AsksCounter, held_in, number_held}
 use Rattle.plans.specs.Plans.{Lists}
 use Rattle.plans.specs.declared.counter.TotalCounter.{TotalCounter}
 use Rattle.plans.specs.declared.counter.TotalCounter.TheVariants as of

@@ -7,11 +7,11 @@ use Rattle.std.proofs.lemmas.List.Elements.{All-head, All-tail}
 use Rattle.chart_rules.specs.ValidCard.{IsValidCard}
 use Rattle.charts.specs.Chart.{Chart}
 use Rattle.charts.specs.declared.chart.Line.{Line}
-use Rattle.decks.proofs.Alike.{alike-after, alike-first}
-use Rattle.decks.proofs.FirstMisfits.{fit_before_first}
-use Rattle.decks.specs.Alike.{AlikeWith}
-use Rattle.decks.specs.CardMisfits.{FitFrom}
-use Rattle.decks.specs.Stands.{Stand, at_first, stand_after}
+use Rattle.report.proofs.FollowedDecks.Alike.{alike-after, alike-first}
+use Rattle.report.proofs.FollowedDecks.FirstMisfits.{fit_before_first}
+use Rattle.report.specs.FollowedDecks.Alike.{AlikeWith}
+use Rattle.report.specs.FollowedDecks.CardMisfits.{FitFrom}
+use Rattle.report.specs.FollowedDecks.Stands.{Stand, at_first, stand_after}
 use Rattle.printed_reports.specs.Goes.{IsDue}
 use Rattle.report.proofs.Fitting.{fit_without_misfits}
 use Rattle.report.proofs.OutlineByCards.{deck_by_cards}

@@ -7,7 +7,7 @@ use Rattle.net.specs.declared.cycle.Ordinal.{Ordinal}
 use Rattle.net.specs.declared.cycle.Ordinal.TheVariants.{First, Second, Third}
 use Rattle.net.specs.declared.cycle.ProgramLevel.{ProgramLevel}
 use Rattle.net.specs.declared.printing.Printing.{Printing}
-use Rattle.panel_cycles.proofs.LinePlaces.DueCycles.{stage_after}
+use Rattle.wired_panels.proofs.CycleAsks.LinePlaces.DueCycles.{stage_after}
 use Rattle.program_unit.specs.CycleOrder.{cycle_after, has_level_left, headed, is_over_at, level_above}
 use Rattle.program_unit.specs.Program.{ProgramState, stage_ended}
 use Rattle.program_unit.specs.declared.stage.Stage.{Stage}

@@ -14,13 +14,13 @@ use Rattle.charts.specs.declared.statement.Statement.TheVariants as says
 use Rattle.counters.proofs.ControlHubs.{unit_of-group_of_unit}
 use Rattle.counters.proofs.Staying.{counters-stay}
 use Rattle.counters.specs.Counters.{group_of_unit}
-use Rattle.field_rules.proofs.Places.{is_same_name-equal}
-use Rattle.field_rules.specs.Fields.{field_named}
+use Rattle.line_rules.proofs.FieldRules.Places.{is_same_name-equal}
+use Rattle.line_rules.specs.FieldRules.Fields.{field_named}
 use Rattle.hubs.specs.declared.hub.Group.{Group}
 use Rattle.ledgers.specs.declared.account.Account.{Account}
 use Rattle.ledgers.specs.declared.account.Account.TheVariants.{One, Coupled}
 use Rattle.net.specs.Panel.{unit_of}
-use Rattle.panel_cycles.proofs.WheelRowsUnits.{group-named}
+use Rattle.wired_panels.proofs.CycleAsks.WheelRowsUnits.{group-named}
 use Rattle.plans.specs.Plans.{Lists, ServesChart}
 use Rattle.plans.specs.declared.counter.TotalCounter.{TotalCounter}
 use Rattle.plans.specs.declared.counter.TotalCounter.TheVariants as of

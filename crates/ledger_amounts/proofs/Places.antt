@@ -2,7 +2,7 @@
 use Rattle.std.proofs.Common.{◌≡◌, ◌∙◌, refl, sym, ap, subst, ℕ, suc, ◌+◌, ◌≤◌, ◌==◌, ◌&&◌, nat_lt, Bool, true, false, List, [], ◌∷◌, ◌++◌, Option, Some, None, is_some, length, arith}
 use Rattle.std.proofs.lemmas.Bool.Decides.{nat_tests}
 use Rattle.std.proofs.lemmas.List.{length-append}
-use Rattle.decks.specs.Stands.{Stand, stand_after}
+use Rattle.report.specs.FollowedDecks.Stands.{Stand, stand_after}
 use Rattle.ledgers.specs.Ledgers.{Along}
 use Rattle.ledgers.specs.declared.entry.Entry.{Entry}
 use Rattle.ledgers.specs.declared.entry.Change.TheVariants.{Turned}
@@ -12,7 +12,7 @@ use Rattle.net.specs.Cycles.{level_number}
 use Rattle.net.specs.declared.cycle.Cycle.TheVariants.{Prog}
 use Rattle.net.specs.declared.cycle.Ordinal.TheVariants.{First, Second}
 use Rattle.net.specs.declared.cycle.ProgramLevel.{ProgramLevel}
-use Rattle.panel_cycles.proofs.LinePlaces.DueCycles.{stage_after}
+use Rattle.wired_panels.proofs.CycleAsks.LinePlaces.DueCycles.{stage_after}
 use Rattle.printed_reports.specs.Content.{AllStand, After, Waits, Within, by_first, by_second, held}
 use Rattle.printed_reports.proofs.Facts.{ShowsTotal}
 use Rattle.totals.specs.Laws.{ready as readied}

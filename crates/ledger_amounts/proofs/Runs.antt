@@ -5,7 +5,7 @@ use Rattle.std.proofs.lemmas.Bool.Decides.{nat_tests}
 use Rattle.std.proofs.lemmas.List.{length-append}
 use Rattle.std.specs.List.{All}
 use Rattle.chart_rules.specs.ValidCard.{IsValidCard}
-use Rattle.decks.specs.Stands.{Stand, at_first}
+use Rattle.report.specs.FollowedDecks.Stands.{Stand, at_first}
 use Rattle.ledgers.specs.Accounts.{movement_of}
 use Rattle.ledgers.specs.Entries.{entry_of, ledger_after}
 use Rattle.ledgers.specs.Ledgers.{Along, Goes, IsLedger, along_after, along_at_start, begun, card_in, more}
@@ -20,9 +20,9 @@ use Rattle.net.specs.declared.cycle.Ordinal.{Ordinal}
 use Rattle.net.specs.declared.cycle.Ordinal.TheVariants.{First, Second, Third}
 use Rattle.net.specs.declared.cycle.ProgramLevel.{ProgramLevel}
 use Rattle.net.specs.declared.cycle.ProgramLevel.TheVariants.{Minor, Intermediate, Major, Final}
-use Rattle.panel_cycles.proofs.AmountsLawful.{amount_on_card}
-use Rattle.panel_cycles.proofs.LinePlaces.CyclesDue.{levels-rise}
-use Rattle.panel_cycles.specs.Below.wired_panels.PanelCycles.{IsCardRead}
+use Rattle.wired_panels.proofs.CycleAsks.AmountsLawful.{amount_on_card}
+use Rattle.wired_panels.proofs.CycleAsks.LinePlaces.CyclesDue.{levels-rise}
+use Rattle.wired_panels.specs.PanelCycles.{IsCardRead}
 use Rattle.printed_reports.proofs.Facts.{IsRead, ShowsTotal}
 use Rattle.printed_reports.proofs.FromCounters.{totals}
 use Rattle.printed_reports.specs.Content.{held, kind_for}

@@ -8,7 +8,7 @@ use Rattle.charts.specs.Literals.{HaveLiteralTexts}
 use Rattle.charts.specs.declared.statement.Field.{Field}
 use Rattle.ledgers.specs.declared.account.Account.{Account}
 use Rattle.ledgers.specs.declared.entry.Entry.{Entry}
-use Rattle.panel_cycles.specs.ChartAmounts.{amount_of}
+use Rattle.wired_panels.specs.CycleAsks.ChartAmounts.{amount_of}
 use Rattle.plans.specs.Plans.{Lists}
 use Rattle.plans.specs.declared.counter.TotalCounter.{TotalCounter}
 use Rattle.report.specs.Breaks.{cleared, taking}

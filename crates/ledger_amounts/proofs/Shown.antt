@@ -7,15 +7,15 @@ use Rattle.chart_rules.specs.ValidCard.{IsValidCard}
 use Rattle.charts.specs.Chart.{Chart, NumbersRise}
 use Rattle.charts.specs.declared.statement.Field.{Field}
 use Rattle.net.specs.declared.cycle.Ordinal.TheVariants.{Second}
-use Rattle.panel_cycles.proofs.AmountsLawful.{lawful_amount}
-use Rattle.panel_cycles.specs.ChartAmounts.{amount_of}
+use Rattle.wired_panels.proofs.CycleAsks.AmountsLawful.{lawful_amount}
+use Rattle.wired_panels.specs.CycleAsks.ChartAmounts.{amount_of}
 use Rattle.plans.specs.Plans.{Lists}
 use Rattle.printed_reports.proofs.Facts.{ShowsTotal}
 use Rattle.printed_reports.proofs.FromCharts.{fits, never_negated}
 use Rattle.printed_reports.proofs.Sums.{group_end, unsigned_total}
 use Rattle.printed_reports.specs.Content.{sums_of}
 use Rattle.printed_reports.specs.Goes.{IsDue}
-use Rattle.decks.specs.Stands.{Stand}
+use Rattle.report.specs.FollowedDecks.Stands.{Stand}
 use Rattle.report.specs.Amounts.{signed}
 use Rattle.report.specs.Breaks.{cleared, ended_after, taking}
 use Rattle.report.specs.Totals.{total_of}

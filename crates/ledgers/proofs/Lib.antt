@@ -8,3 +8,4 @@ pub mod Summaries
 pub mod Running
 pub mod Keeping
 mod InCycle
+pub mod LedgerText

@@ -6,3 +6,4 @@ pub mod Summaries
 pub mod Running
 pub mod Cycles
 pub mod InCycle
+pub mod LedgerText

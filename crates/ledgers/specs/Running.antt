@@ -8,7 +8,7 @@ use Rattle.machine.specs.Runs.{RunsBy}
 use Rattle.machine.specs.Stepped.{Stepped}
 use Rattle.net.specs.Nets.{IsNetOf}
 use Rattle.net.specs.declared.cycle.Cycle.{Cycle}
-use Rattle.placed_lines.specs.declared.placed_line.PlacedLine.{PlacedLine}
+use Rattle.page_text.specs.declared.placed_lines.placed_line.PlacedLine.{PlacedLine}
 use Rattle.setups.specs.Wiring.{Wiring}
 use Rattle.ledgers.specs.Ledgers.{Along, ComesTo, Goes, IsLedger, card_in}
 use Rattle.ledgers.specs.Summaries.{Summary, summary_of}

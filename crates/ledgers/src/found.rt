@@ -11,7 +11,7 @@ use crate::run::{card_in, make_ready, move_on};
 use card_code::Card;
 use machine::SteppedMachine;
 use net::Cycle;
-use placed_lines::PlacedLine;
+use page_text::placed_lines::PlacedLine;
 use setups::Setup;
 use std::alloc::{AllocError, Global};
 

@@ -1,9 +1,11 @@
-//! The ledgers of counter groups: which cycles of a run made the number that a group holds.
+//! The ledgers of counter groups, and their text: which cycles of a run made the number that a group holds.
 //!
 //! An [`Entry`] is a cycle in which something came to a number since it last stood cleared: its card, the number before, what came to it, and the
 //! number after. An [`Account`] is the group, or the two groups, whose number that is. [`find_cycle`] finds the cycle that placed a line,
 //! and [`ledger_before`] answers the [`Ledger`] of an account as that cycle found it. [`machine_in_cycle`] answers the machine in a cycle. Those who follow a run cycle by cycle for something
 //! else begin it by [`move_on`], and before each cycle call [`make_ready`] and [`card_in`].
+//!
+//! - `ledger_text`: the text of a ledger, as a bookkeeper would tell it
 #![tactic(auto)]
 
 mod account;
@@ -13,6 +15,7 @@ mod in_cycle;
 mod kept;
 pub mod laws;
 mod ledger;
+pub mod ledger_text;
 mod numbers;
 mod run;
 

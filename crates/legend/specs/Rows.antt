@@ -1,6 +1,6 @@
 -- The rows of the wiring table by what a line of a chart says, and the sentence of each row.
 use Rattle.std.specs.Prelude.{ℕ, List, Option, Some, None, codes}
-use Rattle.field_rules.specs.Fields.{field_named}
+use Rattle.line_rules.specs.FieldRules.Fields.{field_named}
 use Rattle.charts.specs.declared.chart.Line.{Line}
 use Rattle.charts.specs.declared.spacing.Spacing.TheVariants as spacing
 use Rattle.charts.specs.declared.statement.After.TheVariants as action

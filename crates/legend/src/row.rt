@@ -1,7 +1,7 @@
 //! The rows of the wiring table, and the sentence of each.
 
 ghost use Rattle.std.specs.Prelude.{◌≡◌};
-ghost use Rattle.field_rules.specs.Fields.{field_named};
+ghost use Rattle.line_rules.specs.FieldRules.Fields.{field_named};
 ghost use Rattle.legend.specs.Rows.{detail_row, field_row, kind_named, row_of, sentence, total_row};
 
 use chart_rules::Chart;

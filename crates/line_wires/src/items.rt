@@ -1,7 +1,7 @@
 //! The items of the line of a card.
 
 ghost use Rattle.std.specs.Prelude.{◌≡◌, ◌+◌, ◌≤◌, OnOk};
-ghost use Rattle.wiring_table.specs.Below.print_rules.Items.{mark_shown};
+ghost use Rattle.wiring_table.specs.Below.line_rules.PrintRules.Items.{mark_shown};
 ghost use Rattle.charts.specs.Field.{columns_of, decimals_of};
 ghost use Rattle.wiring_table.specs.Figures as figures;
 ghost use Rattle.line_wires.specs.HelperAdds.{Adds};

@@ -1,6 +1,6 @@
 -- A run over a deck, feed by feed from its start.
 use Rattle.std.proofs.Common.{ℕ, List, [], ◌∷◌, ◌++◌, Some, None, append_assoc, refl, sym, subst, ap, ◌∙◌}
-use Rattle.placed_lines.specs.declared.placed_line.PlacedLine.{PlacedLine}
+use Rattle.page_text.specs.declared.placed_lines.placed_line.PlacedLine.{PlacedLine}
 use Rattle.setups.specs.Wiring.{Wiring}
 use Rattle.net.specs.Nets.{NetRows, IsNetOf}
 use Rattle.machine.specs.Feeds.{Feeds, LinesFrom}

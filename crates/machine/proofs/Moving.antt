@@ -5,9 +5,9 @@ use Rattle.std.proofs.lemmas.Bool.{or_parts}
 use Rattle.carriage.proofs.Descents.{down_by-on_form, down_by-to_next}
 use Rattle.carriage.proofs.StopSteps.{next_stop-tells}
 use Rattle.carriage.specs.Carriage.{CarriageState, carriage_ended, moved, spaced, placed}
-use Rattle.placed_lines.specs.InOrder.{IsAfter, FollowInOrder}
+use Rattle.page_text.specs.PlacedLines.InOrder.{IsAfter, FollowInOrder}
 use Rattle.carriage.specs.Moves.{down_by, next_page, next_stop, skipped, skipped_to, restored, latched, at_first_line}
-use Rattle.placed_lines.specs.declared.placed_line.PlacedLine.{PlacedLine}
+use Rattle.page_text.specs.declared.placed_lines.placed_line.PlacedLine.{PlacedLine}
 use Rattle.carriage.specs.declared.spot.Spot.{Spot}
 use Rattle.setups.specs.Tapes.{CarriageTape, IsCarriageTape}
 use Rattle.net.specs.Printing.{prints}

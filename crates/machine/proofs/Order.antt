@@ -1,8 +1,8 @@
 -- The lines of a run come in the order of their places.
 use Rattle.std.proofs.Common.{◌≡◌, ℕ, suc, ◌+◌, ◌^◌, ◌≤◌, ◌⊎◌, inl, inr, ⊎_elim, Bool, true, false, ◌&&◌, List, [], ◌∷◌, ◌++◌, Option, Some, None, length, if◌then◌else◌, refl, sym, ap, ◌∙◌, subst, arith}
 use Rattle.carriage.specs.Carriage.{CarriageState, carriage_ended}
-use Rattle.placed_lines.specs.InOrder.{FollowInOrder, IsInOrder}
-use Rattle.placed_lines.specs.declared.placed_line.PlacedLine.{PlacedLine}
+use Rattle.page_text.specs.PlacedLines.InOrder.{FollowInOrder, IsInOrder}
+use Rattle.page_text.specs.declared.placed_lines.placed_line.PlacedLine.{PlacedLine}
 use Rattle.setups.specs.Tapes.{CarriageTape, IsCarriageTape}
 use Rattle.setups.specs.Wiring.{Wiring}
 use Rattle.net.specs.Printing.{prints}

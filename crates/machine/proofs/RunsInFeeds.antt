@@ -1,6 +1,6 @@
 -- A run is cut by feeds: both place the same lines.
 use Rattle.std.proofs.Common.{ℕ, List, subst}
-use Rattle.placed_lines.specs.declared.placed_line.PlacedLine.{PlacedLine}
+use Rattle.page_text.specs.declared.placed_lines.placed_line.PlacedLine.{PlacedLine}
 use Rattle.setups.specs.Wiring.{Wiring}
 use Rattle.machine.specs.Feeds.{LinesFrom}
 use Rattle.machine.specs.Laws.{FeedsCutRuns}

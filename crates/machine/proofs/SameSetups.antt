@@ -2,7 +2,7 @@
 use Rattle.std.proofs.Common.{◌≡◌, ℕ, zero, suc, inl, inr, Bool, true, false, List, [], ◌∷◌, None, map, replicate, sym, subst}
 use Rattle.std.specs.List.{range_with_len}
 use Rattle.carriage.specs.Asked.{nothing_asked}
-use Rattle.placed_lines.specs.declared.placed_line.PlacedLine.{PlacedLine}
+use Rattle.page_text.specs.declared.placed_lines.placed_line.PlacedLine.{PlacedLine}
 use Rattle.counters.specs.Counters.{counter_at_start}
 use Rattle.setups.proofs.SameTapes.{SameTape-same}
 use Rattle.setups.specs.Tapes.{IsCarriageTape, SameTape}

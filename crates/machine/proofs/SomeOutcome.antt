@@ -1,7 +1,7 @@
 -- A setup and a deck have a run: each point has its picture, each cycle its points, each feed its cycles, and no feed goes on
 -- for ever.
 use Rattle.std.proofs.Common.{◌≡◌, ℕ, zero, suc, ◌≤◌, List, [], ◌∷◌, ◌++◌, Option, Some, None, ◌⊎◌, inl, inr, refl, arith}
-use Rattle.placed_lines.specs.declared.placed_line.PlacedLine.{PlacedLine}
+use Rattle.page_text.specs.declared.placed_lines.placed_line.PlacedLine.{PlacedLine}
 use Rattle.setups.specs.Wiring.{Wiring}
 use Rattle.net.proofs.EachPicture.{each_picture}
 use Rattle.net.specs.declared.cycle.Cycle.{Cycle}

@@ -4,7 +4,7 @@ pub use Rattle.counters.specs as counters
 pub use Rattle.hubs.specs.Below.hub_table
 pub use Rattle.hubs.specs as hubs
 pub use Rattle.net.specs as net
-pub use Rattle.placed_lines.specs as placed_lines
+pub use Rattle.page_text.specs as page_text
 pub use Rattle.print_unit.specs as print_unit
 pub use Rattle.program_unit.specs as program_unit
 pub use Rattle.selectors.specs as selectors

@@ -1,8 +1,8 @@
 -- A cycle of the machine. At each of its fourteen points all units emit by their states, wires and closed contacts make of that
 -- the picture of the impulsed hubs, and all units sense it. After the last point every unit ends the cycle.
 use Rattle.std.specs.Prelude.{◌≡◌, ℕ, zero, suc, Bool, List}
-pub use Rattle.placed_lines.specs.Lines.{line_at}
-use Rattle.placed_lines.specs.declared.placed_line.PlacedLine.{PlacedLine}
+pub use Rattle.page_text.specs.PlacedLines.Lines.{line_at}
+use Rattle.page_text.specs.declared.placed_lines.placed_line.PlacedLine.{PlacedLine}
 use Rattle.setups.specs.Wiring.{Wiring}
 use Rattle.hubs.specs.declared.hub.Hub.{Hub}
 pub use Rattle.net.specs.Cycles.{point_at}

@@ -1,8 +1,8 @@
 -- Laws of whole runs, for every setup of the panel and every deck.
 use Rattle.std.specs.Prelude.{◌≡◌, ℕ, ◌+◌, ◌*◌, ◌≤◌, ◌↔◌, Bool, Option, List, ◌++◌, length}
 use Rattle.card_code.specs.MostCards.{most_cards}
-use Rattle.placed_lines.specs.InOrder.{IsInOrder}
-use Rattle.placed_lines.specs.declared.placed_line.PlacedLine.{PlacedLine}
+use Rattle.page_text.specs.PlacedLines.InOrder.{IsInOrder}
+use Rattle.page_text.specs.declared.placed_lines.placed_line.PlacedLine.{PlacedLine}
 use Rattle.hubs.specs.declared.hub.Hub.{Hub}
 use Rattle.setups.specs.Tapes.{IsCarriageTape, SameTape}
 use Rattle.setups.specs.Wiring.{Wiring, SameWires, SameJacks}

@@ -8,7 +8,7 @@ use crate::lines::{append_placed, placed_line};
 use crate::units::Units;
 use card_code::Row;
 use net::{Cycle, Net, Orders, POINTS, Picture, Point, RowSets};
-use placed_lines::PlacedLine;
+use page_text::placed_lines::PlacedLine;
 use selectors::{steady_contacts, with_carries, with_splits};
 use std::alloc::AllocError;
 

@@ -3,7 +3,7 @@
 use crate::units::Units;
 use card_code::Card;
 use net::{Cycle, Net, RowSets};
-use placed_lines::PlacedLine;
+use page_text::placed_lines::PlacedLine;
 use std::alloc::AllocError;
 
 impl Units {

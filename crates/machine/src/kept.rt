@@ -8,7 +8,7 @@ use crate::groups::nines;
 use crate::units::Units;
 use card_code::Card;
 use net::{Contacts, Cycle, Net, POINTS, Picture, Point};
-use placed_lines::PlacedLine;
+use page_text::placed_lines::PlacedLine;
 use selectors::with_carries;
 use std::alloc::AllocError;
 

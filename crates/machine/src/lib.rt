@@ -28,7 +28,7 @@ pub use groups::groups_at_start;
 pub use kept::{KeptCycle, KeptPoint};
 pub use lines::{append_line, append_placed, placed_line};
 pub use machine::Machine;
-pub use placed_lines::{LINE_WHEELS, PlacedLine};
+pub use page_text::placed_lines::{LINE_WHEELS, PlacedLine};
 pub use rows::end_all;
 pub use run::simulate;
 pub use stepped::SteppedMachine;

@@ -1,10 +1,10 @@
 //! The lines that cycles place.
 
 ghost use Rattle.std.specs.Prelude.{◌≡◌, ◌++◌, OnErr, OnOk, option_to_list};
-ghost use Rattle.placed_lines.specs.Lines.{line_at};
+ghost use Rattle.page_text.specs.PlacedLines.Lines.{line_at};
 
 use carriage::Carriage;
-use placed_lines::PlacedLine;
+use page_text::placed_lines::PlacedLine;
 use print_unit::Wheels;
 use std::alloc::AllocError;
 

@@ -5,7 +5,7 @@ use crate::kept::KeptCycle;
 use crate::units::Units;
 use card_code::{Card, MOST_CARDS};
 use net::{Net, RowSets};
-use placed_lines::PlacedLine;
+use page_text::placed_lines::PlacedLine;
 use setups::Setup;
 use std::alloc::{AllocError, Global};
 use std::marker::Model;

@@ -2,13 +2,13 @@
 
 ghost use Rattle.std.specs.Prelude.{◌≤◌, IfOk, length};
 ghost use Rattle.card_code.specs.MostCards.{most_cards};
-ghost use Rattle.placed_lines.specs.InOrder.{IsInOrder};
+ghost use Rattle.page_text.specs.PlacedLines.InOrder.{IsInOrder};
 ghost use Rattle.machine.specs.Runs.{MachineLines};
 
 use crate::units::Units;
 use card_code::Card;
 use net::{Net, RowSets};
-use placed_lines::PlacedLine;
+use page_text::placed_lines::PlacedLine;
 use setups::Setup;
 use std::alloc::{AllocError, Global};
 

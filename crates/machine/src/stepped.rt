@@ -4,7 +4,7 @@ use crate::units::Units;
 use card_code::Card;
 use counters::Group;
 use net::{Cycle, Net, RowSets};
-use placed_lines::PlacedLine;
+use page_text::placed_lines::PlacedLine;
 use selectors::Pilots;
 use setups::Setup;
 use std::alloc::{AllocError, Global};

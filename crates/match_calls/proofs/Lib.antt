@@ -7,3 +7,4 @@ mod TellingOver
 pub mod MatchReports
 pub mod MatchDecks
 pub mod MatchTexts
+pub mod ChartCalls

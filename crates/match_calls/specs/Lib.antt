@@ -8,3 +8,4 @@ pub mod Panels
 pub mod Unmatched
 pub mod MatchDecks
 pub mod MatchTexts
+pub mod ChartCalls

@@ -1,10 +1,10 @@
 -- The first misfit of a deck, card by card.
 use Rattle.std.proofs.Common.{◌≡◌, ◌∙◌, refl, sym, ap, ℕ, zero, suc, ◌+◌, ◌<◌, List, [], ◌∷◌, ◌++◌, Option, Some, None, length, drop, get_or, slice_get, append-nil}
 use Rattle.charts.specs.declared.chart.Line.{Line}
-use Rattle.decks.specs.CardMisfits.{misfits_by_cards, misfits_from, misfits_to}
+use Rattle.report.specs.FollowedDecks.CardMisfits.{misfits_by_cards, misfits_from, misfits_to}
 use Rattle.report.specs.Breaks.{cleared, ended_after, no_cards, taking}
 use Rattle.report.specs.Misfits.{Misfit, first_of, misfits}
-use Rattle.decks.proofs.Misfits.{misfits_of_cards}
+use Rattle.report.proofs.FollowedDecks.Misfits.{misfits_of_cards}
 use Rattle.misfits.specs.OpenSums.{AreSumsOf, Sums}
 use Rattle.misfits.proofs.InPlace.{first-append, no_first, rest}
 

@@ -16,10 +16,10 @@ use Rattle.charts.specs.declared.statement.Statement.{Statement}
 use Rattle.charts.specs.declared.statement.TotalLine.{TotalLine}
 use Rattle.charts.specs.declared.statement.Statement.TheVariants as says
 use Rattle.charts.proofs.Listed.{Place, given-by, listed-first, listed-place, none-any}
-use Rattle.field_rules.specs.Fields.{field_named, fields_of}
-use Rattle.print_rules.specs.Items.{figure_width, item_of, mark_width, total_item}
-use Rattle.print_rules.specs.declared.items.Figure.{Figure}
-use Rattle.print_rules.specs.Wheels.{is_off_wheels, overlap}
+use Rattle.line_rules.specs.FieldRules.Fields.{field_named, fields_of}
+use Rattle.line_rules.specs.PrintRules.Items.{figure_width, item_of, mark_width, total_item}
+use Rattle.line_rules.specs.declared.print_rules.items.Figure.{Figure}
+use Rattle.line_rules.specs.PrintRules.Wheels.{is_off_wheels, overlap}
 use Rattle.chart_rules.specs.Rules.{breaks, IsLawful}
 use Rattle.chart_rules.specs.declared.rule.Rule.TheVariants as rule
 use Rattle.chart_rules.proofs.Laws.{breaks-lawful}

@@ -1,10 +1,10 @@
 -- How the sums follow a deck whose cards come one by one.
 use Rattle.std.proofs.Common.{◌≡◌, ◌∙◌, sym, ap, ℕ, ◌+◌, List, [], ◌∷◌, ◌++◌, Option, Some, length, length-append}
 use Rattle.charts.specs.declared.chart.Line.{Line}
-use Rattle.decks.specs.CardMisfits.{misfits_to}
-use Rattle.decks.specs.FitSoFar.{groups_before, misfits_of_last}
-use Rattle.decks.specs.Stands.{last_of}
-use Rattle.decks.proofs.FitSoFar.{groups-more}
+use Rattle.report.specs.FollowedDecks.CardMisfits.{misfits_to}
+use Rattle.report.specs.FollowedDecks.FitSoFar.{groups_before, misfits_of_last}
+use Rattle.report.specs.FollowedDecks.Stands.{last_of}
+use Rattle.report.proofs.FollowedDecks.FitSoFar.{groups-more}
 use Rattle.report.specs.Breaks.{cleared, ended_after, no_cards, taking}
 use Rattle.report.specs.Misfits.{Misfit, first_of}
 use Rattle.misfits.specs.OpenSums.{AreSumsOf, Sums}

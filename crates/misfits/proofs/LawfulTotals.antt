@@ -13,11 +13,11 @@ use Rattle.charts.specs.declared.statement.Statement.{Statement}
 use Rattle.charts.specs.declared.statement.TotalLine.{TotalLine}
 use Rattle.charts.specs.declared.statement.Statement.TheVariants as says
 use Rattle.charts.proofs.Listed.{listed-after, listed-first, listed-place}
-use Rattle.field_rules.specs.Columns.{has_good_sign}
-use Rattle.field_rules.specs.Digits.{is_out_of_digits}
-use Rattle.field_rules.specs.Fields.{field_named}
-use Rattle.field_rules.specs.Names.{names_text}
-use Rattle.field_rules.proofs.DigitsKept.{AreGoodDigits, digits-kept}
+use Rattle.line_rules.specs.FieldRules.Columns.{has_good_sign}
+use Rattle.line_rules.specs.FieldRules.Digits.{is_out_of_digits}
+use Rattle.line_rules.specs.FieldRules.Fields.{field_named}
+use Rattle.line_rules.specs.FieldRules.Names.{names_text}
+use Rattle.line_rules.proofs.FieldRules.DigitsKept.{AreGoodDigits, digits-kept}
 use Rattle.chart_rules.specs.Rules.{breaks, IsLawful}
 use Rattle.chart_rules.specs.declared.rule.Rule.TheVariants as rule
 use Rattle.chart_rules.proofs.Laws.{breaks-lawful, field-line, good-field}

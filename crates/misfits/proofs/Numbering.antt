@@ -9,8 +9,8 @@ use Rattle.charts.specs.Levels.{level_number}
 use Rattle.charts.specs.Name.{is_same_name}
 use Rattle.charts.specs.declared.chart.Line.{Line}
 use Rattle.charts.specs.declared.statement.Field.{Field}
-use Rattle.field_rules.proofs.Places.{is_same_name-equal}
-use Rattle.field_rules.specs.Fields.{field_named}
+use Rattle.line_rules.proofs.FieldRules.Places.{is_same_name-equal}
+use Rattle.line_rules.specs.FieldRules.Fields.{field_named}
 use Rattle.misfits.specs.HelperAmounts.{IsGoodAmount}
 use Rattle.misfits.specs.HelperNumbers.{AreNumbered, AreWith, IsNamedAmount, fields_of_amounts, new_amount}
 use Rattle.misfits.specs.OpenTotals.{closed_to}

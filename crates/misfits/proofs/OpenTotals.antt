@@ -9,9 +9,9 @@ use Rattle.charts.specs.declared.statement.Field.{Field}
 use Rattle.charts.specs.declared.statement.Statement.{Statement}
 use Rattle.charts.specs.declared.statement.TotalLine.{TotalLine}
 use Rattle.charts.specs.declared.statement.Statement.TheVariants as says
-use Rattle.field_rules.specs.Fields.{field_named}
+use Rattle.line_rules.specs.FieldRules.Fields.{field_named}
 use Rattle.chart_rules.proofs.Laws.{field-line}
-use Rattle.decks.specs.CardMisfits.{misfits_to}
+use Rattle.report.specs.FollowedDecks.CardMisfits.{misfits_to}
 use Rattle.report.specs.Amounts.{value_of}
 use Rattle.report.specs.Breaks.{cleared, taking}
 use Rattle.report.specs.Misfits.{fits_in, Misfit, misfit_of, misfit_on}

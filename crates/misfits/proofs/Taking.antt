@@ -5,7 +5,7 @@ use Rattle.std.proofs.lemmas.List.{length-map, take_all, drop_all}
 use Rattle.std.proofs.lemmas.List.Elements.{All-map}
 use Rattle.card_code.specs.MostCards.{most_cards}
 use Rattle.charts.specs.declared.chart.Line.{Line}
-use Rattle.decks.specs.CardMisfits.{misfits_to}
+use Rattle.report.specs.FollowedDecks.CardMisfits.{misfits_to}
 use Rattle.report.specs.Breaks.{cleared, taking}
 use Rattle.report.specs.Misfits.{Misfit, first_of}
 use Rattle.misfits.specs.HelperAmounts.{IsGoodAmount}

@@ -2,7 +2,7 @@
 use Rattle.std.specs.Prelude.{◌≡◌, ◌⊎◌, ℕ, pos, List, [], ◌∷◌, ◌++◌, Some, map, slice_get}
 use Rattle.charts.specs.declared.chart.Line.{Line}
 use Rattle.charts.specs.declared.statement.Field.{Field}
-use Rattle.field_rules.specs.Fields.{field_named}
+use Rattle.line_rules.specs.FieldRules.Fields.{field_named}
 use Rattle.misfits.specs.HelperAmounts.{IsGoodAmount}
 use Rattle.misfits.specs.declared.open_total.Amount.{Amount}
 use Rattle.misfits.specs.declared.open_total.OpenTotal.{OpenTotal}

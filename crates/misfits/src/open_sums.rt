@@ -4,7 +4,7 @@ ghost use Rattle.std.specs.Prelude.{◌≡◌, ◌+◌, ◌<◌, ◌≤◌, ℕ,
 ghost use Rattle.std.specs.List.{All};
 ghost use Rattle.card_code.specs.MostCards.{most_cards};
 ghost use Rattle.chart_rules.specs.Rules.{IsLawful};
-ghost use Rattle.decks.specs.CardMisfits.{misfits_to};
+ghost use Rattle.report.specs.FollowedDecks.CardMisfits.{misfits_to};
 ghost use Rattle.report.specs.Breaks.{cleared, ended_after, no_cards, taking};
 ghost use Rattle.report.specs.Misfits.{first_of};
 ghost use Rattle.charts.specs.Name.{is_same_name};

@@ -12,8 +12,8 @@ use Rattle.setups.proofs.WiredLemmas.{HasWire-is_wired}
 use Rattle.card_code.specs.Rows.{rows}
 use Rattle.counters.specs.Counters.{Counter, counter_at_start, counter_ended, digits_ended, width_of}
 use Rattle.counters.specs.Numbers.{number}
-use Rattle.ledger_text.specs.Amounts.{digits_text}
-use Rattle.ledger_text.specs.Names.{cycle_text, place_text}
+use Rattle.ledgers.specs.LedgerText.Amounts.{digits_text}
+use Rattle.ledgers.specs.LedgerText.Names.{cycle_text, place_text}
 use Rattle.ledgers.specs.Accounts.{counter_at}
 use Rattle.net.specs.declared.cycle.Cycle.{Cycle}
 use Rattle.card_code.specs.declared.row.Row.{Row}

@@ -2,8 +2,8 @@
 use Rattle.std.specs.Prelude.{◌≡◌, ℕ, ◌+◌, List, [], ◌++◌, Option, Some, None, codes}
 use Rattle.counters.specs.Counters.{digits_ended, width_of}
 use Rattle.counters.specs.Numbers.{number}
-use Rattle.ledger_text.specs.Amounts.{digits_text}
-use Rattle.ledger_text.specs.Names.{cycle_text, place_text}
+use Rattle.ledgers.specs.LedgerText.Amounts.{digits_text}
+use Rattle.ledgers.specs.LedgerText.Names.{cycle_text, place_text}
 use Rattle.ledgers.specs.InCycle.{IsInCycle}
 use Rattle.ledgers.specs.Ledgers.{group_at}
 use Rattle.machine.specs.Machine.{MachineState}

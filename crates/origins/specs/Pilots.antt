@@ -2,7 +2,7 @@
 use Rattle.std.specs.Prelude.{ℕ, List, [], ◌++◌, Option, Some, None, codes, decimal}
 use Rattle.card_code.specs.declared.row.Row.TheVariants.{Eleven}
 use Rattle.hubs.specs.declared.hub.Hub.TheVariants.{PIX}
-use Rattle.ledger_text.specs.Names.{cycle_text}
+use Rattle.ledgers.specs.LedgerText.Names.{cycle_text}
 use Rattle.setups.specs.Wiring.{Wiring}
 use Rattle.origins.specs.Holes.{hole_in_cycle}
 use Rattle.origins.specs.Storage.{led_text, row_text}

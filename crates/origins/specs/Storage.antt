@@ -7,7 +7,7 @@ use Rattle.card_code.specs.declared.row.Row.{Row}
 use Rattle.explanations.specs.Explanations.{row_passing}
 use Rattle.hubs.specs.declared.hub.Hub.{Hub}
 use Rattle.hubs.specs.declared.hub.Hub.TheVariants.{SE, SX}
-use Rattle.ledger_text.specs.Names.{cycle_text}
+use Rattle.ledgers.specs.LedgerText.Names.{cycle_text}
 use Rattle.setups.specs.Wiring.{Wiring}
 use Rattle.origins.specs.Holes.{brush_text, column_text, hole_in_cycle}
 use Rattle.origins.specs.declared.changes.PassedCycle.{PassedCycle}

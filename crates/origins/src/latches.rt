@@ -11,7 +11,7 @@ ghost use Rattle.origins.specs.Latches.{IsLatchText, IsNumberTested, IsTestText,
 use crate::changes::PassedCycle;
 use card_code::Card;
 use counters::group_of_unit;
-use ledger_text::{write_account, write_cycle, write_digits};
+use ledgers::ledger_text::{write_account, write_cycle, write_digits};
 use ledgers::{Account, machine_in_cycle};
 use setups::Setup;
 use std::alloc::{AllocError, Global};

@@ -10,7 +10,7 @@ use crate::holes::{Hole, hole_in_cycle, write_brush, write_column};
 use crate::storage::write_row;
 use card_code::{Card, Row};
 use hubs::Hub;
-use ledger_text::write_cycle;
+use ledgers::ledger_text::write_cycle;
 use setups::Setup;
 use std::io;
 use std::io::Write;

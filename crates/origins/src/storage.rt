@@ -7,7 +7,7 @@ use crate::changes::PassedCycle;
 use crate::holes::{Hole, hole_in_cycle, write_brush, write_column};
 use card_code::{Card, ROWS, Row};
 use hubs::Hub;
-use ledger_text::write_cycle;
+use ledgers::ledger_text::write_cycle;
 use setups::Setup;
 use std::io;
 use std::io::Write;

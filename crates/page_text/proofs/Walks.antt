@@ -2,8 +2,8 @@
 use Rattle.std.proofs.Common.{◌≡◌, ◌≢◌, ◌∙◌, refl, sym, ap, ap₂, ℕ, zero, suc, ◌+◌, ◌<◌, ◌≤◌, ◌==◌, ◌&&◌, ◌⊎◌, inl, inr, true, false, List, [], ◌∷◌, ◌++◌, arith, append_assoc, append-nil, if◌then◌else◌, subst, subst₂}
 use Rattle.std.specs.List.{flat_map, range_with_len}
 use Rattle.std.proofs.lemmas.Bool.Decides.{eqb_tells, nat_tests}
-use Rattle.placed_lines.specs.declared.placed_line.PlacedLine.{PlacedLine}
-use Rattle.placed_lines.specs.InOrder.{IsAfter, FollowInOrder, IsInOrder}
+use Rattle.page_text.specs.declared.placed_lines.placed_line.PlacedLine.{PlacedLine}
+use Rattle.page_text.specs.PlacedLines.InOrder.{IsAfter, FollowInOrder, IsInOrder}
 use Rattle.page_text.specs.Pages.{Pages, page_bytes, line_bytes, text_at, last_page, without_trailing_blanks}
 use Rattle.page_text.specs.Walking.{first_text, rest_after, rest_after_lines, rest_after_pages, walked_lines, walked_pages}
 use Rattle.page_text.proofs.Parts.{flat_map-range_more}

@@ -1,3 +1,3 @@
-pub mod Below
 pub mod Pages
 pub mod Walking
+pub mod PlacedLines

@@ -2,7 +2,7 @@
 -- A line is its text without the blanks at its end, and LF; a form feed follows each page.
 use Rattle.std.specs.Prelude.{ℕ, ◌==◌, ◌&&◌, List, [], ◌∷◌, ◌++◌, max, if◌then◌else◌}
 use Rattle.std.specs.List.{range_with_len, flat_map}
-use Rattle.placed_lines.specs.declared.placed_line.PlacedLine.{PlacedLine}
+use Rattle.page_text.specs.declared.placed_lines.placed_line.PlacedLine.{PlacedLine}
 
 -- a character put before a cut text; a blank before nothing is cut as well
 abbrev pub onto_cut : ℕ → List ℕ → List ℕ

@@ -1,7 +1,7 @@
 -- A walk over the places of pages beside a list of lines: at each place the first line that is left is taken where it
 -- stands there. These are helper words of the code that writes pages in one pass.
 use Rattle.std.specs.Prelude.{ℕ, zero, suc, ◌==◌, ◌&&◌, List, [], ◌∷◌, ◌++◌, if◌then◌else◌}
-use Rattle.placed_lines.specs.declared.placed_line.PlacedLine.{PlacedLine}
+use Rattle.page_text.specs.declared.placed_lines.placed_line.PlacedLine.{PlacedLine}
 use Rattle.page_text.specs.Pages.{without_trailing_blanks}
 
 -- the text of the first line, where it stands at the place

@@ -2,11 +2,11 @@
 
 ghost use Rattle.std.specs.Prelude.{◌≡◌, ◌+◌, ◌++◌, ◌∷◌, [], ◌≤◌, ◌<◌, ◌^◌, ℕ, length, ◌-◌, slice_index_or, take, IfOk, OnOk};
 ghost use Rattle.std.specs.Int.{leading_zeros, w64};
-ghost use Rattle.placed_lines.specs.InOrder.{IsInOrder};
+ghost use Rattle.page_text.specs.PlacedLines.InOrder.{IsInOrder};
 ghost use Rattle.page_text.specs.Pages.{Pages, without_trailing_blanks, last_page};
 ghost use Rattle.page_text.specs.Walking.{first_text, rest_after, rest_after_lines, walked_lines};
 
-use placed_lines::PlacedLine;
+use crate::placed_lines::PlacedLine;
 use std::alloc::{AllocError, Global};
 use std::simd::prelude::*;
 

@@ -8,8 +8,8 @@ use Rattle.page_writer.proofs.Feeds.{feeds_here, feeds_later}
 use Rattle.page_writer.proofs.Texts.{IsUpTo}
 use Rattle.page_writer.specs.Added.{blank_pages, feeds, page_end}
 use Rattle.page_writer.specs.Open.{bytes_to}
-use Rattle.placed_lines.specs.declared.placed_line.PlacedLine.{PlacedLine}
-use Rattle.placed_lines.specs.InOrder.{IsAfter}
+use Rattle.page_text.specs.declared.placed_lines.placed_line.PlacedLine.{PlacedLine}
+use Rattle.page_text.specs.PlacedLines.InOrder.{IsAfter}
 
 parts_agree : (f g : ℕ → List ℕ) (a n : ℕ) → ((k : ℕ) → a ≤ k → k < a + n → f k ≡ g k)
     → flat_map f (range_with_len a n) ≡ flat_map g (range_with_len a n)

@@ -4,8 +4,8 @@ use Rattle.page_text.specs.Pages.{onto_cut, without_trailing_blanks}
 use Rattle.page_writer.proofs.BlankPages.{page_end-long}
 use Rattle.page_writer.proofs.Feeds.{here_long, later_long}
 use Rattle.page_writer.specs.Added.{added, blank_pages, feeds, page_end}
-use Rattle.placed_lines.specs.declared.placed_line.PlacedLine.{PlacedLine}
-use Rattle.placed_lines.specs.InOrder.{IsAfter, IsOnForm}
+use Rattle.page_text.specs.declared.placed_lines.placed_line.PlacedLine.{PlacedLine}
+use Rattle.page_text.specs.PlacedLines.InOrder.{IsAfter, IsOnForm}
 
 onto_cut_long : (character : ℕ) (text : List ℕ) → length (onto_cut character text) ≤ suc (length text)
 onto_cut_long character [] = grind arith

@@ -5,8 +5,8 @@ use Rattle.page_writer.proofs.Sending.{breaks_after, breaks_before, takes_after}
 use Rattle.page_writer.specs.Added.{added, added_all, line_after, page_after}
 use Rattle.page_writer.specs.Outgoing.{Breaks, Outgoing, TakesUp}
 use Rattle.page_writer.specs.Writing.{Writing}
-use Rattle.placed_lines.specs.declared.placed_line.PlacedLine.{PlacedLine}
-use Rattle.placed_lines.specs.InOrder.{FollowInOrder}
+use Rattle.page_text.specs.declared.placed_lines.placed_line.PlacedLine.{PlacedLine}
+use Rattle.page_text.specs.PlacedLines.InOrder.{FollowInOrder}
 
 -- The first of some lines are taken up, and the rest follow them in order.
 pub record IsAdding {S : Type 0} (held : S → Option (List ℕ)) (lines rest : List PlacedLine) (old now : Writing S) : Type 0 where

@@ -10,8 +10,8 @@ use Rattle.page_writer.proofs.Texts.{IsUpTo, from_first, in_parts, last_on_form,
 use Rattle.page_writer.specs.Added.{added, added_all, feeds, last_end, line_after, page_after, page_end}
 use Rattle.page_writer.specs.Laws.{OpenGrows, OpenGrowsByAll, OrderGoesOn, PagesBegin, PagesEnd}
 use Rattle.page_writer.specs.Open.{Open, bytes_to}
-use Rattle.placed_lines.specs.declared.placed_line.PlacedLine.{PlacedLine}
-use Rattle.placed_lines.specs.InOrder.{FollowInOrder, IsAfter, IsInOrder}
+use Rattle.page_text.specs.declared.placed_lines.placed_line.PlacedLine.{PlacedLine}
+use Rattle.page_text.specs.PlacedLines.InOrder.{FollowInOrder, IsAfter, IsInOrder}
 
 -- it is all up to the place of the last line
 open_at : (long : ℕ) (lines : List PlacedLine) → IsInOrder long lines

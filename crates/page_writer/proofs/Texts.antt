@@ -3,8 +3,8 @@ use Rattle.std.proofs.Common.{◌≡◌, ◌∙◌, ℕ, zero, suc, ◌<◌, ◌
 use Rattle.page_text.proofs.Walks.{after-trans, at_place, not_itself}
 use Rattle.page_text.specs.Pages.{last_page, text_at}
 use Rattle.page_writer.specs.Added.{line_after, page_after}
-use Rattle.placed_lines.specs.declared.placed_line.PlacedLine.{PlacedLine}
-use Rattle.placed_lines.specs.InOrder.{FollowInOrder, IsAfter, IsInOrder}
+use Rattle.page_text.specs.declared.placed_lines.placed_line.PlacedLine.{PlacedLine}
+use Rattle.page_text.specs.PlacedLines.InOrder.{FollowInOrder, IsAfter, IsInOrder}
 
 -- a place is on an earlier page, or among the first so many lines of the page
 abbrev pub IsUpTo : (page lines : ℕ) → ℕ → ℕ → Type 0

@@ -6,8 +6,8 @@ use Rattle.page_text.specs.Pages.{Pages}
 use Rattle.page_writer.proofs.Opens.{pages_of}
 use Rattle.page_writer.specs.Added.{added_all, last_end, line_after}
 use Rattle.page_writer.specs.Writing.{Writing}
-use Rattle.placed_lines.specs.declared.placed_line.PlacedLine.{PlacedLine}
-use Rattle.placed_lines.specs.InOrder.{IsInOrder}
+use Rattle.page_text.specs.declared.placed_lines.placed_line.PlacedLine.{PlacedLine}
+use Rattle.page_text.specs.PlacedLines.InOrder.{IsInOrder}
 use Rattle.std.proofs.Math.Seq.{take-append_seam}
 use Rattle.std.specs.Io.KnownBytes.{Appends}
 use Rattle.page_writer.proofs.Sending.{breaks_after, breaks_before, takes_after}

@@ -1,7 +1,7 @@
 -- What a line adds to the pages that are written up to a place.
 use Rattle.std.specs.Prelude.{ℕ, zero, suc, ◌+◌, ◌-◌, ◌==◌, List, [], ◌∷◌, ◌++◌, replicate, if◌then◌else◌}
 use Rattle.page_text.specs.Pages.{without_trailing_blanks}
-use Rattle.placed_lines.specs.declared.placed_line.PlacedLine.{PlacedLine}
+use Rattle.page_text.specs.declared.placed_lines.placed_line.PlacedLine.{PlacedLine}
 
 -- what ends a page of which so many lines are written: its other lines, blank, and a form feed
 abbrev pub page_end : (form_lines lines : ℕ) → List ℕ

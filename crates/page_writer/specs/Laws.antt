@@ -4,8 +4,8 @@ use Rattle.std.specs.Io.{StartsWith}
 use Rattle.page_text.specs.Pages.{Pages}
 use Rattle.page_writer.specs.Added.{added, added_all, last_end, line_after, page_after}
 use Rattle.page_writer.specs.Open.{Open}
-use Rattle.placed_lines.specs.declared.placed_line.PlacedLine.{PlacedLine}
-use Rattle.placed_lines.specs.InOrder.{FollowInOrder, IsInOrder}
+use Rattle.page_text.specs.declared.placed_lines.placed_line.PlacedLine.{PlacedLine}
+use Rattle.page_text.specs.PlacedLines.InOrder.{FollowInOrder, IsInOrder}
 
 -- It grows by what a line adds at the place of the line before it; before any line that is page 1, after none of its lines.
 abbrev pub OpenGrows : Type 0

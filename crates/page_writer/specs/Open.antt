@@ -3,7 +3,7 @@ use Rattle.std.specs.Prelude.{ℕ, ◌-◌, List, ◌++◌}
 use Rattle.std.specs.List.{range_with_len, flat_map}
 use Rattle.page_text.specs.Pages.{page_bytes, line_bytes, last_page}
 use Rattle.page_writer.specs.Added.{line_after}
-use Rattle.placed_lines.specs.declared.placed_line.PlacedLine.{PlacedLine}
+use Rattle.page_text.specs.declared.placed_lines.placed_line.PlacedLine.{PlacedLine}
 
 -- the bytes of all pages before one, and of its first lines
 unfoldable pub bytes_to : List PlacedLine → (form_lines page lines : ℕ) → List ℕ

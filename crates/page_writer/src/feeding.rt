@@ -3,13 +3,13 @@
 ghost use Rattle.std.specs.Prelude.{◌≡◌, ◌+◌, ◌-◌, ◌^◌, ◌<◌, ◌≤◌, ◌⊎◌, ◌∷◌, ◌++◌, [], length, replicate, true, false, IsErr, OnOk};
 ghost use Rattle.page_writer.specs.Added.{added, blank_pages, feeds, last_end, page_end};
 ghost use Rattle.page_writer.specs.Outgoing.{Takes, total};
-ghost use Rattle.placed_lines.specs.InOrder.{IsAfter, IsOnForm};
+ghost use Rattle.page_text.specs.PlacedLines.InOrder.{IsAfter, IsOnForm};
 
 use crate::fault::WriteFault;
 use crate::outlet::Outlet;
 use devices::Sink;
+use page_text::placed_lines::PlacedLine;
 use page_text::without_trailing_blanks;
-use placed_lines::PlacedLine;
 
 const LINE_FEED: u8 = 10;
 

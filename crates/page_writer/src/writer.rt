@@ -5,13 +5,13 @@ ghost use Rattle.page_text.specs.Pages.{Pages};
 ghost use Rattle.page_writer.specs.Added.{added, added_all, last_end, line_after, page_after};
 ghost use Rattle.page_writer.specs.Outgoing.{HandsBack, Takes, Writes};
 ghost use Rattle.page_writer.specs.Writing.{HasPlace, Writing};
-ghost use Rattle.placed_lines.specs.InOrder.{FollowInOrder, IsAfter, IsInOrder, IsOnForm};
+ghost use Rattle.page_text.specs.PlacedLines.InOrder.{FollowInOrder, IsAfter, IsInOrder, IsOnForm};
 
 use crate::fault::WriteFault;
 use crate::feeding::{Place, add_line, end_pages};
 use crate::outlet::Outlet;
 use devices::Sink;
-use placed_lines::PlacedLine;
+use page_text::placed_lines::PlacedLine;
 use std::marker::Model;
 
 /// Writes the pages of lines in order, line by line, to a sink that may fail.

@@ -1,2 +1,3 @@
 mod Beside
 mod MatchedCharts
+pub mod PanelSlips

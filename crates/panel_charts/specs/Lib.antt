@@ -1,1 +1,2 @@
 pub mod PanelChart
+pub mod PanelSlips

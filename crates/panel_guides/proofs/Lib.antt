@@ -4,3 +4,5 @@ mod OnPages
 mod PanelFaults
 pub mod RefusedTexts
 pub mod Stopping
+pub mod TraceCalls
+pub mod LedgerCalls

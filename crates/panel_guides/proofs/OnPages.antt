@@ -4,7 +4,7 @@ use Rattle.commands.specs.Answers.{Answers}
 use Rattle.compile407.specs.Headline.{WiredSetupsPrintReports}
 use Rattle.explanations.specs.PlacedInRun.{PlacedLinesArePrinted, PrintsLine}
 use Rattle.page_text.specs.Pages.{Pages}
-use Rattle.placed_lines.specs.declared.placed_line.PlacedLine.{PlacedLine}
+use Rattle.page_text.specs.declared.placed_lines.placed_line.PlacedLine.{PlacedLine}
 use Rattle.report.specs.Report.{Report}
 use Rattle.setups.specs.Wiring.{Wiring}
 use Rattle.panel_guides.specs.Laws.{ExplainedLinesAreOnPages, IsOnPages, printing}

@@ -5,3 +5,5 @@ pub mod Legends
 pub mod Panels
 pub mod Served
 pub mod Unexplained
+pub mod TraceCalls
+pub mod LedgerCalls

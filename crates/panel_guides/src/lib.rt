@@ -1,19 +1,24 @@
-//! What is told beside a panel and its pages, as commands: the legend of a planning chart, and why a wheel of a printed line printed its
-//! character.
+//! What is told beside a panel and its pages, as commands: the legend of a planning chart, why a wheel of a printed line printed its
+//! character, the sum behind it, and the trace of the run.
 //!
 //! [`legend_of`] answers the legend of the bytes of a chart, and [`legend_to_end`] does the whole command: the legend is printed, or why
 //! there is none is told on one line. [`explained`] answers the explanation of the wheel at a [`Place`] of the pages that a planning chart,
 //! or a wiring chart, gives of a deck, and [`tell_unexplained`] tells on one line why there is none. [`planned_run`] and [`wired_run`] are
 //! the panel and the cards of a text and a deck, for those who tell something else of them.
+//!
+//! - `trace_calls`: the trace of a deck, as a command
+//! - `ledger_calls`: what is told of a wheel of a printed line, as commands
 #![tactic(auto)]
 
 mod answers;
 mod asking;
 mod entries;
 mod laws;
+pub mod ledger_calls;
 mod legends;
 mod panels;
 mod place;
+pub mod trace_calls;
 mod unexplained;
 
 pub use answers::{explained, unexplained_at};

@@ -1,8 +1,8 @@
 -- The wheel of a digit of an amount is one of the amount's.
 use Rattle.std.proofs.Common.{◌≡◌, ◌<◌, ◌≤◌, ℕ, ◌+◌, ◌-◌, arith, Bool, true, false, if◌then◌else◌, nat_lt, refl}
 use Rattle.std.proofs.lemmas.Bool.Decides.{nat_tests}
-use Rattle.print_rules.specs.Items.{figure_width, mark_width}
-use Rattle.print_rules.specs.declared.items.Figure.{Figure}
+use Rattle.line_rules.specs.PrintRules.Items.{figure_width, mark_width}
+use Rattle.line_rules.specs.declared.print_rules.items.Figure.{Figure}
 use Rattle.wiring_table.specs.Figures.{digit_wheel}
 
 pub on_wheels : (wheel position : ℕ) (figure : Figure) → 1 ≤ position → position ≤ figure.digits

@@ -18,7 +18,7 @@ use Rattle.charts.specs.declared.statement.FieldKind.TheVariants as holds
 use Rattle.charts.specs.declared.statement.Printing.TheVariants as prints
 use Rattle.charts.specs.declared.statement.Statement.{Statement}
 use Rattle.charts.specs.declared.statement.Statement.TheVariants as says
-use Rattle.field_rules.specs.Fields.{field_named, fields_of}
+use Rattle.line_rules.specs.FieldRules.Fields.{field_named, fields_of}
 use Rattle.hubs.specs.declared.hub.Hub.{Hub}
 use Rattle.hubs.specs.declared.hub.Hub.TheVariants as hub
 use Rattle.hubs.specs.declared.jack.Jack.TheVariants as jack
@@ -31,10 +31,10 @@ use Rattle.panel_reader.specs.Shown.{HasUnitsOn, IsAmountWheel, IsColumnOn, Show
 use Rattle.panel_reader.specs.Zones.{IsInZone, IsLinked}
 use Rattle.panel_reader.specs.declared.draft.Draft.{Draft}
 use Rattle.plans.specs.Plans.{Lists}
-use Rattle.print_rules.specs.Items.{detail_item, figure_item, figure_width, item_of, mark_shown, text_item}
-use Rattle.print_rules.specs.Printing.{breaks_print_kind, has_print, is_print, is_print_group, prints_group}
-use Rattle.print_rules.specs.declared.items.Figure.{Figure}
-use Rattle.print_rules.specs.declared.items.PrintedLine.TheVariants.{Body}
+use Rattle.line_rules.specs.PrintRules.Items.{detail_item, figure_item, figure_width, item_of, mark_shown, text_item}
+use Rattle.line_rules.specs.PrintRules.Printing.{breaks_print_kind, has_print, is_print, is_print_group, prints_group}
+use Rattle.line_rules.specs.declared.print_rules.items.Figure.{Figure}
+use Rattle.line_rules.specs.declared.print_rules.items.PrintedLine.TheVariants.{Body}
 use Rattle.printed_lines.proofs.Jacks.{FigureItem, FigureItem-has, plugs-link}
 use Rattle.printed_lines.proofs.Meeting.{one-line, same-or-agree}
 use Rattle.printed_lines.proofs.OwnJacks.{no-amount}

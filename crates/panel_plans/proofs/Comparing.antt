@@ -17,7 +17,7 @@ use Rattle.charts.specs.declared.statement.Statement.{Statement}
 use Rattle.charts.specs.declared.statement.Statement.TheVariants as says
 use Rattle.charts.proofs.Listed.{listed-at, listed-none}
 use Rattle.charts.proofs.Rising.{one-line as line-by-number}
-use Rattle.field_rules.specs.Fields.{field_named}
+use Rattle.line_rules.specs.FieldRules.Fields.{field_named}
 use Rattle.hubs.specs.declared.hub.Hub.{Hub}
 use Rattle.hubs.specs.declared.hub.Hub.TheVariants.{CA, CX, FR, ST}
 use Rattle.panel_plans.specs.ComparedColumns.{IsCompared, columns_for, columns_on, compared_columns, level_of}

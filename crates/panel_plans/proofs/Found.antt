@@ -9,8 +9,8 @@ use Rattle.charts.specs.Field.{is_amount}
 use Rattle.charts.specs.Levels.{level_number}
 use Rattle.charts.specs.declared.chart.Line.{Line}
 use Rattle.charts.specs.declared.statement.Field.{Field}
-use Rattle.field_rules.specs.Fields.{field_named}
-use Rattle.field_rules.specs.Names.{names_text}
+use Rattle.line_rules.specs.FieldRules.Fields.{field_named}
+use Rattle.line_rules.specs.FieldRules.Names.{names_text}
 use Rattle.hubs.proofs.HubLemmas.{W-number}
 use Rattle.plans.specs.Plans.{Lists}
 use Rattle.plans.specs.declared.counter.TotalCounter.{TotalCounter}

@@ -12,9 +12,9 @@ use Rattle.charts.specs.declared.statement.Field.{Field}
 use Rattle.charts.specs.declared.statement.Statement.{Statement}
 use Rattle.charts.specs.declared.statement.Statement.TheVariants as says
 use Rattle.charts.proofs.Listed.{found-passing, given-by, listed-first, listed-given, listed-place}
-use Rattle.field_rules.specs.Fields.{field_of, fields_of, first_named}
-use Rattle.field_rules.specs.Names.{breaks_name_twice}
-use Rattle.field_rules.proofs.Places.{is_same_name-own}
+use Rattle.line_rules.specs.FieldRules.Fields.{field_of, fields_of, first_named}
+use Rattle.line_rules.specs.FieldRules.Names.{breaks_name_twice}
+use Rattle.line_rules.proofs.FieldRules.Places.{is_same_name-own}
 use Rattle.panel_plans.proofs.Apart.{AllApart, HasOwnPlaces, own-place}
 use Rattle.panel_plans.proofs.Zipped.{filter-listed, map-listed}
 use Rattle.wanted.specs.Pilots.{pilots_of, wants_pilot}

@@ -25,8 +25,8 @@ use Rattle.charts.specs.declared.statement.TotalLine.{TotalLine}
 use Rattle.charts.specs.declared.statement.Statement.TheVariants as says
 use Rattle.charts.proofs.Listed.{any-passing, given-by}
 use Rattle.charts.proofs.Rising.{one-line as line-by-number}
-use Rattle.field_rules.specs.Fields.{field_named, field_of, fields_of}
-use Rattle.field_rules.proofs.Places.{is_same_name-equal, is_same_name-own}
+use Rattle.line_rules.specs.FieldRules.Fields.{field_named, field_of, fields_of}
+use Rattle.line_rules.proofs.FieldRules.Places.{is_same_name-equal, is_same_name-own}
 use Rattle.hubs.specs.declared.hub.Group.{Group}
 use Rattle.hubs.specs.declared.hub.Hub.{Hub}
 use Rattle.hubs.specs.declared.hub.Hub.TheVariants.{FR, MI, PIX, W}
@@ -45,9 +45,9 @@ use Rattle.plans.specs.declared.counter.TotalCounter.{TotalCounter}
 use Rattle.plans.specs.declared.counter.TotalCounter.TheVariants as of
 use Rattle.plans.specs.Plans.{Lists}
 use Rattle.plans.proofs.Numbers.{HasNumber, number-given}
-use Rattle.print_rules.specs.Items.{detail_item, mark_shown}
-use Rattle.print_rules.specs.Marks.{is_mismatched, is_mismatched_kind}
-use Rattle.print_rules.specs.Wheels.{HasWheel}
+use Rattle.line_rules.specs.PrintRules.Items.{detail_item, mark_shown}
+use Rattle.line_rules.specs.PrintRules.Marks.{is_mismatched, is_mismatched_kind}
+use Rattle.line_rules.specs.PrintRules.Wheels.{HasWheel}
 use Rattle.printed_lines.proofs.Meeting.{one-line}
 use Rattle.setups.specs.Wiring.{HasWire, Wiring}
 use Rattle.wanted.specs.Pilots.{pilots_of, prints_name, shows, wants_pilot}

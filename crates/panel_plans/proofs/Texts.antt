@@ -16,8 +16,8 @@ use Rattle.charts.specs.declared.statement.Field.{Field}
 use Rattle.charts.specs.declared.statement.Statement.{Statement}
 use Rattle.charts.specs.declared.statement.Statement.TheVariants as says
 use Rattle.charts.proofs.Rising.{one-line as line-by-number}
-use Rattle.field_rules.specs.Fields.{field_named, fields_of}
-use Rattle.field_rules.specs.Names.{names_amount}
+use Rattle.line_rules.specs.FieldRules.Fields.{field_named, fields_of}
+use Rattle.line_rules.specs.FieldRules.Names.{names_amount}
 use Rattle.hubs.specs.declared.hub.Hub.{Hub}
 use Rattle.hubs.specs.declared.hub.Hub.TheVariants.{PX, SO, SX, W}
 use Rattle.panel_plans.specs.NamingWires.{ShowsPartsOf}
@@ -29,9 +29,9 @@ use Rattle.panel_plans.specs.declared.text_units.TextPlace.{TextPlace}
 use Rattle.panel_plans.proofs.Apart.{HasOwnPlaces, all-numbers, apart-lines, own-place}
 use Rattle.panel_plans.proofs.Unique.{same-line}
 use Rattle.plans.specs.Plans.{Lists, ServesChart}
-use Rattle.print_rules.specs.Items.{item_of, text_item}
-use Rattle.print_rules.specs.Wheels.{HasWheel}
-use Rattle.print_rules.specs.declared.items.PrintedLine.TheVariants.{Body}
+use Rattle.line_rules.specs.PrintRules.Items.{item_of, text_item}
+use Rattle.line_rules.specs.PrintRules.Wheels.{HasWheel}
+use Rattle.line_rules.specs.declared.print_rules.items.PrintedLine.TheVariants.{Body}
 use Rattle.printed_lines.proofs.Meeting.{one-line}
 use Rattle.setups.specs.Wiring.{HasWire, Wiring}
 use Rattle.wanted.specs.Units.{is_of_kind, is_total_text}

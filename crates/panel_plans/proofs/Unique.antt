@@ -14,7 +14,7 @@ use Rattle.charts.specs.declared.statement.BodyLine.TheVariants as body
 use Rattle.charts.specs.declared.statement.Field.{Field}
 use Rattle.charts.specs.declared.statement.Statement.TheVariants as says
 use Rattle.charts.proofs.Rising.{one-line as line-by-number}
-use Rattle.field_rules.specs.Fields.{field_named, fields_of}
+use Rattle.line_rules.specs.FieldRules.Fields.{field_named, fields_of}
 use Rattle.hubs.specs.declared.hub.Group.{Group}
 use Rattle.hubs.specs.declared.hub.Hub.{Hub}
 use Rattle.hubs.specs.declared.hub.Hub.TheVariants.{CI, CO, GX, PX, RO, W}
@@ -22,9 +22,9 @@ use Rattle.plans.specs.Counters.{HasCounter, IsEnoughFor}
 use Rattle.plans.specs.Plans.{Lists, ServesChart}
 use Rattle.plans.specs.declared.counter.TotalCounter.{TotalCounter}
 use Rattle.plans.specs.declared.counter.TotalCounter.TheVariants as of
-use Rattle.print_rules.specs.Items.{is_same_line, item_of, total_item}
-use Rattle.print_rules.specs.Wheels.{HasWheel}
-use Rattle.print_rules.specs.declared.items.PrintedLine.TheVariants.{Body}
+use Rattle.line_rules.specs.PrintRules.Items.{is_same_line, item_of, total_item}
+use Rattle.line_rules.specs.PrintRules.Wheels.{HasWheel}
+use Rattle.line_rules.specs.declared.print_rules.items.PrintedLine.TheVariants.{Body}
 use Rattle.printed_lines.proofs.Meeting.{one-line}
 use Rattle.setups.specs.Wiring.{Wiring}
 use Rattle.wanted.specs.ChartTotals.{need_of}

@@ -25,8 +25,8 @@ use Rattle.charts.specs.declared.statement.FieldKind.{FieldKind}
 use Rattle.charts.specs.declared.statement.FieldKind.TheVariants as holds
 use Rattle.charts.specs.declared.statement.Statement.{Statement}
 use Rattle.charts.specs.declared.statement.Statement.TheVariants as says
-use Rattle.field_rules.specs.Fields.{field_named, fields_of}
-use Rattle.field_rules.specs.Names.{names_amount}
+use Rattle.line_rules.specs.FieldRules.Fields.{field_named, fields_of}
+use Rattle.line_rules.specs.FieldRules.Names.{names_amount}
 use Rattle.hubs.specs.declared.hub.Hub.{Hub}
 use Rattle.hubs.specs.declared.hub.Hub.TheVariants.{CSD, IX, W}
 use Rattle.panel_plans.specs.WheelParts.{AreLed, LeadsTo, detail_wheel, exit_of, indicated_wheels, sign_wheel, split_wheel, split_wheels, wheel_at, wheels_from, wheels_on}
@@ -38,8 +38,8 @@ use Rattle.panel_plans.proofs.Wheels.{on-wheels}
 use Rattle.panel_plans.proofs.Zipped.{get-map, given-at, given-many, part-at, parts-many, range-at, range-get}
 use Rattle.plans.specs.PartNumbers.{AreNumbers, numbers_at}
 use Rattle.plans.specs.Plans.{Lists, ServesChart}
-use Rattle.print_rules.specs.Items.{detail_item, is_same_line, item_of}
-use Rattle.print_rules.specs.Wheels.{HasWheel}
+use Rattle.line_rules.specs.PrintRules.Items.{detail_item, is_same_line, item_of}
+use Rattle.line_rules.specs.PrintRules.Wheels.{HasWheel}
 use Rattle.printed_lines.proofs.Meeting.{one-line}
 use Rattle.setups.specs.Wiring.{HasWire, Wiring}
 use Rattle.wanted.specs.Positions.{field_used, indicate_of, indicated_field, is_same_position, positions_for}

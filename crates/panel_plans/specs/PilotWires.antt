@@ -8,7 +8,7 @@ use Rattle.charts.specs.declared.statement.Mark.{Mark}
 use Rattle.charts.specs.declared.statement.SignRule.{SignRule}
 use Rattle.charts.specs.declared.statement.Statement.TheVariants as says
 use Rattle.charts.specs.declared.statement.TotalLine.{TotalLine}
-use Rattle.field_rules.specs.Fields.{field_named}
+use Rattle.line_rules.specs.FieldRules.Fields.{field_named}
 use Rattle.hubs.specs.declared.hub.Hub.TheVariants.{MI}
 use Rattle.panel_plans.specs.Shown.{units_group}
 use Rattle.panel_plans.specs.declared.pilots.SignedAmount.{SignedAmount}

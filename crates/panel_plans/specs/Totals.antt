@@ -2,7 +2,7 @@
 use Rattle.std.specs.Prelude.{ℕ, List}
 use Rattle.charts.specs.Levels.{level_number}
 use Rattle.charts.specs.declared.chart.Line.{Line}
-use Rattle.field_rules.specs.Fields.{field_named}
+use Rattle.line_rules.specs.FieldRules.Fields.{field_named}
 use Rattle.panel_plans.specs.Shown.{IsShown}
 use Rattle.panel_plans.specs.Wired.{TotalOn, units_wheel}
 use Rattle.panel_plans.specs.declared.counters.Units.{Units}

@@ -8,7 +8,7 @@ ghost use Rattle.panel_plans.specs.Narrow.{IsTotal};
 ghost use Rattle.panel_plans.specs.Shown.{CarriesTo, IsShown, ShowsUnits, units_group};
 ghost use Rattle.plans.specs.declared.counter.TotalCounter.{TotalCounter};
 ghost use Rattle.charts.specs.Field.{decimals_of};
-ghost use Rattle.field_rules.specs.Fields.{field_named};
+ghost use Rattle.line_rules.specs.FieldRules.Fields.{field_named};
 ghost use Rattle.panel_plans.specs.Totals.{IsShownOn, units_of};
 ghost use Rattle.panel_plans.specs.Wired.{TotalOn, units_wheel};
 ghost use Rattle.wiring_table.specs.Figures.{digit_wheel};

@@ -6,7 +6,7 @@ ghost use Rattle.charts.specs.Field.{column_of_rule, columns_of, decimals_of};
 ghost use Rattle.charts.specs.declared.chart.Line.{Line};
 ghost use Rattle.charts.specs.declared.statement.Field.{Field};
 ghost use Rattle.charts.specs.declared.statement.SignRule.{SignRule};
-ghost use Rattle.field_rules.specs.Fields.{field_named};
+ghost use Rattle.line_rules.specs.FieldRules.Fields.{field_named};
 ghost use Rattle.hubs.specs.declared.hub.Hub.TheVariants.{FR, PIX, W};
 ghost use Rattle.panel_plans.specs.NamingWires.{ShowsPartsOf};
 ghost use Rattle.panel_plans.specs.PilotWires.{IsSignedOf, IsTold, LeadsToTotal, TellsPilot};

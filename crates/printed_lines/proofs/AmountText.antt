@@ -4,7 +4,7 @@ use Rattle.std.proofs.Common.{◌≡◌, ◌∙◌, refl, sym, ap, ap₂, ℕ, z
 use Rattle.std.proofs.lemmas.List.{take-map, drop-map, map-append, length-map, length-take, length-drop, take-append-drop, replicate-append-replicate}
 use Rattle.std.proofs.lemmas.List.Folds.{list_any-append}
 use Rattle.print_unit.specs.Below.card_code.CardCode.{print_character, deck_character, code, rows_of}
-use Rattle.wiring_table.specs.Below.print_rules.Items.{mark_width}
+use Rattle.wiring_table.specs.Below.line_rules.PrintRules.Items.{mark_width}
 use Rattle.wiring_table.specs.Below.charts.declared.statement.Mark.{Mark}
 use Rattle.wiring_table.specs.Below.charts.declared.statement.Mark.TheVariants as mark
 use Rattle.print_unit.specs.ZeroControl.{Wheel, character_of, is_figure, is_zero, shown, has_significance, gives, printed_from}

@@ -2,7 +2,7 @@
 use Rattle.std.proofs.Common.{Bool, Option}
 use Rattle.wiring_table.specs.Below.charts.Chart.{Chart}
 use Rattle.wiring_table.specs.Below.charts.declared.statement.Statement.{Statement}
-use Rattle.wiring_table.specs.Below.print_rules.declared.items.PrintedLine.{PrintedLine}
+use Rattle.wiring_table.specs.Below.line_rules.declared.print_rules.items.PrintedLine.{PrintedLine}
 use Rattle.wiring_table.specs.Below.chart_rules.Rules.{IsLawful}
 use Rattle.printed_lines.specs.Laws.{HasItemSets, LawfulItemsKeepApart}
 use Rattle.printed_lines.specs.Shown.{Shown, card_sends, total_sends, heading_sends}

@@ -11,14 +11,14 @@ use Rattle.wiring_table.specs.Below.charts.declared.statement.FieldKind.{FieldKi
 use Rattle.wiring_table.specs.Below.charts.declared.statement.FieldKind.TheVariants as holds
 use Rattle.wiring_table.specs.Below.charts.declared.statement.Statement.{Statement}
 use Rattle.wiring_table.specs.Below.charts.declared.statement.Statement.TheVariants as says
-use Rattle.wiring_table.specs.Below.print_rules.declared.items.Figure.{Figure}
-use Rattle.wiring_table.specs.Below.print_rules.declared.items.PrintedLine.{PrintedLine}
-use Rattle.wiring_table.specs.Below.print_rules.declared.items.PrintedLine.TheVariants.{Heading, Body}
-use Rattle.wiring_table.specs.Below.field_rules.Fields.{field_named}
-use Rattle.wiring_table.specs.Below.print_rules.Items.{is_same_line, mark_shown, detail_item}
+use Rattle.wiring_table.specs.Below.line_rules.declared.print_rules.items.Figure.{Figure}
+use Rattle.wiring_table.specs.Below.line_rules.declared.print_rules.items.PrintedLine.{PrintedLine}
+use Rattle.wiring_table.specs.Below.line_rules.declared.print_rules.items.PrintedLine.TheVariants.{Heading, Body}
+use Rattle.wiring_table.specs.Below.line_rules.FieldRules.Fields.{field_named}
+use Rattle.wiring_table.specs.Below.line_rules.PrintRules.Items.{is_same_line, mark_shown, detail_item}
 use Rattle.wiring_table.specs.Below.chart_rules.Rules.{IsLawful}
 use Rattle.wiring_table.specs.Below.chart_rules.ValidCard.{IsText, IsValidCard, IsValidField, IsValidKind}
-use Rattle.wiring_table.specs.Below.print_rules.Wheels.{is_body}
+use Rattle.wiring_table.specs.Below.line_rules.PrintRules.Wheels.{is_body}
 use Rattle.wiring_table.specs.Below.report.Amounts.{digits_on, is_negated}
 use Rattle.wiring_table.specs.Below.report.BodyLines.{piece_at, card_piece, field_on, amount_on, is_shown}
 use Rattle.wiring_table.specs.Figures.{IsFigure, on_detail, detail_emitter}

@@ -7,9 +7,9 @@ use Rattle.wiring_table.specs.Below.charts.Literals.{HaveLiteralTexts, literal_i
 use Rattle.wiring_table.specs.Below.charts.declared.chart.Line.{Line}
 use Rattle.wiring_table.specs.Below.charts.declared.statement.Statement.{Statement}
 use Rattle.wiring_table.specs.Below.charts.declared.statement.Statement.TheVariants as says
-use Rattle.wiring_table.specs.Below.print_rules.declared.items.PrintedLine.{PrintedLine}
-use Rattle.wiring_table.specs.Below.print_rules.declared.items.PrintedLine.TheVariants.{Heading, Body}
-use Rattle.wiring_table.specs.Below.print_rules.Items.{is_same_line}
+use Rattle.wiring_table.specs.Below.line_rules.declared.print_rules.items.PrintedLine.{PrintedLine}
+use Rattle.wiring_table.specs.Below.line_rules.declared.print_rules.items.PrintedLine.TheVariants.{Heading, Body}
+use Rattle.wiring_table.specs.Below.line_rules.PrintRules.Items.{is_same_line}
 use Rattle.wiring_table.specs.Below.report.BodyLines.{piece_at, heading_piece}
 use Rattle.printed_lines.specs.Laws.{HeadingLinesPrint}
 use Rattle.printed_lines.specs.Shown.{Shown, Characters, heading_sends, set_of_character}

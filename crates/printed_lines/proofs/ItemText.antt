@@ -7,9 +7,9 @@ use Rattle.wiring_table.specs.Below.charts.Chart.{Chart}
 use Rattle.wiring_table.specs.Below.charts.declared.chart.Line.{Line}
 use Rattle.wiring_table.specs.Below.charts.declared.statement.Mark.{Mark}
 use Rattle.wiring_table.specs.Below.charts.declared.statement.Statement.{Statement}
-use Rattle.wiring_table.specs.Below.print_rules.declared.items.Figure.{Figure}
-use Rattle.wiring_table.specs.Below.print_rules.declared.items.PrintedLine.{PrintedLine}
-use Rattle.wiring_table.specs.Below.print_rules.Items.{figure_width, mark_width}
+use Rattle.wiring_table.specs.Below.line_rules.declared.print_rules.items.Figure.{Figure}
+use Rattle.wiring_table.specs.Below.line_rules.declared.print_rules.items.PrintedLine.{PrintedLine}
+use Rattle.wiring_table.specs.Below.line_rules.PrintRules.Items.{figure_width, mark_width}
 use Rattle.print_unit.specs.ZeroControl.{Wheel, character_of, shown, gives, printed_from}
 use Rattle.print_unit.proofs.Ranges.{map-same}
 use Rattle.wiring_table.specs.Below.report.Edits.{free_digits}

@@ -5,7 +5,7 @@ use Rattle.std.proofs.lemmas.Bool.Decides.{nat_tests}
 use Rattle.std.proofs.lemmas.List.{length-map, length-take, length-drop}
 use Rattle.wiring_table.specs.Below.charts.declared.statement.Mark.{Mark}
 use Rattle.wiring_table.specs.Below.charts.declared.statement.Mark.TheVariants as mark
-use Rattle.wiring_table.specs.Below.print_rules.Items.{mark_width}
+use Rattle.wiring_table.specs.Below.line_rules.PrintRules.Items.{mark_width}
 use Rattle.print_unit.specs.ZeroControl.{Wheel}
 use Rattle.printed_lines.specs.Shown.{digit_set, point_sets, mark_sets}
 use Rattle.printed_lines.proofs.AmountText.{amount_wheels}

@@ -6,12 +6,12 @@ use Rattle.wiring_table.specs.Below.charts.declared.statement.BodyLine.TheVarian
 use Rattle.wiring_table.specs.Below.charts.declared.statement.FieldKind.{FieldKind}
 use Rattle.wiring_table.specs.Below.charts.declared.statement.FieldKind.TheVariants as holds
 use Rattle.wiring_table.specs.Below.charts.declared.statement.Statement.{Statement}
-use Rattle.wiring_table.specs.Below.print_rules.declared.items.Figure.{Figure}
-use Rattle.wiring_table.specs.Below.print_rules.declared.items.PrintedLine.{PrintedLine}
-use Rattle.wiring_table.specs.Below.print_rules.declared.items.PrintedLine.TheVariants.{Body}
-use Rattle.wiring_table.specs.Below.field_rules.Fields.{fields_of}
-use Rattle.wiring_table.specs.Below.print_rules.Items.{item_of, detail_item, total_item, figure_item, figure_width, mark_shown}
-use Rattle.wiring_table.specs.Below.print_rules.Wheels.{is_body}
+use Rattle.wiring_table.specs.Below.line_rules.declared.print_rules.items.Figure.{Figure}
+use Rattle.wiring_table.specs.Below.line_rules.declared.print_rules.items.PrintedLine.{PrintedLine}
+use Rattle.wiring_table.specs.Below.line_rules.declared.print_rules.items.PrintedLine.TheVariants.{Body}
+use Rattle.wiring_table.specs.Below.line_rules.FieldRules.Fields.{fields_of}
+use Rattle.wiring_table.specs.Below.line_rules.PrintRules.Items.{item_of, detail_item, total_item, figure_item, figure_width, mark_shown}
+use Rattle.wiring_table.specs.Below.line_rules.PrintRules.Wheels.{is_body}
 use Rattle.print_unit.specs.Below.hubs.declared.jack.Jack.{Jack}
 use Rattle.print_unit.specs.Below.hubs.declared.jack.Jack.TheVariants as jack
 use Rattle.wiring_table.specs.Figures.{IsFigure, on_detail, on_total, mark_wheel, free_digits}

@@ -11,18 +11,18 @@ use Rattle.wiring_table.specs.Below.charts.declared.statement.FieldKind.TheVaria
 use Rattle.wiring_table.specs.Below.charts.declared.statement.Statement.{Statement}
 use Rattle.wiring_table.specs.Below.charts.declared.statement.TotalLine.{TotalLine}
 use Rattle.wiring_table.specs.Below.charts.declared.statement.Statement.TheVariants as says
-use Rattle.wiring_table.specs.Below.print_rules.declared.items.Figure.{Figure}
-use Rattle.wiring_table.specs.Below.print_rules.declared.items.Item.{Item}
+use Rattle.wiring_table.specs.Below.line_rules.declared.print_rules.items.Figure.{Figure}
+use Rattle.wiring_table.specs.Below.line_rules.declared.print_rules.items.Item.{Item}
 use Rattle.wiring_table.specs.Below.chart_rules.declared.rule.Rule.TheVariants as rule
-use Rattle.wiring_table.specs.Below.field_rules.Digits.{breaks_digits_range, is_out_of_digits}
-use Rattle.wiring_table.specs.Below.field_rules.Fields.{fields_of, field_named}
-use Rattle.wiring_table.specs.Below.print_rules.declared.items.PrintedLine.TheVariants.{Body}
+use Rattle.wiring_table.specs.Below.line_rules.FieldRules.Digits.{breaks_digits_range, is_out_of_digits}
+use Rattle.wiring_table.specs.Below.line_rules.FieldRules.Fields.{fields_of, field_named}
+use Rattle.wiring_table.specs.Below.line_rules.declared.print_rules.items.PrintedLine.TheVariants.{Body}
 use Rattle.wiring_table.specs.Below.charts.declared.statement.BodyLine.TheVariants as body
-use Rattle.wiring_table.specs.Below.print_rules.Items.{item_of, mark_shown, text_item, detail_item, total_item}
+use Rattle.wiring_table.specs.Below.line_rules.PrintRules.Items.{item_of, mark_shown, text_item, detail_item, total_item}
 use Rattle.wiring_table.specs.Below.chart_rules.Rules.{IsLawful}
-use Rattle.wiring_table.specs.Below.print_rules.Wheels.{is_off_wheels}
+use Rattle.wiring_table.specs.Below.line_rules.PrintRules.Wheels.{is_off_wheels}
 use Rattle.wiring_table.proofs.Below.chart_rules.Laws.{IsGoodField, good-field, kept-line}
-use Rattle.wiring_table.proofs.Below.field_rules.DigitsKept.{digits-kept}
+use Rattle.wiring_table.proofs.Below.line_rules.FieldRules.DigitsKept.{digits-kept}
 
 -- An item stands on wheels of the machine.
 pub record IsOnWheels (item : Item) : Type 0 where

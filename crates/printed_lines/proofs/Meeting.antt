@@ -9,13 +9,13 @@ use Rattle.wiring_table.specs.Below.charts.Chart.{Chart}
 use Rattle.wiring_table.specs.Below.charts.declared.chart.Line.{Line}
 use Rattle.wiring_table.specs.Below.charts.declared.statement.Mark.{Mark}
 use Rattle.wiring_table.specs.Below.charts.declared.statement.Mark.TheVariants as mark
-use Rattle.wiring_table.specs.Below.print_rules.declared.items.Figure.{Figure}
-use Rattle.wiring_table.specs.Below.print_rules.declared.items.Item.{Item}
+use Rattle.wiring_table.specs.Below.line_rules.declared.print_rules.items.Figure.{Figure}
+use Rattle.wiring_table.specs.Below.line_rules.declared.print_rules.items.Item.{Item}
 use Rattle.wiring_table.specs.Below.chart_rules.declared.rule.Rule.TheVariants as rule
-use Rattle.wiring_table.specs.Below.field_rules.Fields.{fields_of}
-use Rattle.wiring_table.specs.Below.print_rules.Items.{item_of, is_same_line}
+use Rattle.wiring_table.specs.Below.line_rules.FieldRules.Fields.{fields_of}
+use Rattle.wiring_table.specs.Below.line_rules.PrintRules.Items.{item_of, is_same_line}
 use Rattle.wiring_table.specs.Below.chart_rules.Rules.{IsLawful}
-use Rattle.wiring_table.specs.Below.print_rules.Wheels.{HasWheel, meet, overlap, clash, is_body, may_share, is_same_style, is_same_mark}
+use Rattle.wiring_table.specs.Below.line_rules.PrintRules.Wheels.{HasWheel, meet, overlap, clash, is_body, may_share, is_same_style, is_same_mark}
 use Rattle.wiring_table.proofs.Below.chart_rules.Laws.{breaks-lawful}
 
 -- Two items agree where neither is an amount, or both are amounts with the same last wheel, decimals and mark.

@@ -7,8 +7,8 @@ use Rattle.wiring_table.specs.Below.charts.declared.statement.FieldKind.{FieldKi
 use Rattle.wiring_table.specs.Below.charts.declared.statement.FieldKind.TheVariants as holds
 use Rattle.wiring_table.specs.Below.charts.Field.{is_amount}
 use Rattle.wiring_table.specs.Below.chart_rules.declared.rule.Rule.TheVariants as rule
-use Rattle.wiring_table.specs.Below.field_rules.Fields.{fields_of, field_named}
-use Rattle.wiring_table.specs.Below.field_rules.Names.{breaks_wrong_kind, names_amount}
+use Rattle.wiring_table.specs.Below.line_rules.FieldRules.Fields.{fields_of, field_named}
+use Rattle.wiring_table.specs.Below.line_rules.FieldRules.Names.{breaks_wrong_kind, names_amount}
 use Rattle.wiring_table.specs.Below.chart_rules.ValidCard.{IsValidKind}
 use Rattle.wiring_table.proofs.Below.chart_rules.Laws.{kept-line, text-valid}
 use Rattle.wiring_table.specs.Below.report.Amounts.{is_negated, number_in, digits_on, signed}

@@ -5,11 +5,11 @@ use Rattle.std.proofs.lemmas.Bool.Decides.{nat_tests}
 use Rattle.wiring_table.specs.Below.charts.Chart.{Chart}
 use Rattle.wiring_table.specs.Below.charts.declared.chart.Line.{Line}
 use Rattle.wiring_table.specs.Below.charts.declared.statement.Statement.{Statement}
-use Rattle.wiring_table.specs.Below.print_rules.declared.items.Figure.{Figure}
-use Rattle.wiring_table.specs.Below.print_rules.declared.items.Item.{Item}
-use Rattle.wiring_table.specs.Below.print_rules.declared.items.PrintedLine.{PrintedLine}
-use Rattle.wiring_table.specs.Below.field_rules.Fields.{fields_of}
-use Rattle.wiring_table.specs.Below.print_rules.Items.{item_of, is_same_line}
+use Rattle.wiring_table.specs.Below.line_rules.declared.print_rules.items.Figure.{Figure}
+use Rattle.wiring_table.specs.Below.line_rules.declared.print_rules.items.Item.{Item}
+use Rattle.wiring_table.specs.Below.line_rules.declared.print_rules.items.PrintedLine.{PrintedLine}
+use Rattle.wiring_table.specs.Below.line_rules.FieldRules.Fields.{fields_of}
+use Rattle.wiring_table.specs.Below.line_rules.PrintRules.Items.{item_of, is_same_line}
 use Rattle.wiring_table.specs.Below.chart_rules.Rules.{IsLawful}
 use Rattle.wiring_table.specs.Figures.{IsFigure}
 use Rattle.printed_lines.specs.Laws.{HasWheelOf}

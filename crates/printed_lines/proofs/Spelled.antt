@@ -8,9 +8,9 @@ use Rattle.print_unit.specs.Below.card_code.CardCode.{deck_character, print_char
 use Rattle.wiring_table.specs.Below.charts.Field.{columns_of}
 use Rattle.wiring_table.specs.Below.charts.Literal.{is_printable}
 use Rattle.wiring_table.specs.Below.charts.declared.statement.Field.{Field}
-use Rattle.wiring_table.specs.Below.print_rules.declared.items.Figure.{Figure}
-use Rattle.wiring_table.specs.Below.print_rules.declared.items.PrintedLine.{PrintedLine}
-use Rattle.wiring_table.specs.Below.print_rules.Items.{text_item, figure_item}
+use Rattle.wiring_table.specs.Below.line_rules.declared.print_rules.items.Figure.{Figure}
+use Rattle.wiring_table.specs.Below.line_rules.declared.print_rules.items.PrintedLine.{PrintedLine}
+use Rattle.wiring_table.specs.Below.line_rules.PrintRules.Items.{text_item, figure_item}
 use Rattle.wiring_table.specs.Below.chart_rules.ValidCard.{column_of, is_printed}
 use Rattle.print_unit.specs.ZeroControl.{character_of}
 use Rattle.wiring_table.specs.Below.report.Amounts.{columns_in}

@@ -13,16 +13,16 @@ use Rattle.wiring_table.specs.Below.charts.declared.statement.Field.{Field}
 use Rattle.wiring_table.specs.Below.charts.declared.statement.Statement.{Statement}
 use Rattle.wiring_table.specs.Below.charts.declared.statement.TotalLine.{TotalLine}
 use Rattle.wiring_table.specs.Below.charts.declared.statement.Statement.TheVariants as says
-use Rattle.wiring_table.specs.Below.print_rules.declared.items.Figure.{Figure}
-use Rattle.wiring_table.specs.Below.print_rules.declared.items.PrintedLine.{PrintedLine}
-use Rattle.wiring_table.specs.Below.print_rules.declared.items.PrintedLine.TheVariants.{Heading, Body}
+use Rattle.wiring_table.specs.Below.line_rules.declared.print_rules.items.Figure.{Figure}
+use Rattle.wiring_table.specs.Below.line_rules.declared.print_rules.items.PrintedLine.{PrintedLine}
+use Rattle.wiring_table.specs.Below.line_rules.declared.print_rules.items.PrintedLine.TheVariants.{Heading, Body}
 use Rattle.wiring_table.specs.Below.chart_rules.declared.rule.Rule.TheVariants as rule
-use Rattle.wiring_table.specs.Below.field_rules.Fields.{fields_of, field_named}
-use Rattle.wiring_table.specs.Below.print_rules.Items.{is_same_line, text_item, total_item}
-use Rattle.wiring_table.specs.Below.field_rules.Names.{breaks_wrong_kind, names_text}
+use Rattle.wiring_table.specs.Below.line_rules.FieldRules.Fields.{fields_of, field_named}
+use Rattle.wiring_table.specs.Below.line_rules.PrintRules.Items.{is_same_line, text_item, total_item}
+use Rattle.wiring_table.specs.Below.line_rules.FieldRules.Names.{breaks_wrong_kind, names_text}
 use Rattle.wiring_table.specs.Below.chart_rules.Rules.{IsLawful}
 use Rattle.wiring_table.specs.Below.chart_rules.ValidCard.{column_of}
-use Rattle.wiring_table.specs.Below.print_rules.Wheels.{is_body}
+use Rattle.wiring_table.specs.Below.line_rules.PrintRules.Wheels.{is_body}
 use Rattle.wiring_table.proofs.Below.chart_rules.Laws.{good-field, kept-line}
 use Rattle.wiring_table.specs.Below.report.Amounts.{columns_in}
 use Rattle.wiring_table.specs.Below.report.BodyLines.{piece_at, total_piece, text_on, a_card_of}

@@ -8,7 +8,7 @@ use Rattle.wiring_table.specs.Below.charts.declared.statement.Field.{Field}
 use Rattle.wiring_table.specs.Below.charts.declared.statement.Mark.{Mark}
 use Rattle.wiring_table.specs.Below.charts.declared.statement.Statement.TheVariants as says
 use Rattle.wiring_table.specs.Below.charts.declared.statement.TotalLine.{TotalLine}
-use Rattle.wiring_table.specs.Below.field_rules.Fields.{field_named}
+use Rattle.wiring_table.specs.Below.line_rules.FieldRules.Fields.{field_named}
 use Rattle.wiring_table.specs.Below.chart_rules.ValidCard.{EachColumn, IsText, column_of}
 use Rattle.wiring_table.specs.Below.report.BodyLines.{a_card_of}
 use Rattle.wiring_table.specs.Below.report.Totals.{total_of}

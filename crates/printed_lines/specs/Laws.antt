@@ -8,7 +8,7 @@ use Rattle.wiring_table.specs.Below.charts.declared.level.Level.{Level}
 use Rattle.wiring_table.specs.Below.charts.declared.statement.Field.{Field}
 use Rattle.wiring_table.specs.Below.charts.declared.statement.Statement.{Statement}
 use Rattle.wiring_table.specs.Below.charts.declared.statement.Statement.TheVariants as says
-use Rattle.wiring_table.specs.Below.field_rules.Fields.{field_named}
+use Rattle.wiring_table.specs.Below.line_rules.FieldRules.Fields.{field_named}
 use Rattle.wiring_table.specs.Below.chart_rules.Rules.{IsLawful}
 use Rattle.wiring_table.specs.Below.chart_rules.ValidCard.{IsText, IsValidCard}
 use Rattle.print_unit.specs.ZeroControl.{printed_line}

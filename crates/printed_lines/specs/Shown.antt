@@ -4,10 +4,10 @@ use Rattle.std.specs.Prelude.{◌≡◌, ◌↔◌, ℕ, ◌+◌, ◌-◌, ◌==
 use Rattle.std.specs.List.{filter_map, range_with_len}
 use Rattle.print_unit.specs.Below.card_code.CardCode.{has_row, rows_of}
 use Rattle.print_unit.specs.Below.card_code.Rows.{row_number, rows}
-use Rattle.wiring_table.specs.Below.field_rules.Fields.{field_named}
-use Rattle.wiring_table.specs.Below.print_rules.Items.{mark_shown}
+use Rattle.wiring_table.specs.Below.line_rules.FieldRules.Fields.{field_named}
+use Rattle.wiring_table.specs.Below.line_rules.PrintRules.Items.{mark_shown}
 use Rattle.wiring_table.specs.Below.chart_rules.ValidCard.{column_of}
-use Rattle.wiring_table.specs.Below.print_rules.declared.items.Figure.{Figure}
+use Rattle.wiring_table.specs.Below.line_rules.declared.print_rules.items.Figure.{Figure}
 use Rattle.wiring_table.specs.Below.charts.Field.{columns_of, decimals_of}
 use Rattle.wiring_table.specs.Below.charts.Headings.{heading_number}
 use Rattle.wiring_table.specs.Below.charts.Levels.{level_number}

@@ -1,10 +1,10 @@
 -- What the carriage is asked for in a cycle.
 use Rattle.std.proofs.Common.{ℕ, Option, Some, None}
-use Rattle.panel_cycles.specs.Below.carriage.Asked.{nothing_asked}
-use Rattle.panel_cycles.specs.Below.carriage.declared.asked.Asked.{Asked}
-use Rattle.decks.specs.Below.charts.Chart.{Chart}
-use Rattle.panel_cycles.specs.Below.net.declared.cycle.Cycle.{Cycle}
-use Rattle.panel_cycles.specs.LinePlaces.Placing.{asked_of, kind_of}
+use Rattle.wired_panels.specs.Below.carriage.Asked.{nothing_asked}
+use Rattle.wired_panels.specs.Below.carriage.declared.asked.Asked.{Asked}
+use Rattle.report.specs.Below.charts.Chart.{Chart}
+use Rattle.wired_panels.specs.Below.net.declared.cycle.Cycle.{Cycle}
+use Rattle.wired_panels.specs.CycleAsks.LinePlaces.Placing.{asked_of, kind_of}
 
 -- what the carriage is asked for where a kind of body line prints, or none
 abbrev pub asked_for : Chart → Option ℕ → Asked

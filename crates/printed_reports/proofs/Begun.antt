@@ -1,18 +1,18 @@
 -- Decks whose totals don't all fit: the feeds up to a card are those of a machine that goes by cards, so their lines are the report's.
 use Rattle.std.proofs.Common.{ℕ, List, [], ◌∷◌}
-use Rattle.decks.specs.Below.placed_lines.declared.placed_line.PlacedLine.{PlacedLine}
-use Rattle.decks.specs.Below.charts.Chart.{Chart}
-use Rattle.decks.proofs.Running.{feeds_begin_reports}
-use Rattle.decks.specs.Runner.{HasFedCards}
-use Rattle.decks.specs.Stands.{Stand}
-use Rattle.panel_cycles.specs.Below.setups.Wiring.{Wiring}
-use Rattle.panel_cycles.specs.Below.machine.Feeds.{FedLines}
-use Rattle.panel_cycles.specs.Below.machine.Machine.{MachineState, machine_at_start}
+use Rattle.report.specs.Below.page_text.declared.placed_lines.placed_line.PlacedLine.{PlacedLine}
+use Rattle.report.specs.Below.charts.Chart.{Chart}
+use Rattle.report.proofs.FollowedDecks.Running.{feeds_begin_reports}
+use Rattle.report.specs.FollowedDecks.Runner.{HasFedCards}
+use Rattle.report.specs.FollowedDecks.Stands.{Stand}
+use Rattle.wired_panels.specs.Below.setups.Wiring.{Wiring}
+use Rattle.wired_panels.specs.Below.machine.Feeds.{FedLines}
+use Rattle.wired_panels.specs.Below.machine.Machine.{MachineState, machine_at_start}
 use Rattle.printed_reports.specs.Content.{Waits}
 use Rattle.printed_reports.proofs.Instance.{machine_goes}
 use Rattle.printed_reports.proofs.Runs.{goes_by_cards, runner}
 use Rattle.printed_reports.specs.Begun.{MachinesBeginReports}
-use Rattle.decks.specs.Below.chart_rules.ValidCard.{IsValidCard}
+use Rattle.report.specs.Below.chart_rules.ValidCard.{IsValidCard}
 
 -- feeds of cards are those of a machine that goes by cards
 cards-fed :

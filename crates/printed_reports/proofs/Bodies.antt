@@ -1,20 +1,20 @@
 -- A body line in a feed: the cycle that prints it places it where the report does, or, where its kind is not printed, places nothing.
 use Rattle.std.proofs.Common.{◌≡◌, ◌∙◌, refl, sym, ap, subst, ℕ, Bool, true, false, List, [], ◌∷◌, ◌++◌, Option, Some, if◌then◌else◌}
-use Rattle.decks.specs.Below.placed_lines.declared.placed_line.PlacedLine.{PlacedLine}
-use Rattle.decks.specs.Below.chart_rules.Rules.{IsLawful}
-use Rattle.decks.specs.Below.charts.Chart.{Chart}
-use Rattle.decks.specs.Left.{left_after}
-use Rattle.panel_cycles.specs.Below.setups.Wiring.{Wiring}
-use Rattle.panel_cycles.specs.Below.machine.Cycles.{CycleRun, line_of}
-use Rattle.panel_cycles.specs.Below.machine.Feeds.{due_in, taken}
-use Rattle.panel_cycles.specs.Below.machine.Machine.{MachineState}
-use Rattle.panel_cycles.specs.Below.net.declared.cycle.Cycle.{Cycle}
-use Rattle.panel_cycles.proofs.LinePlaces.BodyLines.{body-placed}
-use Rattle.panel_cycles.proofs.LinePlaces.UnprintedKinds.{unprinted-stays}
-use Rattle.panel_cycles.specs.LinePlaces.CarriageCycles.{carriage_after, line_at}
-use Rattle.panel_cycles.specs.LinePlaces.FormFacts.{HasGoodForm}
-use Rattle.panel_cycles.specs.LinePlaces.Placing.{IsCarriageOf, IsAt, asked_of, kind_of, prints_kind}
-use Rattle.decks.specs.Below.report.Places.{BodyText, Left, page_of, line_below, left_by, headed, placed}
+use Rattle.report.specs.Below.page_text.declared.placed_lines.placed_line.PlacedLine.{PlacedLine}
+use Rattle.report.specs.Below.chart_rules.Rules.{IsLawful}
+use Rattle.report.specs.Below.charts.Chart.{Chart}
+use Rattle.report.specs.FollowedDecks.Left.{left_after}
+use Rattle.wired_panels.specs.Below.setups.Wiring.{Wiring}
+use Rattle.wired_panels.specs.Below.machine.Cycles.{CycleRun, line_of}
+use Rattle.wired_panels.specs.Below.machine.Feeds.{due_in, taken}
+use Rattle.wired_panels.specs.Below.machine.Machine.{MachineState}
+use Rattle.wired_panels.specs.Below.net.declared.cycle.Cycle.{Cycle}
+use Rattle.wired_panels.proofs.CycleAsks.LinePlaces.BodyLines.{body-placed}
+use Rattle.wired_panels.proofs.CycleAsks.LinePlaces.UnprintedKinds.{unprinted-stays}
+use Rattle.wired_panels.specs.CycleAsks.LinePlaces.CarriageCycles.{carriage_after, line_at}
+use Rattle.wired_panels.specs.CycleAsks.LinePlaces.FormFacts.{HasGoodForm}
+use Rattle.wired_panels.specs.CycleAsks.LinePlaces.Placing.{IsCarriageOf, IsAt, asked_of, kind_of, prints_kind}
+use Rattle.report.specs.Places.{BodyText, Left, page_of, line_below, left_by, headed, placed}
 use Rattle.printed_reports.proofs.Headings.{IsReadyFor}
 use Rattle.printed_reports.proofs.Steps.{fed_with, GoesFrom, stepped}
 

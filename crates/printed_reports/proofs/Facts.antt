@@ -1,20 +1,20 @@
 -- What is known of the cycles of a machine that is wired for a chart, cycle by cycle.
 use Rattle.std.proofs.Common.{◌≡◌, ℕ, ◌≤◌, ◌<◌, ◌^◌, true, false, List, unsigned_abs}
 use Rattle.std.specs.Int.{is_negative}
-use Rattle.panel_cycles.specs.Below.totals.CounterCycles.Acts.{Held}
-use Rattle.panel_cycles.specs.Below.plans.Plans.{Lists}
-use Rattle.decks.specs.Below.charts.Chart.{Chart}
-use Rattle.decks.specs.Below.charts.declared.statement.Field.{Field}
-use Rattle.panel_cycles.specs.Below.setups.Wiring.{Wiring}
-use Rattle.panel_cycles.specs.ChartAmounts.{amount_of}
-use Rattle.panel_cycles.specs.Below.wired_panels.PanelCycles.{IsCardRead}
-use Rattle.panel_cycles.specs.Below.machine.Machine.{MachineState}
-use Rattle.panel_cycles.specs.Below.net.declared.cycle.Cycle.{Cycle}
-use Rattle.panel_cycles.specs.Below.net.declared.cycle.Cycle.TheVariants.{RunIn, Card, Prog, Head}
-use Rattle.panel_cycles.specs.LinePlaces.CarriageCycles.{carriage_after}
-use Rattle.decks.specs.Below.report.Totals.{total_of}
-use Rattle.panel_cycles.specs.Below.selectors.Indicate.{indicate_ended}
-use Rattle.panel_cycles.specs.Below.whole_cycles.Between.{IsReady}
+use Rattle.wired_panels.specs.Below.totals.CounterCycles.Acts.{Held}
+use Rattle.wired_panels.specs.Below.plans.Plans.{Lists}
+use Rattle.report.specs.Below.charts.Chart.{Chart}
+use Rattle.report.specs.Below.charts.declared.statement.Field.{Field}
+use Rattle.wired_panels.specs.Below.setups.Wiring.{Wiring}
+use Rattle.wired_panels.specs.CycleAsks.ChartAmounts.{amount_of}
+use Rattle.wired_panels.specs.PanelCycles.{IsCardRead}
+use Rattle.wired_panels.specs.Below.machine.Machine.{MachineState}
+use Rattle.wired_panels.specs.Below.net.declared.cycle.Cycle.{Cycle}
+use Rattle.wired_panels.specs.Below.net.declared.cycle.Cycle.TheVariants.{RunIn, Card, Prog, Head}
+use Rattle.wired_panels.specs.CycleAsks.LinePlaces.CarriageCycles.{carriage_after}
+use Rattle.report.specs.Totals.{total_of}
+use Rattle.wired_panels.specs.Below.selectors.Indicate.{indicate_ended}
+use Rattle.wired_panels.specs.Below.whole_cycles.Between.{IsReady}
 use Rattle.printed_reports.proofs.Asked.{asked_in}
 
 -- A cycle leaves the machine ready and the cards where they were, and the carriage was asked for what the chart asks in it.

@@ -1,35 +1,35 @@
 -- The feed of a card: its own cycle, and the cycles of the levels that end with it, each with heading cycles where its line starts a page.
 use Rattle.std.proofs.Common.{◌≡◌, ◌∙◌, refl, sym, ap, subst, ℕ, zero, suc, ◌+◌, ◌≤◌, ◌<◌, ◌^◌, Bool, true, false, List, [], ◌∷◌, ◌++◌, Option, Some, None, is_some, length, if◌then◌else◌, arith}
-use Rattle.decks.specs.Below.placed_lines.declared.placed_line.PlacedLine.{PlacedLine}
-use Rattle.decks.specs.Below.chart_rules.Rules.{IsLawful}
-use Rattle.decks.specs.Below.charts.Chart.{Chart}
-use Rattle.decks.proofs.Pages.{after-most}
-use Rattle.decks.proofs.Places.{places_split}
-use Rattle.decks.specs.Left.{bodies_of, left_after}
-use Rattle.decks.specs.Stands.{Stand, card_bodies}
-use Rattle.panel_cycles.specs.Below.setups.Wiring.{Wiring}
-use Rattle.panel_cycles.specs.Below.machine.Feeds.{Feeds, FeedRuns, begun, due_in}
-use Rattle.panel_cycles.specs.Below.machine.Machine.{MachineState}
-use Rattle.panel_cycles.specs.Below.machine.Runs.{has_more, moved_on}
-use Rattle.panel_cycles.specs.Below.net.Printing.{prints}
-use Rattle.panel_cycles.specs.Below.net.declared.cycle.Cycle.TheVariants.{Card, Head}
-use Rattle.panel_cycles.specs.Below.net.declared.cycle.ProgramLevel.{ProgramLevel}
-use Rattle.panel_cycles.specs.Below.net.declared.cycle.Ordinal.TheVariants.{First}
-use Rattle.panel_cycles.proofs.LinePlaces.BodyLines.{jacks-print}
-use Rattle.panel_cycles.proofs.LinePlaces.CyclesDue.{cards-due, cards-wait, others-come}
-use Rattle.panel_cycles.proofs.LinePlaces.DueCycles.{due, is_between, stage_after}
-use Rattle.panel_cycles.proofs.LinePlaces.LawfulForms.{form-lawful}
-use Rattle.panel_cycles.specs.LinePlaces.FormFacts.{HasGoodForm}
-use Rattle.panel_cycles.specs.LinePlaces.Placing.{IsCarriageOf, IsAt, prints_kind, printing_of_chart}
-use Rattle.panel_cycles.specs.Below.program_unit.CycleOrder.{card_over, is_fresh, levels_to, top_level, headed as headed_by}
-use Rattle.panel_cycles.specs.Below.program_unit.Program.{stage_ended}
-use Rattle.panel_cycles.specs.Below.program_unit.declared.stage.Stage.{Stage}
-use Rattle.panel_cycles.specs.Below.program_unit.declared.stage.Stage.TheVariants.{Fresh, BeforeCard}
-use Rattle.decks.proofs.Below.report.FewLines.{ended-few}
-use Rattle.decks.specs.Below.report.BodyLines.{card_line}
-use Rattle.decks.specs.Below.report.Breaks.{ended_after, taking, totals_to}
-use Rattle.decks.specs.Below.report.Outline.{OutlineLine, Total}
-use Rattle.decks.specs.Below.report.Places.{BodyText, Left, placed}
+use Rattle.report.specs.Below.page_text.declared.placed_lines.placed_line.PlacedLine.{PlacedLine}
+use Rattle.report.specs.Below.chart_rules.Rules.{IsLawful}
+use Rattle.report.specs.Below.charts.Chart.{Chart}
+use Rattle.report.proofs.FollowedDecks.Pages.{after-most}
+use Rattle.report.proofs.FollowedDecks.Places.{places_split}
+use Rattle.report.specs.FollowedDecks.Left.{bodies_of, left_after}
+use Rattle.report.specs.FollowedDecks.Stands.{Stand, card_bodies}
+use Rattle.wired_panels.specs.Below.setups.Wiring.{Wiring}
+use Rattle.wired_panels.specs.Below.machine.Feeds.{Feeds, FeedRuns, begun, due_in}
+use Rattle.wired_panels.specs.Below.machine.Machine.{MachineState}
+use Rattle.wired_panels.specs.Below.machine.Runs.{has_more, moved_on}
+use Rattle.wired_panels.specs.Below.net.Printing.{prints}
+use Rattle.wired_panels.specs.Below.net.declared.cycle.Cycle.TheVariants.{Card, Head}
+use Rattle.wired_panels.specs.Below.net.declared.cycle.ProgramLevel.{ProgramLevel}
+use Rattle.wired_panels.specs.Below.net.declared.cycle.Ordinal.TheVariants.{First}
+use Rattle.wired_panels.proofs.CycleAsks.LinePlaces.BodyLines.{jacks-print}
+use Rattle.wired_panels.proofs.CycleAsks.LinePlaces.CyclesDue.{cards-due, cards-wait, others-come}
+use Rattle.wired_panels.proofs.CycleAsks.LinePlaces.DueCycles.{due, is_between, stage_after}
+use Rattle.wired_panels.proofs.CycleAsks.LinePlaces.LawfulForms.{form-lawful}
+use Rattle.wired_panels.specs.CycleAsks.LinePlaces.FormFacts.{HasGoodForm}
+use Rattle.wired_panels.specs.CycleAsks.LinePlaces.Placing.{IsCarriageOf, IsAt, prints_kind, printing_of_chart}
+use Rattle.wired_panels.specs.Below.program_unit.CycleOrder.{card_over, is_fresh, levels_to, top_level, headed as headed_by}
+use Rattle.wired_panels.specs.Below.program_unit.Program.{stage_ended}
+use Rattle.wired_panels.specs.Below.program_unit.declared.stage.Stage.{Stage}
+use Rattle.wired_panels.specs.Below.program_unit.declared.stage.Stage.TheVariants.{Fresh, BeforeCard}
+use Rattle.report.proofs.FewLines.{ended-few}
+use Rattle.report.specs.BodyLines.{card_line}
+use Rattle.report.specs.Breaks.{ended_after, taking, totals_to}
+use Rattle.report.specs.Outline.{OutlineLine, Total}
+use Rattle.report.specs.Places.{BodyText, Left, placed}
 use Rattle.printed_reports.proofs.Bodies.{BodyRan, bodies_for, printed_ran, silent_ran}
 use Rattle.printed_reports.proofs.Headings.{CanWait, readied}
 use Rattle.printed_reports.proofs.Levels.{levels_ran, totals_after}

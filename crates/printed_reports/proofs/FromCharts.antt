@@ -1,31 +1,31 @@
 -- What the rules of a chart say of its amounts, and what the totals hold before the first card.
 use Rattle.std.proofs.Common.{◌≡◌, ◌∙◌, refl, sym, ap, subst, ℕ, zero, suc, ◌-◌, ◌<◌, ◌^◌, true, false, List, [], ◌∷◌, Option, Some, None, map, replicate, slice_index_or, is_some, arith, length, unsigned_abs, ◌+◌, ◌*◌}
-use Rattle.panel_cycles.specs.Below.field_rules.Coupled.{has_sign}
-use Rattle.panel_cycles.specs.Below.plans.Plans.{Lists}
-use Rattle.panel_cycles.proofs.Below.field_rules.Places.{is_same_name-equal}
-use Rattle.panel_cycles.specs.Below.field_rules.Fields.{field_named}
-use Rattle.decks.specs.Below.chart_rules.Rules.{IsLawful}
-use Rattle.decks.specs.Below.charts.Chart.{Chart}
-use Rattle.decks.specs.Below.charts.Field.{sign_column}
-use Rattle.decks.specs.Below.charts.declared.statement.Field.{Field}
-use Rattle.decks.specs.Below.charts.declared.statement.FieldKind.{FieldKind}
-use Rattle.decks.specs.Below.charts.declared.statement.FieldKind.TheVariants as holds
-use Rattle.panel_cycles.specs.Below.counters.Counters.{Counter, counter_at_start, counter_of}
-use Rattle.panel_cycles.specs.Below.counters.Numbers.{number}
-use Rattle.panel_cycles.specs.Below.hubs.declared.hub.Group.{Group}
-use Rattle.panel_cycles.specs.Below.setups.Wiring.{Wiring}
-use Rattle.panel_cycles.specs.Below.whole_cycles.Units.{group_at}
-use Rattle.panel_cycles.specs.Below.plans.declared.counter.TotalCounter.{TotalCounter}
-use Rattle.panel_cycles.specs.Below.plans.declared.counter.TotalCounter.TheVariants as of
-use Rattle.panel_cycles.specs.Below.wiring_table.Parts.{panel_group}
-use Rattle.panel_cycles.proofs.AmountFacts.{digits_are, has_from}
-use Rattle.panel_cycles.specs.ChartAmounts.{amount_of, total_counter}
-use Rattle.panel_cycles.specs.CounterStates.{held_in}
-use Rattle.panel_cycles.specs.Below.machine.Machine.{group_units, machine_at_start}
-use Rattle.panel_cycles.specs.Below.net.Panel.{unit_of}
-use Rattle.decks.specs.Below.report.Amounts.{is_negated}
-use Rattle.decks.specs.Below.report.Totals.{GroupFits, total_of}
-use Rattle.panel_cycles.specs.Below.wiring_table.Figures.{IsAmount}
+use Rattle.wired_panels.specs.Below.line_rules.FieldRules.Coupled.{has_sign}
+use Rattle.wired_panels.specs.Below.plans.Plans.{Lists}
+use Rattle.wired_panels.proofs.Below.line_rules.FieldRules.Places.{is_same_name-equal}
+use Rattle.wired_panels.specs.Below.line_rules.FieldRules.Fields.{field_named}
+use Rattle.report.specs.Below.chart_rules.Rules.{IsLawful}
+use Rattle.report.specs.Below.charts.Chart.{Chart}
+use Rattle.report.specs.Below.charts.Field.{sign_column}
+use Rattle.report.specs.Below.charts.declared.statement.Field.{Field}
+use Rattle.report.specs.Below.charts.declared.statement.FieldKind.{FieldKind}
+use Rattle.report.specs.Below.charts.declared.statement.FieldKind.TheVariants as holds
+use Rattle.wired_panels.specs.Below.counters.Counters.{Counter, counter_at_start, counter_of}
+use Rattle.wired_panels.specs.Below.counters.Numbers.{number}
+use Rattle.wired_panels.specs.Below.hubs.declared.hub.Group.{Group}
+use Rattle.wired_panels.specs.Below.setups.Wiring.{Wiring}
+use Rattle.wired_panels.specs.Below.whole_cycles.Units.{group_at}
+use Rattle.wired_panels.specs.Below.plans.declared.counter.TotalCounter.{TotalCounter}
+use Rattle.wired_panels.specs.Below.plans.declared.counter.TotalCounter.TheVariants as of
+use Rattle.wired_panels.specs.Below.wiring_table.Parts.{panel_group}
+use Rattle.wired_panels.proofs.CycleAsks.AmountFacts.{digits_are, has_from}
+use Rattle.wired_panels.specs.CycleAsks.ChartAmounts.{amount_of, total_counter}
+use Rattle.wired_panels.specs.CycleAsks.CounterStates.{held_in}
+use Rattle.wired_panels.specs.Below.machine.Machine.{group_units, machine_at_start}
+use Rattle.wired_panels.specs.Below.net.Panel.{unit_of}
+use Rattle.report.specs.Amounts.{is_negated}
+use Rattle.report.specs.Totals.{GroupFits, total_of}
+use Rattle.wired_panels.specs.Below.wiring_table.Figures.{IsAmount}
 use Rattle.printed_reports.specs.Content.{held}
 
 -- an amount without a sign rule is never negated

@@ -1,63 +1,63 @@
 -- What a cycle leaves of the totals of an amount: each holds what its act makes of what it held.
 use Rattle.std.proofs.Common.{◌≡◌, ◌∙◌, refl, sym, ap, subst, ℕ, ◌≤◌, Bool, true, false, List, Contains, Option, Some, None, is_some, option_and_then, if◌then◌else◌, arith, ◌+◌, inl, inr}
 use Rattle.std.proofs.lemmas.List.Elements.{All-contains}
-use Rattle.panel_cycles.proofs.Below.totals.CounterCycles.ActLemmas.{acts-done}
-use Rattle.panel_cycles.specs.Below.totals.CounterCycles.Acts.{Act, Asks, Held, IsWithinGroup, held_after, held_by}
-use Rattle.panel_cycles.specs.Below.totals.CounterCycles.Acts.Act.{Still}
-use Rattle.panel_cycles.specs.Below.plans.Plans.{Lists}
-use Rattle.decks.specs.Below.charts.Chart.{Chart, NumbersRise}
-use Rattle.decks.specs.Below.charts.Levels.{level_number}
-use Rattle.decks.specs.Below.charts.declared.chart.Line.{Line}
-use Rattle.decks.specs.Below.charts.declared.level.Level.{Level as ChartLevel}
-use Rattle.decks.specs.Below.charts.declared.level.Level.TheVariants as chart_level
-use Rattle.decks.specs.Below.charts.declared.statement.Field.{Field}
-use Rattle.panel_cycles.specs.Below.counters.Counters.{Counter, wheels_in}
-use Rattle.panel_cycles.specs.Below.counters.Numbers.{number}
-use Rattle.panel_cycles.specs.Below.counters.Rings.{CarryThrough, IsFedAlone}
-use Rattle.panel_cycles.specs.Below.counters.WholeCycles.{ComesRound, after_cycle, after_its_points}
-use Rattle.panel_cycles.specs.Below.setups.Wiring.{LeadsToEntries, Wiring, is_wired}
-use Rattle.panel_cycles.specs.Below.hubs.declared.hub.Group.{Group}
-use Rattle.panel_cycles.specs.Below.hubs.declared.hub.Hub.TheVariants.{CO, CI}
-use Rattle.panel_cycles.proofs.AmountFacts.{counter_at, has_from}
-use Rattle.panel_cycles.proofs.Counters.{held_at}
-use Rattle.panel_cycles.proofs.CounterAsks.{asks_card, asks_heading, asks_run_in, asks_step}
-use Rattle.panel_cycles.proofs.AmountsLawful.{lawful_amount}
-use Rattle.panel_cycles.proofs.Rings.{fed_lower, fed_single, fed_upper, goes_through, ring_pair, ring_single}
-use Rattle.panel_cycles.proofs.WheelRowsUnits.{group-own}
-use Rattle.panel_cycles.proofs.Below.wired_panels.Ways.{leads}
-use Rattle.panel_cycles.proofs.Below.wired_panels.CounterUnits.{at_unit, counter_there, planned_unit}
-use Rattle.panel_cycles.proofs.Below.wired_panels.AfterCycles.{cycle-of}
-use Rattle.panel_cycles.specs.ChartAmounts.{amount_of, positions_of, total_counter}
-use Rattle.panel_cycles.specs.CounterStates.{AsksCounter, held_in}
-use Rattle.panel_cycles.proofs.Below.wired_panels.Contacts.{is_set}
-use Rattle.panel_cycles.specs.Below.wired_panels.Groups.{IsCounterOf}
-use Rattle.panel_cycles.specs.Below.field_rules.Coupled.{has_sign}
-use Rattle.panel_cycles.specs.Below.field_rules.Fields.{field_named}
-use Rattle.panel_cycles.specs.Below.plans.declared.counter.TotalCounter.{TotalCounter}
-use Rattle.panel_cycles.specs.Below.plans.declared.counter.TotalCounter.TheVariants as of
-use Rattle.panel_cycles.proofs.Below.totals.CounterCycles.PairLemmas.{pairs-done}
-use Rattle.panel_cycles.specs.Below.totals.CounterCycles.Pairs.{AsksBoth, held_by_both}
-use Rattle.panel_cycles.specs.Below.counters.Laws.{number_of_both}
-use Rattle.panel_cycles.specs.Below.net.declared.cycle.Point.{Point}
-use Rattle.panel_cycles.specs.Below.net.declared.cycle.Point.TheVariants.{K}
-use Rattle.panel_cycles.specs.Below.hubs.declared.hub.Hub.{Hub}
-use Rattle.panel_cycles.proofs.Below.wiring_table.Groups.{counter-given}
-use Rattle.decks.proofs.Below.charts.Listed.{listed-map}
-use Rattle.panel_cycles.specs.Below.wired_panels.Panel.{IsPanel}
-use Rattle.panel_cycles.specs.Below.machine.Cycles.{CycleRun}
-use Rattle.panel_cycles.specs.Below.machine.Machine.{MachineState}
-use Rattle.panel_cycles.specs.Below.net.Panel.{unit_of}
-use Rattle.panel_cycles.specs.Below.net.declared.cycle.Cycle.{Cycle}
-use Rattle.panel_cycles.specs.Below.net.declared.cycle.Cycle.TheVariants.{RunIn, Card, Prog, Head}
-use Rattle.panel_cycles.proofs.Below.totals.Passing.{have_room}
-use Rattle.panel_cycles.specs.Below.totals.Amounts.{IsSmall, act_of, state_after, total_act}
-use Rattle.panel_cycles.proofs.Below.whole_cycles.Carries.{carries-come}
-use Rattle.panel_cycles.proofs.Below.whole_cycles.Ready.{machines-ready}
-use Rattle.panel_cycles.specs.Below.whole_cycles.Between.{IsBetween, IsIdle, IsReady}
-use Rattle.panel_cycles.specs.Below.whole_cycles.Units.{group_at}
-use Rattle.panel_cycles.specs.Below.whole_cycles.WholeCycles.{WholeCycle}
-use Rattle.panel_cycles.specs.Below.wiring_table.Figures.{IsAmount}
-use Rattle.panel_cycles.specs.Below.wiring_table.Parts.{counter_for, panel_group, total_line}
+use Rattle.wired_panels.proofs.Below.totals.CounterCycles.ActLemmas.{acts-done}
+use Rattle.wired_panels.specs.Below.totals.CounterCycles.Acts.{Act, Asks, Held, IsWithinGroup, held_after, held_by}
+use Rattle.wired_panels.specs.Below.totals.CounterCycles.Acts.Act.{Still}
+use Rattle.wired_panels.specs.Below.plans.Plans.{Lists}
+use Rattle.report.specs.Below.charts.Chart.{Chart, NumbersRise}
+use Rattle.report.specs.Below.charts.Levels.{level_number}
+use Rattle.report.specs.Below.charts.declared.chart.Line.{Line}
+use Rattle.report.specs.Below.charts.declared.level.Level.{Level as ChartLevel}
+use Rattle.report.specs.Below.charts.declared.level.Level.TheVariants as chart_level
+use Rattle.report.specs.Below.charts.declared.statement.Field.{Field}
+use Rattle.wired_panels.specs.Below.counters.Counters.{Counter, wheels_in}
+use Rattle.wired_panels.specs.Below.counters.Numbers.{number}
+use Rattle.wired_panels.specs.Below.counters.Rings.{CarryThrough, IsFedAlone}
+use Rattle.wired_panels.specs.Below.counters.WholeCycles.{ComesRound, after_cycle, after_its_points}
+use Rattle.wired_panels.specs.Below.setups.Wiring.{LeadsToEntries, Wiring, is_wired}
+use Rattle.wired_panels.specs.Below.hubs.declared.hub.Group.{Group}
+use Rattle.wired_panels.specs.Below.hubs.declared.hub.Hub.TheVariants.{CO, CI}
+use Rattle.wired_panels.proofs.CycleAsks.AmountFacts.{counter_at, has_from}
+use Rattle.wired_panels.proofs.CycleAsks.Counters.{held_at}
+use Rattle.wired_panels.proofs.CycleAsks.CounterAsks.{asks_card, asks_heading, asks_run_in, asks_step}
+use Rattle.wired_panels.proofs.CycleAsks.AmountsLawful.{lawful_amount}
+use Rattle.wired_panels.proofs.CycleAsks.Rings.{fed_lower, fed_single, fed_upper, goes_through, ring_pair, ring_single}
+use Rattle.wired_panels.proofs.CycleAsks.WheelRowsUnits.{group-own}
+use Rattle.wired_panels.proofs.Ways.{leads}
+use Rattle.wired_panels.proofs.CounterUnits.{at_unit, counter_there, planned_unit}
+use Rattle.wired_panels.proofs.AfterCycles.{cycle-of}
+use Rattle.wired_panels.specs.CycleAsks.ChartAmounts.{amount_of, positions_of, total_counter}
+use Rattle.wired_panels.specs.CycleAsks.CounterStates.{AsksCounter, held_in}
+use Rattle.wired_panels.proofs.Contacts.{is_set}
+use Rattle.wired_panels.specs.Groups.{IsCounterOf}
+use Rattle.wired_panels.specs.Below.line_rules.FieldRules.Coupled.{has_sign}
+use Rattle.wired_panels.specs.Below.line_rules.FieldRules.Fields.{field_named}
+use Rattle.wired_panels.specs.Below.plans.declared.counter.TotalCounter.{TotalCounter}
+use Rattle.wired_panels.specs.Below.plans.declared.counter.TotalCounter.TheVariants as of
+use Rattle.wired_panels.proofs.Below.totals.CounterCycles.PairLemmas.{pairs-done}
+use Rattle.wired_panels.specs.Below.totals.CounterCycles.Pairs.{AsksBoth, held_by_both}
+use Rattle.wired_panels.specs.Below.counters.Laws.{number_of_both}
+use Rattle.wired_panels.specs.Below.net.declared.cycle.Point.{Point}
+use Rattle.wired_panels.specs.Below.net.declared.cycle.Point.TheVariants.{K}
+use Rattle.wired_panels.specs.Below.hubs.declared.hub.Hub.{Hub}
+use Rattle.wired_panels.proofs.Below.wiring_table.Groups.{counter-given}
+use Rattle.report.proofs.Below.charts.Listed.{listed-map}
+use Rattle.wired_panels.specs.Panel.{IsPanel}
+use Rattle.wired_panels.specs.Below.machine.Cycles.{CycleRun}
+use Rattle.wired_panels.specs.Below.machine.Machine.{MachineState}
+use Rattle.wired_panels.specs.Below.net.Panel.{unit_of}
+use Rattle.wired_panels.specs.Below.net.declared.cycle.Cycle.{Cycle}
+use Rattle.wired_panels.specs.Below.net.declared.cycle.Cycle.TheVariants.{RunIn, Card, Prog, Head}
+use Rattle.wired_panels.proofs.Below.totals.Passing.{have_room}
+use Rattle.wired_panels.specs.Below.totals.Amounts.{IsSmall, act_of, state_after, total_act}
+use Rattle.wired_panels.proofs.Below.whole_cycles.Carries.{carries-come}
+use Rattle.wired_panels.proofs.Below.whole_cycles.Ready.{machines-ready}
+use Rattle.wired_panels.specs.Below.whole_cycles.Between.{IsBetween, IsIdle, IsReady}
+use Rattle.wired_panels.specs.Below.whole_cycles.Units.{group_at}
+use Rattle.wired_panels.specs.Below.whole_cycles.WholeCycles.{WholeCycle}
+use Rattle.wired_panels.specs.Below.wiring_table.Figures.{IsAmount}
+use Rattle.wired_panels.specs.Below.wiring_table.Parts.{counter_for, panel_group, total_line}
 use Rattle.printed_reports.specs.Content.{held, kind_for}
 use Rattle.printed_reports.proofs.Facts.{IsRead}
 use Rattle.printed_reports.proofs.FromCycles.{whole}

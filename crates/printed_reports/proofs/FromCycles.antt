@@ -1,18 +1,18 @@
 -- What whole cycles leave of the units that know no chart.
 use Rattle.std.proofs.Common.{◌≡◌, ◌∙◌, refl, ap, Bool, false}
-use Rattle.panel_cycles.specs.Below.setups.Wiring.{Wiring}
-use Rattle.panel_cycles.specs.Below.machine.Cycles.{CycleRun}
-use Rattle.panel_cycles.specs.Below.machine.Machine.{MachineState}
-use Rattle.panel_cycles.specs.Below.net.declared.cycle.Cycle.{Cycle}
-use Rattle.panel_cycles.specs.Below.net.declared.cycle.Cycle.TheVariants.{RunIn, Card, Prog, Head}
-use Rattle.panel_cycles.specs.Below.net.declared.cycle.Point.TheVariants.{K}
-use Rattle.panel_cycles.specs.Below.hubs.declared.hub.Hub.{Hub}
-use Rattle.panel_cycles.specs.Below.program_unit.Program.{ProgramState, program_ended, program_sensed}
-use Rattle.panel_cycles.specs.Below.program_unit.declared.stage.Stage.TheVariants.{RanCard}
-use Rattle.panel_cycles.proofs.Below.whole_cycles.Wholes.{cycles-whole}
-use Rattle.panel_cycles.specs.Below.whole_cycles.Between.{IsReady}
-use Rattle.panel_cycles.specs.Below.whole_cycles.WholeCycles.{WholeCycle}
-use Rattle.panel_cycles.proofs.Below.wired_panels.Contacts.{is_card_cycle}
+use Rattle.wired_panels.specs.Below.setups.Wiring.{Wiring}
+use Rattle.wired_panels.specs.Below.machine.Cycles.{CycleRun}
+use Rattle.wired_panels.specs.Below.machine.Machine.{MachineState}
+use Rattle.wired_panels.specs.Below.net.declared.cycle.Cycle.{Cycle}
+use Rattle.wired_panels.specs.Below.net.declared.cycle.Cycle.TheVariants.{RunIn, Card, Prog, Head}
+use Rattle.wired_panels.specs.Below.net.declared.cycle.Point.TheVariants.{K}
+use Rattle.wired_panels.specs.Below.hubs.declared.hub.Hub.{Hub}
+use Rattle.wired_panels.specs.Below.program_unit.Program.{ProgramState, program_ended, program_sensed}
+use Rattle.wired_panels.specs.Below.program_unit.declared.stage.Stage.TheVariants.{RanCard}
+use Rattle.wired_panels.proofs.Below.whole_cycles.Wholes.{cycles-whole}
+use Rattle.wired_panels.specs.Below.whole_cycles.Between.{IsReady}
+use Rattle.wired_panels.specs.Below.whole_cycles.WholeCycles.{WholeCycle}
+use Rattle.wired_panels.proofs.Contacts.{is_card_cycle}
 
 -- a cycle of a machine that is ready, as a whole
 pub whole : (wiring : Wiring) (cycle : Cycle) (old new : MachineState) → IsReady wiring old → CycleRun wiring cycle old new

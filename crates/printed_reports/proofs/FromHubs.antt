@@ -1,25 +1,25 @@
 -- What the cycles of a panel wired for a chart leave of the carriage, the pilots, the storage units and the program unit.
 use Rattle.std.proofs.Common.{◌≡◌, refl, ℕ, true, false, List, Option, Some, None, is_some}
-use Rattle.panel_cycles.specs.Below.plans.Plans.{Lists}
-use Rattle.decks.specs.Below.chart_rules.ValidCard.{IsValidCard}
-use Rattle.decks.specs.Below.charts.Chart.{Chart, NumbersRise}
-use Rattle.panel_cycles.specs.Below.setups.Wiring.{Wiring}
-use Rattle.panel_cycles.proofs.ToCarriage.{carriage-after, carriage-after-other}
-use Rattle.panel_cycles.proofs.Below.wired_panels.AfterCycles.{pilots-after, pilots-after-other, program-after, units-after, units-after-other}
-use Rattle.panel_cycles.proofs.Below.wired_panels.Contacts.{is_card_cycle}
-use Rattle.panel_cycles.specs.Below.wired_panels.Panel.{IsPanel}
-use Rattle.panel_cycles.specs.Below.wired_panels.PanelCycles.{PilotsTellSigns, UnitsHold}
-use Rattle.panel_cycles.specs.Below.machine.Cycles.{CycleRun}
-use Rattle.panel_cycles.specs.Below.machine.Machine.{MachineState}
-use Rattle.panel_cycles.specs.Below.net.declared.cycle.Cycle.{Cycle}
-use Rattle.panel_cycles.specs.Below.net.declared.cycle.Cycle.TheVariants.{Card}
-use Rattle.panel_cycles.specs.LinePlaces.CarriageCycles.{carriage_after}
-use Rattle.panel_cycles.specs.LinePlaces.Placing.{kind_of}
-use Rattle.panel_cycles.specs.Below.program_unit.CycleOrder.{levels_to, top_level}
-use Rattle.decks.specs.Below.report.Breaks.{ended_after}
-use Rattle.panel_cycles.specs.Below.selectors.Pilots.{moves_pilots}
-use Rattle.panel_cycles.proofs.Below.whole_cycles.Ready.{machines-ready}
-use Rattle.panel_cycles.specs.Below.whole_cycles.Between.{IsReady}
+use Rattle.wired_panels.specs.Below.plans.Plans.{Lists}
+use Rattle.report.specs.Below.chart_rules.ValidCard.{IsValidCard}
+use Rattle.report.specs.Below.charts.Chart.{Chart, NumbersRise}
+use Rattle.wired_panels.specs.Below.setups.Wiring.{Wiring}
+use Rattle.wired_panels.proofs.CycleAsks.ToCarriage.{carriage-after, carriage-after-other}
+use Rattle.wired_panels.proofs.AfterCycles.{pilots-after, pilots-after-other, program-after, units-after, units-after-other}
+use Rattle.wired_panels.proofs.Contacts.{is_card_cycle}
+use Rattle.wired_panels.specs.Panel.{IsPanel}
+use Rattle.wired_panels.specs.PanelCycles.{PilotsTellSigns, UnitsHold}
+use Rattle.wired_panels.specs.Below.machine.Cycles.{CycleRun}
+use Rattle.wired_panels.specs.Below.machine.Machine.{MachineState}
+use Rattle.wired_panels.specs.Below.net.declared.cycle.Cycle.{Cycle}
+use Rattle.wired_panels.specs.Below.net.declared.cycle.Cycle.TheVariants.{Card}
+use Rattle.wired_panels.specs.CycleAsks.LinePlaces.CarriageCycles.{carriage_after}
+use Rattle.wired_panels.specs.CycleAsks.LinePlaces.Placing.{kind_of}
+use Rattle.wired_panels.specs.Below.program_unit.CycleOrder.{levels_to, top_level}
+use Rattle.report.specs.Breaks.{ended_after}
+use Rattle.wired_panels.specs.Below.selectors.Pilots.{moves_pilots}
+use Rattle.wired_panels.proofs.Below.whole_cycles.Ready.{machines-ready}
+use Rattle.wired_panels.specs.Below.whole_cycles.Between.{IsReady}
 use Rattle.printed_reports.proofs.Asked.{asked_for, asked_in}
 use Rattle.printed_reports.proofs.Facts.{Cycled}
 use Rattle.printed_reports.proofs.FromCycles.{whole, printing_stays}

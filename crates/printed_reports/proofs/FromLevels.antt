@@ -1,70 +1,70 @@
 -- The third program cycle of a level, put together: what the groups and units hold, and the line that they print.
 use Rattle.std.proofs.Common.{◌≡◌, ◌∙◌, refl, sym, ap, subst, ℕ, ◌+◌, ◌≤◌, ◌<◌, ◌^◌, ◌==◌, true, false, List, Contains, Option, Some, None, is_some, unsigned_abs, inl, inr}
-use Rattle.panel_cycles.specs.Below.field_rules.Coupled.{has_sign}
-use Rattle.panel_cycles.specs.Below.counters.Laws.{IsCounter}
-use Rattle.panel_cycles.specs.Below.plans.Plans.{Lists}
-use Rattle.panel_cycles.specs.Below.plans.declared.counter.TotalCounter.{TotalCounter}
-use Rattle.panel_cycles.specs.Below.plans.declared.counter.TotalCounter.TheVariants as of
-use Rattle.decks.specs.Below.card_code.declared.row.Row.{Row as CardRow}
-use Rattle.panel_cycles.specs.Below.field_rules.Fields.{field_named, fields_of}
-use Rattle.panel_cycles.specs.Below.print_rules.Marks.{breaks_mark_mismatch, is_mismatched, is_mismatched_kind}
-use Rattle.panel_cycles.specs.Below.field_rules.Names.{breaks_wrong_kind, names_amount}
-use Rattle.decks.specs.Below.chart_rules.ValidCard.{IsValidCard, column_of, is_printed}
-use Rattle.decks.specs.Below.card_code.CardCode.{deck_character, has_row}
-use Rattle.decks.specs.Below.card_code.Rows.{row_number}
-use Rattle.panel_cycles.specs.Below.storage_units.Storage.{holds as holds_column}
-use Rattle.decks.specs.Below.chart_rules.declared.rule.Rule.TheVariants as rule
-use Rattle.decks.specs.Below.charts.Chart.{Chart, NumbersRise}
-use Rattle.decks.specs.Below.charts.Field.{columns_of, is_amount, sign_column}
-use Rattle.decks.specs.Below.charts.Levels as levels
-use Rattle.decks.specs.Below.charts.Literals.{HaveLiteralTexts}
-use Rattle.decks.specs.Below.charts.declared.chart.Line.{Line}
-use Rattle.decks.specs.Below.charts.declared.level.Level.{Level}
-use Rattle.decks.specs.Below.charts.declared.statement.Field.{Field}
-use Rattle.decks.specs.Below.charts.declared.statement.FieldKind.{FieldKind}
-use Rattle.decks.specs.Below.charts.declared.statement.FieldKind.TheVariants as holds
-use Rattle.decks.specs.Below.charts.declared.statement.Mark.{Mark}
-use Rattle.decks.specs.Below.charts.declared.statement.Statement.TheVariants as says
-use Rattle.decks.specs.Below.charts.declared.statement.TotalLine.{TotalLine}
-use Rattle.decks.specs.Alike.{AlikeWith}
-use Rattle.panel_cycles.specs.Below.setups.Wiring.{Wiring}
-use Rattle.panel_cycles.specs.Below.hubs.declared.hub.Group.{Group}
-use Rattle.panel_cycles.proofs.AmountFacts.{digits_are, has_it, total_field}
-use Rattle.panel_cycles.proofs.Counters.{counter_held}
-use Rattle.panel_cycles.specs.CounterStates.{held_in}
-use Rattle.panel_cycles.specs.Below.wired_panels.Groups.{IsCounterOf}
-use Rattle.panel_cycles.proofs.JacksAndTape.{wheel_jacks-are}
-use Rattle.panel_cycles.proofs.Below.field_rules.Places.{is_same_name-own}
-use Rattle.decks.proofs.Below.chart_rules.Laws.{kept-line}
-use Rattle.panel_cycles.proofs.Below.wired_panels.ToCounters.{IsLine, on_line}
-use Rattle.panel_cycles.proofs.WheelRowsLaws.{wheels-totals}
-use Rattle.panel_cycles.proofs.WheelRowsUnits.{counter-is, group-listed, group-named, unit-listed, unit-place}
-use Rattle.panel_cycles.specs.ChartAmounts.{amount_of}
-use Rattle.panel_cycles.specs.Below.wired_panels.Panel.{IsPanel}
-use Rattle.panel_cycles.specs.Below.wired_panels.PanelCycles.{UnitsHold}
-use Rattle.panel_cycles.specs.PrintedRows as rows
-use Rattle.panel_cycles.specs.PrintedRows.{IsTotalRow}
-use Rattle.panel_cycles.specs.Below.machine.Cycles.{CycleRun}
-use Rattle.panel_cycles.specs.Below.machine.Machine.{MachineState}
-use Rattle.panel_cycles.specs.Below.net.Cycles.{level_number}
-use Rattle.panel_cycles.specs.Below.net.declared.cycle.Cycle.TheVariants.{Prog}
-use Rattle.panel_cycles.specs.Below.net.declared.cycle.ProgramLevel.{ProgramLevel}
-use Rattle.panel_cycles.specs.Below.net.declared.cycle.Ordinal.TheVariants.{Third}
-use Rattle.panel_cycles.proofs.Below.printed_lines.Premises.{total_texts}
-use Rattle.panel_cycles.proofs.Below.printed_lines.TotalLines.{total_lines}
-use Rattle.panel_cycles.specs.Below.printed_lines.Held as printed
-use Rattle.panel_cycles.specs.Below.printed_lines.Held.{HoldsLine}
-use Rattle.panel_cycles.specs.Below.printed_lines.Shown.{Printed, sent_to_total, set_on}
-use Rattle.decks.specs.Below.report.BodyLines.{total_line}
-use Rattle.decks.specs.Below.report.Breaks.{taking}
-use Rattle.decks.specs.Below.report.Totals.{total_of}
-use Rattle.panel_cycles.proofs.Below.whole_cycles.Units.{units-by_name}
-use Rattle.panel_cycles.specs.Below.whole_cycles.Between.{IsReady}
-use Rattle.panel_cycles.specs.Below.whole_cycles.Units.{group_at, storage_at}
-use Rattle.panel_cycles.specs.Below.whole_cycles.WholeCycles.{WholeCycle}
-use Rattle.panel_cycles.specs.Below.wiring_table.Figures.{IsAmount, IsText}
-use Rattle.panel_cycles.specs.Below.wiring_table.Parts.{HasTotal, ServesTotal, counter_for, panel_group, unit_for}
-use Rattle.panel_cycles.proofs.Below.wiring_table.Parts.{unit-there}
+use Rattle.wired_panels.specs.Below.line_rules.FieldRules.Coupled.{has_sign}
+use Rattle.wired_panels.specs.Below.counters.Laws.{IsCounter}
+use Rattle.wired_panels.specs.Below.plans.Plans.{Lists}
+use Rattle.wired_panels.specs.Below.plans.declared.counter.TotalCounter.{TotalCounter}
+use Rattle.wired_panels.specs.Below.plans.declared.counter.TotalCounter.TheVariants as of
+use Rattle.report.specs.Below.card_code.declared.row.Row.{Row as CardRow}
+use Rattle.wired_panels.specs.Below.line_rules.FieldRules.Fields.{field_named, fields_of}
+use Rattle.wired_panels.specs.Below.line_rules.PrintRules.Marks.{breaks_mark_mismatch, is_mismatched, is_mismatched_kind}
+use Rattle.wired_panels.specs.Below.line_rules.FieldRules.Names.{breaks_wrong_kind, names_amount}
+use Rattle.report.specs.Below.chart_rules.ValidCard.{IsValidCard, column_of, is_printed}
+use Rattle.report.specs.Below.card_code.CardCode.{deck_character, has_row}
+use Rattle.report.specs.Below.card_code.Rows.{row_number}
+use Rattle.wired_panels.specs.Below.storage_units.Storage.{holds as holds_column}
+use Rattle.report.specs.Below.chart_rules.declared.rule.Rule.TheVariants as rule
+use Rattle.report.specs.Below.charts.Chart.{Chart, NumbersRise}
+use Rattle.report.specs.Below.charts.Field.{columns_of, is_amount, sign_column}
+use Rattle.report.specs.Below.charts.Levels as levels
+use Rattle.report.specs.Below.charts.Literals.{HaveLiteralTexts}
+use Rattle.report.specs.Below.charts.declared.chart.Line.{Line}
+use Rattle.report.specs.Below.charts.declared.level.Level.{Level}
+use Rattle.report.specs.Below.charts.declared.statement.Field.{Field}
+use Rattle.report.specs.Below.charts.declared.statement.FieldKind.{FieldKind}
+use Rattle.report.specs.Below.charts.declared.statement.FieldKind.TheVariants as holds
+use Rattle.report.specs.Below.charts.declared.statement.Mark.{Mark}
+use Rattle.report.specs.Below.charts.declared.statement.Statement.TheVariants as says
+use Rattle.report.specs.Below.charts.declared.statement.TotalLine.{TotalLine}
+use Rattle.report.specs.FollowedDecks.Alike.{AlikeWith}
+use Rattle.wired_panels.specs.Below.setups.Wiring.{Wiring}
+use Rattle.wired_panels.specs.Below.hubs.declared.hub.Group.{Group}
+use Rattle.wired_panels.proofs.CycleAsks.AmountFacts.{digits_are, has_it, total_field}
+use Rattle.wired_panels.proofs.CycleAsks.Counters.{counter_held}
+use Rattle.wired_panels.specs.CycleAsks.CounterStates.{held_in}
+use Rattle.wired_panels.specs.Groups.{IsCounterOf}
+use Rattle.wired_panels.proofs.CycleAsks.JacksAndTape.{wheel_jacks-are}
+use Rattle.wired_panels.proofs.Below.line_rules.FieldRules.Places.{is_same_name-own}
+use Rattle.report.proofs.Below.chart_rules.Laws.{kept-line}
+use Rattle.wired_panels.proofs.ToCounters.{IsLine, on_line}
+use Rattle.wired_panels.proofs.CycleAsks.WheelRowsLaws.{wheels-totals}
+use Rattle.wired_panels.proofs.CycleAsks.WheelRowsUnits.{counter-is, group-listed, group-named, unit-listed, unit-place}
+use Rattle.wired_panels.specs.CycleAsks.ChartAmounts.{amount_of}
+use Rattle.wired_panels.specs.Panel.{IsPanel}
+use Rattle.wired_panels.specs.PanelCycles.{UnitsHold}
+use Rattle.wired_panels.specs.CycleAsks.PrintedRows as rows
+use Rattle.wired_panels.specs.CycleAsks.PrintedRows.{IsTotalRow}
+use Rattle.wired_panels.specs.Below.machine.Cycles.{CycleRun}
+use Rattle.wired_panels.specs.Below.machine.Machine.{MachineState}
+use Rattle.wired_panels.specs.Below.net.Cycles.{level_number}
+use Rattle.wired_panels.specs.Below.net.declared.cycle.Cycle.TheVariants.{Prog}
+use Rattle.wired_panels.specs.Below.net.declared.cycle.ProgramLevel.{ProgramLevel}
+use Rattle.wired_panels.specs.Below.net.declared.cycle.Ordinal.TheVariants.{Third}
+use Rattle.wired_panels.proofs.Below.printed_lines.Premises.{total_texts}
+use Rattle.wired_panels.proofs.Below.printed_lines.TotalLines.{total_lines}
+use Rattle.wired_panels.specs.Below.printed_lines.Held as printed
+use Rattle.wired_panels.specs.Below.printed_lines.Held.{HoldsLine}
+use Rattle.wired_panels.specs.Below.printed_lines.Shown.{Printed, sent_to_total, set_on}
+use Rattle.report.specs.BodyLines.{total_line}
+use Rattle.report.specs.Breaks.{taking}
+use Rattle.report.specs.Totals.{total_of}
+use Rattle.wired_panels.proofs.Below.whole_cycles.Units.{units-by_name}
+use Rattle.wired_panels.specs.Below.whole_cycles.Between.{IsReady}
+use Rattle.wired_panels.specs.Below.whole_cycles.Units.{group_at, storage_at}
+use Rattle.wired_panels.specs.Below.whole_cycles.WholeCycles.{WholeCycle}
+use Rattle.wired_panels.specs.Below.wiring_table.Figures.{IsAmount, IsText}
+use Rattle.wired_panels.specs.Below.wiring_table.Parts.{HasTotal, ServesTotal, counter_for, panel_group, unit_for}
+use Rattle.wired_panels.proofs.Below.wiring_table.Parts.{unit-there}
 use Rattle.printed_reports.specs.Content.{held}
 use Rattle.printed_reports.proofs.Facts.{ShowsTotal}
 use Rattle.printed_reports.proofs.FromCounters.{held_pair, held_there, pair_there}

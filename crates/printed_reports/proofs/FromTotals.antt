@@ -5,30 +5,30 @@ use Rattle.std.proofs.lemmas.Bool.Decides.{nat_tests}
 use Rattle.std.proofs.lemmas.List.Elements.{All-contains, All-head}
 use Rattle.std.proofs.lemmas.List.Sums.{AllPass-from_list_all}
 use Rattle.std.specs.List.{list_all, range_with_len}
-use Rattle.panel_cycles.proofs.Below.field_rules.Places.{is_same_name-equal}
-use Rattle.panel_cycles.specs.Below.field_rules.Control.{breaks_total_text_not_control, controls_by, is_controlled_by}
-use Rattle.panel_cycles.specs.Below.field_rules.Fields.{field_named}
-use Rattle.decks.specs.Below.chart_rules.Controls.{control_on, controls_of}
-use Rattle.decks.specs.Below.chart_rules.Rules.{IsLawful}
-use Rattle.decks.specs.Below.chart_rules.ValidCard.{column_of}
-use Rattle.decks.specs.Below.chart_rules.declared.rule.Rule.TheVariants as rule
-use Rattle.decks.specs.Below.charts.Chart.{Chart}
-use Rattle.decks.specs.Below.charts.Field.{columns_of}
-use Rattle.decks.specs.Below.charts.Levels.{control_number, level_number}
-use Rattle.decks.specs.Below.charts.Name.{is_same_name}
-use Rattle.decks.specs.Below.charts.declared.chart.Line.{Line}
-use Rattle.decks.specs.Below.charts.declared.level.ControlLevel.{ControlLevel}
-use Rattle.decks.specs.Below.charts.declared.level.ControlLevel.TheVariants as control
-use Rattle.decks.specs.Below.charts.declared.level.Level.{Level as ChartLevel}
-use Rattle.decks.specs.Below.charts.declared.statement.Field.{Field}
-use Rattle.decks.specs.Below.charts.declared.statement.Statement.{Statement}
-use Rattle.decks.specs.Below.charts.declared.statement.Statement.TheVariants as says
-use Rattle.decks.specs.Alike.{AlikeWith}
-use Rattle.decks.proofs.Below.charts.Listed.{any-passing, listed-given}
-use Rattle.decks.proofs.Below.chart_rules.Laws.{kept-line}
-use Rattle.decks.specs.Below.report.BodyLines.{a_card_of}
-use Rattle.decks.specs.Below.report.Breaks.{taking}
-use Rattle.decks.specs.Below.report.Groups.{is_same_at, is_same_on}
+use Rattle.wired_panels.proofs.Below.line_rules.FieldRules.Places.{is_same_name-equal}
+use Rattle.wired_panels.specs.Below.line_rules.FieldRules.Control.{breaks_total_text_not_control, controls_by, is_controlled_by}
+use Rattle.wired_panels.specs.Below.line_rules.FieldRules.Fields.{field_named}
+use Rattle.report.specs.Below.chart_rules.Controls.{control_on, controls_of}
+use Rattle.report.specs.Below.chart_rules.Rules.{IsLawful}
+use Rattle.report.specs.Below.chart_rules.ValidCard.{column_of}
+use Rattle.report.specs.Below.chart_rules.declared.rule.Rule.TheVariants as rule
+use Rattle.report.specs.Below.charts.Chart.{Chart}
+use Rattle.report.specs.Below.charts.Field.{columns_of}
+use Rattle.report.specs.Below.charts.Levels.{control_number, level_number}
+use Rattle.report.specs.Below.charts.Name.{is_same_name}
+use Rattle.report.specs.Below.charts.declared.chart.Line.{Line}
+use Rattle.report.specs.Below.charts.declared.level.ControlLevel.{ControlLevel}
+use Rattle.report.specs.Below.charts.declared.level.ControlLevel.TheVariants as control
+use Rattle.report.specs.Below.charts.declared.level.Level.{Level as ChartLevel}
+use Rattle.report.specs.Below.charts.declared.statement.Field.{Field}
+use Rattle.report.specs.Below.charts.declared.statement.Statement.{Statement}
+use Rattle.report.specs.Below.charts.declared.statement.Statement.TheVariants as says
+use Rattle.report.specs.FollowedDecks.Alike.{AlikeWith}
+use Rattle.report.proofs.Below.charts.Listed.{any-passing, listed-given}
+use Rattle.report.proofs.Below.chart_rules.Laws.{kept-line}
+use Rattle.report.specs.BodyLines.{a_card_of}
+use Rattle.report.specs.Breaks.{taking}
+use Rattle.report.specs.Groups.{is_same_at, is_same_on}
 
 -- cards that are the same on a field have the same columns in it
 columns_same : (field : Field) (one card : List ℕ) → is_same_on field one card ≡ true → (column : ℕ) → field.first ≤ column

@@ -1,29 +1,29 @@
 -- What the cycles of a panel wired for a chart print.
 use Rattle.std.proofs.Common.{◌≡◌, ◌∙◌, refl, ℕ, List}
-use Rattle.panel_cycles.specs.Below.plans.Plans.{Lists}
-use Rattle.decks.specs.Below.card_code.declared.row.Row.{Row as CardRow}
-use Rattle.decks.specs.Below.charts.Chart.{Chart, NumbersRise}
-use Rattle.decks.specs.Below.charts.Literals.{HaveLiteralTexts}
-use Rattle.panel_cycles.specs.Below.setups.Wiring.{Wiring}
-use Rattle.panel_cycles.proofs.JacksAndTape.{wheel_jacks-are}
-use Rattle.panel_cycles.proofs.Below.wired_panels.AfterCycles.{cycle-of}
-use Rattle.panel_cycles.proofs.WheelRowsLaws.{wheels-cards, wheels-headings}
-use Rattle.panel_cycles.specs.Below.wired_panels.PanelCycles.{IsCardRead}
-use Rattle.panel_cycles.specs.Below.wired_panels.Panel.{IsPanel}
-use Rattle.panel_cycles.specs.Below.wired_panels.PanelCycles.{AreSetTo, IsPanelCycle}
-use Rattle.panel_cycles.specs.Below.wired_panels.CycleRows.{CycleRow}
-use Rattle.panel_cycles.specs.Below.machine.Cycles.{CycleRun}
-use Rattle.panel_cycles.specs.Below.machine.Machine.{MachineState}
-use Rattle.panel_cycles.specs.Below.net.Cycles.{ordinal_number}
-use Rattle.panel_cycles.specs.Below.net.declared.cycle.Cycle.{Cycle}
-use Rattle.panel_cycles.specs.Below.net.declared.cycle.Cycle.TheVariants.{Card, Head}
-use Rattle.panel_cycles.specs.Below.net.declared.cycle.Ordinal.{Ordinal}
-use Rattle.panel_cycles.proofs.Below.printed_lines.Cards.{card_lines}
-use Rattle.panel_cycles.proofs.Below.printed_lines.Headings.{heading_lines}
-use Rattle.panel_cycles.specs.Below.printed_lines.Shown.{sent_to_card, sent_to_heading, set_on}
-use Rattle.decks.specs.Below.report.BodyLines.{card_line, heading_line}
-use Rattle.panel_cycles.specs.Below.whole_cycles.Between.{IsReady}
-use Rattle.panel_cycles.specs.Below.whole_cycles.WholeCycles.{WholeCycle}
+use Rattle.wired_panels.specs.Below.plans.Plans.{Lists}
+use Rattle.report.specs.Below.card_code.declared.row.Row.{Row as CardRow}
+use Rattle.report.specs.Below.charts.Chart.{Chart, NumbersRise}
+use Rattle.report.specs.Below.charts.Literals.{HaveLiteralTexts}
+use Rattle.wired_panels.specs.Below.setups.Wiring.{Wiring}
+use Rattle.wired_panels.proofs.CycleAsks.JacksAndTape.{wheel_jacks-are}
+use Rattle.wired_panels.proofs.AfterCycles.{cycle-of}
+use Rattle.wired_panels.proofs.CycleAsks.WheelRowsLaws.{wheels-cards, wheels-headings}
+use Rattle.wired_panels.specs.PanelCycles.{IsCardRead}
+use Rattle.wired_panels.specs.Panel.{IsPanel}
+use Rattle.wired_panels.specs.PanelCycles.{AreSetTo, IsPanelCycle}
+use Rattle.wired_panels.specs.CycleRows.{CycleRow}
+use Rattle.wired_panels.specs.Below.machine.Cycles.{CycleRun}
+use Rattle.wired_panels.specs.Below.machine.Machine.{MachineState}
+use Rattle.wired_panels.specs.Below.net.Cycles.{ordinal_number}
+use Rattle.wired_panels.specs.Below.net.declared.cycle.Cycle.{Cycle}
+use Rattle.wired_panels.specs.Below.net.declared.cycle.Cycle.TheVariants.{Card, Head}
+use Rattle.wired_panels.specs.Below.net.declared.cycle.Ordinal.{Ordinal}
+use Rattle.wired_panels.proofs.Below.printed_lines.Cards.{card_lines}
+use Rattle.wired_panels.proofs.Below.printed_lines.Headings.{heading_lines}
+use Rattle.wired_panels.specs.Below.printed_lines.Shown.{sent_to_card, sent_to_heading, set_on}
+use Rattle.report.specs.BodyLines.{card_line, heading_line}
+use Rattle.wired_panels.specs.Below.whole_cycles.Between.{IsReady}
+use Rattle.wired_panels.specs.Below.whole_cycles.WholeCycles.{WholeCycle}
 use Rattle.printed_reports.proofs.FromCycles.{whole}
 use Rattle.printed_reports.proofs.Lines.{has_link, has_suppress, has_symbol, line_of_cycle}
 

@@ -2,34 +2,34 @@
 -- ready for the line.
 use Rattle.std.proofs.Common.{◌≡◌, ◌∙◌, refl, sym, ap, subst, ℕ, zero, suc, ◌≤◌, ◌<◌, ◌^◌, Bool, true, List, [], ◌++◌, Option, Some, None, arith}
 use Rattle.std.proofs.lemmas.List.{append_assoc}
-use Rattle.panel_cycles.specs.Below.carriage.Asked.{nothing_asked}
-use Rattle.panel_cycles.specs.Below.carriage.Carriage.{CarriageState}
-use Rattle.decks.specs.Below.placed_lines.declared.placed_line.PlacedLine.{PlacedLine}
-use Rattle.decks.specs.Below.charts.Chart.{Chart}
-use Rattle.panel_cycles.specs.Below.setups.Wiring.{Wiring}
-use Rattle.panel_cycles.specs.Below.machine.Cycles.{line_of}
-use Rattle.panel_cycles.specs.Below.machine.Feeds.{due_in}
-use Rattle.panel_cycles.specs.Below.machine.Machine.{MachineState}
-use Rattle.panel_cycles.specs.Below.machine.Runs.{has_more}
-use Rattle.panel_cycles.specs.Below.net.Printing.{prints}
-use Rattle.panel_cycles.specs.Below.net.declared.cycle.Cycle.{Cycle}
-use Rattle.panel_cycles.specs.Below.net.declared.cycle.Cycle.TheVariants.{Head}
-use Rattle.panel_cycles.specs.Below.net.declared.cycle.Ordinal.{Ordinal}
-use Rattle.panel_cycles.specs.Below.net.declared.cycle.Ordinal.TheVariants.{First, Second, Third}
-use Rattle.panel_cycles.proofs.LinePlaces.CyclesDue.{headings-come}
-use Rattle.panel_cycles.proofs.LinePlaces.DueCycles.{due}
-use Rattle.panel_cycles.proofs.LinePlaces.HeadingLines.{headings-placed}
-use Rattle.panel_cycles.proofs.LinePlaces.Placements.{ready-within}
-use Rattle.panel_cycles.specs.LinePlaces.CarriageCycles.{begun_by, carriage_after, line_at, heading_cycles, lines_placed}
-use Rattle.panel_cycles.specs.LinePlaces.FormFacts.{HasGoodForm}
-use Rattle.panel_cycles.specs.LinePlaces.Laws.{AreHeadingTexts}
-use Rattle.panel_cycles.specs.LinePlaces.Placing.{IsCarriageOf, IsAt, AwaitsBody}
-use Rattle.panel_cycles.specs.Below.program_unit.CycleOrder.{headed as headed_by, after_heading}
-use Rattle.panel_cycles.specs.Below.program_unit.Program.{ProgramState, stage_ended}
-use Rattle.panel_cycles.specs.Below.program_unit.declared.stage.Stage.{Stage}
-use Rattle.decks.specs.Below.report.BodyLines.{heading_line}
-use Rattle.decks.specs.Below.report.ChartForm.{heading_count}
-use Rattle.decks.specs.Below.report.Places.{Left, headed}
+use Rattle.wired_panels.specs.Below.carriage.Asked.{nothing_asked}
+use Rattle.wired_panels.specs.Below.carriage.Carriage.{CarriageState}
+use Rattle.report.specs.Below.page_text.declared.placed_lines.placed_line.PlacedLine.{PlacedLine}
+use Rattle.report.specs.Below.charts.Chart.{Chart}
+use Rattle.wired_panels.specs.Below.setups.Wiring.{Wiring}
+use Rattle.wired_panels.specs.Below.machine.Cycles.{line_of}
+use Rattle.wired_panels.specs.Below.machine.Feeds.{due_in}
+use Rattle.wired_panels.specs.Below.machine.Machine.{MachineState}
+use Rattle.wired_panels.specs.Below.machine.Runs.{has_more}
+use Rattle.wired_panels.specs.Below.net.Printing.{prints}
+use Rattle.wired_panels.specs.Below.net.declared.cycle.Cycle.{Cycle}
+use Rattle.wired_panels.specs.Below.net.declared.cycle.Cycle.TheVariants.{Head}
+use Rattle.wired_panels.specs.Below.net.declared.cycle.Ordinal.{Ordinal}
+use Rattle.wired_panels.specs.Below.net.declared.cycle.Ordinal.TheVariants.{First, Second, Third}
+use Rattle.wired_panels.proofs.CycleAsks.LinePlaces.CyclesDue.{headings-come}
+use Rattle.wired_panels.proofs.CycleAsks.LinePlaces.DueCycles.{due}
+use Rattle.wired_panels.proofs.CycleAsks.LinePlaces.HeadingLines.{headings-placed}
+use Rattle.wired_panels.proofs.CycleAsks.LinePlaces.Placements.{ready-within}
+use Rattle.wired_panels.specs.CycleAsks.LinePlaces.CarriageCycles.{begun_by, carriage_after, line_at, heading_cycles, lines_placed}
+use Rattle.wired_panels.specs.CycleAsks.LinePlaces.FormFacts.{HasGoodForm}
+use Rattle.wired_panels.specs.CycleAsks.LinePlaces.Laws.{AreHeadingTexts}
+use Rattle.wired_panels.specs.CycleAsks.LinePlaces.Placing.{IsCarriageOf, IsAt, AwaitsBody}
+use Rattle.wired_panels.specs.Below.program_unit.CycleOrder.{headed as headed_by, after_heading}
+use Rattle.wired_panels.specs.Below.program_unit.Program.{ProgramState, stage_ended}
+use Rattle.wired_panels.specs.Below.program_unit.declared.stage.Stage.{Stage}
+use Rattle.report.specs.BodyLines.{heading_line}
+use Rattle.report.specs.ChartForm.{heading_count}
+use Rattle.report.specs.Places.{Left, headed}
 use Rattle.printed_reports.proofs.Steps.{fed_with, GoesFrom, Stepped, stepped}
 use Rattle.printed_reports.specs.Goes.{HeadsKeep}
 use Rattle.printed_reports.specs.Steps.{Heads}

@@ -3,47 +3,47 @@
 use Rattle.std.proofs.Common.{◌≡◌, ◌∙◌, refl, sym, ap, subst, ℕ, suc, ◌+◌, nat_le, ◌≤◌, ◌<◌, ◌^◌, ℤ, Bool, true, false, List, [], Option, Some, None, if◌then◌else◌, arith, unsigned_abs}
 use Rattle.std.specs.Int.{is_negative}
 use Rattle.std.proofs.lemmas.Bool.Decides.{nat_tests}
-use Rattle.panel_cycles.specs.Below.totals.CounterCycles.Acts.{Held}
-use Rattle.panel_cycles.specs.Below.plans.Plans.{Lists}
-use Rattle.panel_cycles.specs.Below.carriage.Asked.{nothing_asked}
-use Rattle.decks.specs.Below.chart_rules.ValidCard.{IsValidCard}
-use Rattle.decks.specs.Below.charts.Chart.{Chart, NumbersRise}
-use Rattle.decks.specs.Below.charts.Literals.{HaveLiteralTexts}
-use Rattle.decks.specs.Below.charts.declared.statement.Field.{Field}
-use Rattle.decks.specs.Runner.{ReadsNext}
-use Rattle.decks.specs.Stands.{Stand, at_first}
-use Rattle.panel_cycles.specs.Below.setups.Wiring.{Wiring}
-use Rattle.panel_cycles.specs.ChartAmounts.{amount_of}
-use Rattle.panel_cycles.specs.Below.wired_panels.PanelCycles.{IsCardRead}
-use Rattle.panel_cycles.specs.Below.wired_panels.PanelCycles.{AreSetTo}
-use Rattle.panel_cycles.specs.Below.wired_panels.Panel.{IsPanel}
-use Rattle.panel_cycles.proofs.AmountsLawful.{amount_on_card, lawful_amount}
-use Rattle.panel_cycles.proofs.Below.wired_panels.Contacts.{is_card_cycle}
-use Rattle.panel_cycles.proofs.Below.wired_panels.IndicateLatches.{latches-card, latches-third, latches-left, latches-heading, latches-run_in, latches-start}
-use Rattle.panel_cycles.proofs.JacksAndTape.{printing-is, tape-is}
-use Rattle.panel_cycles.specs.Below.machine.Cycles.{CycleRun}
-use Rattle.panel_cycles.specs.Below.machine.Machine.{MachineState, machine_at_start}
-use Rattle.panel_cycles.specs.Below.machine.Runs.{moved_on}
-use Rattle.panel_cycles.specs.Below.net.Cycles.{level_number}
-use Rattle.panel_cycles.specs.Below.net.declared.cycle.Cycle.{Cycle}
-use Rattle.panel_cycles.specs.Below.net.declared.cycle.Cycle.TheVariants.{RunIn, Card, Prog, Head}
-use Rattle.panel_cycles.specs.Below.net.declared.cycle.ProgramLevel.{ProgramLevel}
-use Rattle.panel_cycles.specs.Below.net.declared.cycle.Ordinal.{Ordinal}
-use Rattle.panel_cycles.specs.Below.net.declared.cycle.Ordinal.TheVariants.{First, Second, Third}
-use Rattle.decks.specs.Below.report.Breaks.{cleared, ended_after, taking}
-use Rattle.decks.specs.Below.report.Totals.{total_of}
-use Rattle.panel_cycles.specs.Below.selectors.Indicate.{Latches, indicate_ended}
-use Rattle.panel_cycles.specs.Below.selectors.Pilots.{moves_pilots}
-use Rattle.panel_cycles.proofs.Below.totals.Cards.{zeros}
-use Rattle.panel_cycles.proofs.Below.totals.GroupEnds.{total_shows}
-use Rattle.panel_cycles.proofs.Below.totals.Passing.{other_passes}
-use Rattle.panel_cycles.specs.Below.totals.Amounts.{HasGroups, IsSmall, state_after}
-use Rattle.panel_cycles.specs.Below.totals.Amounts.Kind.{Prog as Ends}
-use Rattle.panel_cycles.specs.Below.totals.Laws.{IsGroupEnd, ready}
-use Rattle.panel_cycles.specs.Below.totals.Standing.{StandsAll}
-use Rattle.panel_cycles.specs.Below.whole_cycles.Between.{IsReady}
-use Rattle.panel_cycles.proofs.Below.whole_cycles.Ready.{machines-ready, ready-moved}
-use Rattle.panel_cycles.specs.Below.wiring_table.Figures.{IsAmount}
+use Rattle.wired_panels.specs.Below.totals.CounterCycles.Acts.{Held}
+use Rattle.wired_panels.specs.Below.plans.Plans.{Lists}
+use Rattle.wired_panels.specs.Below.carriage.Asked.{nothing_asked}
+use Rattle.report.specs.Below.chart_rules.ValidCard.{IsValidCard}
+use Rattle.report.specs.Below.charts.Chart.{Chart, NumbersRise}
+use Rattle.report.specs.Below.charts.Literals.{HaveLiteralTexts}
+use Rattle.report.specs.Below.charts.declared.statement.Field.{Field}
+use Rattle.report.specs.FollowedDecks.Runner.{ReadsNext}
+use Rattle.report.specs.FollowedDecks.Stands.{Stand, at_first}
+use Rattle.wired_panels.specs.Below.setups.Wiring.{Wiring}
+use Rattle.wired_panels.specs.CycleAsks.ChartAmounts.{amount_of}
+use Rattle.wired_panels.specs.PanelCycles.{IsCardRead}
+use Rattle.wired_panels.specs.PanelCycles.{AreSetTo}
+use Rattle.wired_panels.specs.Panel.{IsPanel}
+use Rattle.wired_panels.proofs.CycleAsks.AmountsLawful.{amount_on_card, lawful_amount}
+use Rattle.wired_panels.proofs.Contacts.{is_card_cycle}
+use Rattle.wired_panels.proofs.IndicateLatches.{latches-card, latches-third, latches-left, latches-heading, latches-run_in, latches-start}
+use Rattle.wired_panels.proofs.CycleAsks.JacksAndTape.{printing-is, tape-is}
+use Rattle.wired_panels.specs.Below.machine.Cycles.{CycleRun}
+use Rattle.wired_panels.specs.Below.machine.Machine.{MachineState, machine_at_start}
+use Rattle.wired_panels.specs.Below.machine.Runs.{moved_on}
+use Rattle.wired_panels.specs.Below.net.Cycles.{level_number}
+use Rattle.wired_panels.specs.Below.net.declared.cycle.Cycle.{Cycle}
+use Rattle.wired_panels.specs.Below.net.declared.cycle.Cycle.TheVariants.{RunIn, Card, Prog, Head}
+use Rattle.wired_panels.specs.Below.net.declared.cycle.ProgramLevel.{ProgramLevel}
+use Rattle.wired_panels.specs.Below.net.declared.cycle.Ordinal.{Ordinal}
+use Rattle.wired_panels.specs.Below.net.declared.cycle.Ordinal.TheVariants.{First, Second, Third}
+use Rattle.report.specs.Breaks.{cleared, ended_after, taking}
+use Rattle.report.specs.Totals.{total_of}
+use Rattle.wired_panels.specs.Below.selectors.Indicate.{Latches, indicate_ended}
+use Rattle.wired_panels.specs.Below.selectors.Pilots.{moves_pilots}
+use Rattle.wired_panels.proofs.Below.totals.Cards.{zeros}
+use Rattle.wired_panels.proofs.Below.totals.GroupEnds.{total_shows}
+use Rattle.wired_panels.proofs.Below.totals.Passing.{other_passes}
+use Rattle.wired_panels.specs.Below.totals.Amounts.{HasGroups, IsSmall, state_after}
+use Rattle.wired_panels.specs.Below.totals.Amounts.Kind.{Prog as Ends}
+use Rattle.wired_panels.specs.Below.totals.Laws.{IsGroupEnd, ready}
+use Rattle.wired_panels.specs.Below.totals.Standing.{StandsAll}
+use Rattle.wired_panels.specs.Below.whole_cycles.Between.{IsReady}
+use Rattle.wired_panels.proofs.Below.whole_cycles.Ready.{machines-ready, ready-moved}
+use Rattle.wired_panels.specs.Below.wiring_table.Figures.{IsAmount}
 use Rattle.printed_reports.specs.Content.{AllStand, After, Holds, Waits, Within, by_first, by_second, held, kind_for, sums_of}
 use Rattle.printed_reports.proofs.Asked.{asked_in}
 use Rattle.printed_reports.proofs.Facts.{IsRead, ShowsTotal}

@@ -2,41 +2,41 @@
 -- level where the report does.
 use Rattle.std.proofs.Common.{◌≡◌, ◌∙◌, refl, sym, ap, subst, ℕ, zero, suc, ◌+◌, ◌≤◌, ◌<◌, ◌^◌, not, Bool, true, false, List, [], ◌∷◌, ◌++◌, Option, Some, None, length, if◌then◌else◌, arith}
 use Rattle.std.proofs.lemmas.Bool.Decides.{nat_tests}
-use Rattle.panel_cycles.specs.Below.carriage.Asked.{nothing_asked}
-use Rattle.decks.specs.Below.placed_lines.declared.placed_line.PlacedLine.{PlacedLine}
-use Rattle.decks.specs.Below.chart_rules.Rules.{IsLawful}
-use Rattle.decks.specs.Below.charts.Chart.{Chart}
-use Rattle.decks.proofs.Pages.{after-most}
-use Rattle.decks.proofs.Places.{places_split}
-use Rattle.decks.specs.Left.{bodies_of, left_after}
-use Rattle.decks.specs.Stands.{Stand}
-use Rattle.panel_cycles.specs.Below.setups.Wiring.{Wiring}
-use Rattle.panel_cycles.specs.Below.machine.Cycles.{line_of}
-use Rattle.panel_cycles.specs.Below.machine.Feeds.{due_in}
-use Rattle.panel_cycles.specs.Below.machine.Machine.{MachineState}
-use Rattle.panel_cycles.specs.Below.machine.Runs.{has_more}
-use Rattle.panel_cycles.specs.Below.net.Cycles.{level_number}
-use Rattle.panel_cycles.specs.Below.net.Printing.{prints}
-use Rattle.panel_cycles.specs.Below.net.declared.cycle.Cycle.{Cycle}
-use Rattle.panel_cycles.specs.Below.net.declared.cycle.Cycle.TheVariants.{Prog, Head}
-use Rattle.panel_cycles.specs.Below.net.declared.cycle.ProgramLevel.{ProgramLevel}
-use Rattle.panel_cycles.specs.Below.net.declared.cycle.ProgramLevel.TheVariants.{Final}
-use Rattle.panel_cycles.specs.Below.net.declared.cycle.Ordinal.TheVariants.{First, Second, Third}
-use Rattle.panel_cycles.proofs.LinePlaces.BodyLines.{jacks-print}
-use Rattle.panel_cycles.proofs.LinePlaces.CyclesDue.{levels-due, levels-rise, seconds-due, thirds-due, totals-wait, others-come}
-use Rattle.panel_cycles.proofs.LinePlaces.DueCycles.{due, stage_after}
-use Rattle.panel_cycles.proofs.LinePlaces.Placements.{quiet-stays}
-use Rattle.panel_cycles.specs.LinePlaces.CarriageCycles.{begins_page, carriage_after, line_at}
-use Rattle.panel_cycles.specs.LinePlaces.FormFacts.{HasGoodForm}
-use Rattle.panel_cycles.specs.LinePlaces.Placing.{IsCarriageOf, IsAt, prints_kind, printing_of_chart}
-use Rattle.panel_cycles.specs.Below.program_unit.CycleOrder.{card_over, has_level_left, level_above, levels_to, top_level, headed as headed_by}
-use Rattle.panel_cycles.specs.Below.program_unit.Program.{ProgramState, stage_ended}
-use Rattle.panel_cycles.specs.Below.program_unit.declared.stage.Stage.TheVariants.{RanProg, BeforeTotal}
-use Rattle.decks.specs.Below.report.BodyLines.{total_line}
-use Rattle.decks.specs.Below.report.Breaks.{ended_after, taking}
-use Rattle.decks.specs.Below.report.Outline.{OutlineLine, Total}
-use Rattle.decks.specs.Below.report.Places.{BodyText, Left, placed}
-use Rattle.decks.specs.Below.report.ChartForm.{prints_totals}
+use Rattle.wired_panels.specs.Below.carriage.Asked.{nothing_asked}
+use Rattle.report.specs.Below.page_text.declared.placed_lines.placed_line.PlacedLine.{PlacedLine}
+use Rattle.report.specs.Below.chart_rules.Rules.{IsLawful}
+use Rattle.report.specs.Below.charts.Chart.{Chart}
+use Rattle.report.proofs.FollowedDecks.Pages.{after-most}
+use Rattle.report.proofs.FollowedDecks.Places.{places_split}
+use Rattle.report.specs.FollowedDecks.Left.{bodies_of, left_after}
+use Rattle.report.specs.FollowedDecks.Stands.{Stand}
+use Rattle.wired_panels.specs.Below.setups.Wiring.{Wiring}
+use Rattle.wired_panels.specs.Below.machine.Cycles.{line_of}
+use Rattle.wired_panels.specs.Below.machine.Feeds.{due_in}
+use Rattle.wired_panels.specs.Below.machine.Machine.{MachineState}
+use Rattle.wired_panels.specs.Below.machine.Runs.{has_more}
+use Rattle.wired_panels.specs.Below.net.Cycles.{level_number}
+use Rattle.wired_panels.specs.Below.net.Printing.{prints}
+use Rattle.wired_panels.specs.Below.net.declared.cycle.Cycle.{Cycle}
+use Rattle.wired_panels.specs.Below.net.declared.cycle.Cycle.TheVariants.{Prog, Head}
+use Rattle.wired_panels.specs.Below.net.declared.cycle.ProgramLevel.{ProgramLevel}
+use Rattle.wired_panels.specs.Below.net.declared.cycle.ProgramLevel.TheVariants.{Final}
+use Rattle.wired_panels.specs.Below.net.declared.cycle.Ordinal.TheVariants.{First, Second, Third}
+use Rattle.wired_panels.proofs.CycleAsks.LinePlaces.BodyLines.{jacks-print}
+use Rattle.wired_panels.proofs.CycleAsks.LinePlaces.CyclesDue.{levels-due, levels-rise, seconds-due, thirds-due, totals-wait, others-come}
+use Rattle.wired_panels.proofs.CycleAsks.LinePlaces.DueCycles.{due, stage_after}
+use Rattle.wired_panels.proofs.CycleAsks.LinePlaces.Placements.{quiet-stays}
+use Rattle.wired_panels.specs.CycleAsks.LinePlaces.CarriageCycles.{begins_page, carriage_after, line_at}
+use Rattle.wired_panels.specs.CycleAsks.LinePlaces.FormFacts.{HasGoodForm}
+use Rattle.wired_panels.specs.CycleAsks.LinePlaces.Placing.{IsCarriageOf, IsAt, prints_kind, printing_of_chart}
+use Rattle.wired_panels.specs.Below.program_unit.CycleOrder.{card_over, has_level_left, level_above, levels_to, top_level, headed as headed_by}
+use Rattle.wired_panels.specs.Below.program_unit.Program.{ProgramState, stage_ended}
+use Rattle.wired_panels.specs.Below.program_unit.declared.stage.Stage.TheVariants.{RanProg, BeforeTotal}
+use Rattle.report.specs.BodyLines.{total_line}
+use Rattle.report.specs.Breaks.{ended_after, taking}
+use Rattle.report.specs.Outline.{OutlineLine, Total}
+use Rattle.report.specs.Places.{BodyText, Left, placed}
+use Rattle.report.specs.ChartForm.{prints_totals}
 use Rattle.printed_reports.proofs.Bodies.{BodyRan, bodies_for, printed_ran, silent_ran}
 use Rattle.printed_reports.proofs.Headings.{CanWait, readied}
 use Rattle.printed_reports.proofs.Steps.{fed_with, GoesFrom, Stepped, stepped, over}

@@ -1,23 +1,23 @@
 -- The printed line of a cycle, by the sets of rows that its wheels receive.
 use Rattle.std.proofs.Common.{◌≡◌, ◌∙◌, refl, ap, ℕ, zero, suc, ◌+◌, ◌≤◌, ◌<◌, Bool, List, [], ◌∷◌, map, arith}
 use Rattle.std.specs.List.{range_with_len}
-use Rattle.decks.specs.Below.card_code.CardCode.{has_row}
-use Rattle.decks.specs.Below.card_code.Rows.{row_number, rows}
-use Rattle.decks.specs.Below.card_code.declared.row.Row.{Row as CardRow}
-use Rattle.panel_cycles.specs.Below.setups.Wiring.{Wiring, is_plugged}
-use Rattle.panel_cycles.specs.Below.hubs.declared.hub.Hub.{Hub}
-use Rattle.panel_cycles.specs.Below.hubs.declared.hub.Hub.TheVariants.{W}
-use Rattle.panel_cycles.specs.Below.hubs.declared.jack.Jack.TheVariants.{Link, Suppress, Symbol}
-use Rattle.panel_cycles.specs.Below.machine.Machine.{MachineState}
-use Rattle.panel_cycles.specs.Below.net.declared.cycle.Cycle.{Cycle}
-use Rattle.panel_cycles.specs.Below.net.declared.cycle.Point.{Point}
-use Rattle.panel_cycles.specs.Below.net.declared.cycle.Point.TheVariants.{Row}
-use Rattle.panel_cycles.specs.Below.print_unit.Wheels.{wheel_at_start}
-use Rattle.panel_cycles.specs.Below.print_unit.ZeroControl.{Wheel, has_zero_control, printed_line}
-use Rattle.panel_cycles.specs.Below.printed_lines.Shown.{wheel_with, wheels_with}
-use Rattle.panel_cycles.proofs.Below.whole_cycles.Wheels.{wheels-jacks}
-use Rattle.panel_cycles.specs.Below.whole_cycles.Between.{IsReady}
-use Rattle.panel_cycles.specs.Below.whole_cycles.WholeCycles.{WholeCycle, wheel_received}
+use Rattle.report.specs.Below.card_code.CardCode.{has_row}
+use Rattle.report.specs.Below.card_code.Rows.{row_number, rows}
+use Rattle.report.specs.Below.card_code.declared.row.Row.{Row as CardRow}
+use Rattle.wired_panels.specs.Below.setups.Wiring.{Wiring, is_plugged}
+use Rattle.wired_panels.specs.Below.hubs.declared.hub.Hub.{Hub}
+use Rattle.wired_panels.specs.Below.hubs.declared.hub.Hub.TheVariants.{W}
+use Rattle.wired_panels.specs.Below.hubs.declared.jack.Jack.TheVariants.{Link, Suppress, Symbol}
+use Rattle.wired_panels.specs.Below.machine.Machine.{MachineState}
+use Rattle.wired_panels.specs.Below.net.declared.cycle.Cycle.{Cycle}
+use Rattle.wired_panels.specs.Below.net.declared.cycle.Point.{Point}
+use Rattle.wired_panels.specs.Below.net.declared.cycle.Point.TheVariants.{Row}
+use Rattle.wired_panels.specs.Below.print_unit.Wheels.{wheel_at_start}
+use Rattle.wired_panels.specs.Below.print_unit.ZeroControl.{Wheel, has_zero_control, printed_line}
+use Rattle.wired_panels.specs.Below.printed_lines.Shown.{wheel_with, wheels_with}
+use Rattle.wired_panels.proofs.Below.whole_cycles.Wheels.{wheels-jacks}
+use Rattle.wired_panels.specs.Below.whole_cycles.Between.{IsReady}
+use Rattle.wired_panels.specs.Below.whole_cycles.WholeCycles.{WholeCycle, wheel_received}
 
 -- the wheels' jacks, as tests of their numbers
 abbrev pub has_link : Wiring → ℕ → Bool

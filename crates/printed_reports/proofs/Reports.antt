@@ -1,11 +1,11 @@
 -- The floors put together: a machine that is wired for a chart places the lines of the chart's report.
-use Rattle.decks.specs.Below.chart_rules.ValidCard.{IsValidCard}
-use Rattle.decks.proofs.Running.{runs_follow_decks}
-use Rattle.panel_cycles.specs.Below.machine.Machine.{machine_at_start}
+use Rattle.report.specs.Below.chart_rules.ValidCard.{IsValidCard}
+use Rattle.report.proofs.FollowedDecks.Running.{runs_follow_decks}
+use Rattle.wired_panels.specs.Below.machine.Machine.{machine_at_start}
 use Rattle.printed_reports.specs.Content.{Waits}
 use Rattle.printed_reports.specs.Laws.{MachinesPrintReports}
 use Rattle.printed_reports.proofs.Instance.{machine_goes}
-use Rattle.panel_cycles.proofs.Below.machine.RunsInFeeds.{run-in-feeds}
+use Rattle.wired_panels.proofs.Below.machine.RunsInFeeds.{run-in-feeds}
 use Rattle.printed_reports.proofs.Runs.{goes_by_cards, lines-run, runner}
 
 pub machine_prints_reports : MachinesPrintReports

@@ -1,25 +1,25 @@
 -- A machine wired for a chart goes by cards, and so the lines that it places are those of the report.
 use Rattle.std.proofs.Common.{◌≡◌, ◌∙◌, refl, sym, ap, subst, ℕ, ◌+◌, ◌<◌, ◌^◌, true, false, List, [], ◌∷◌, ◌++◌, Option, Some, None}
-use Rattle.panel_cycles.specs.Below.carriage.Asked.{nothing_asked}
-use Rattle.decks.specs.Below.placed_lines.declared.placed_line.PlacedLine.{PlacedLine}
-use Rattle.decks.specs.Below.chart_rules.Rules.{IsLawful}
-use Rattle.decks.specs.Below.charts.Chart.{Chart}
-use Rattle.decks.specs.Runner.{Runner, GoesByCards, FollowsNext, Runs}
-use Rattle.decks.specs.Stands.{Stand, at_first, card_bodies, stand_after}
-use Rattle.panel_cycles.specs.Below.setups.Wiring.{Wiring}
-use Rattle.panel_cycles.specs.Below.machine.Cycles.{CycleRun}
-use Rattle.panel_cycles.specs.Below.machine.Feeds.{Feeds, LinesFrom, begun, due_in}
-use Rattle.panel_cycles.specs.Below.machine.Machine.{MachineState, machine_at_start}
-use Rattle.panel_cycles.specs.Below.machine.Runs.{has_more, moved_on}
-use Rattle.panel_cycles.specs.Below.net.Printing.{printing_of}
-use Rattle.panel_cycles.specs.Below.net.declared.cycle.Cycle.TheVariants.{RunIn}
-use Rattle.panel_cycles.specs.Below.net.declared.cycle.ProgramLevel.{ProgramLevel}
-use Rattle.panel_cycles.proofs.LinePlaces.DueCycles.{due, is_between}
-use Rattle.panel_cycles.proofs.LinePlaces.Placements.{starts}
-use Rattle.panel_cycles.specs.LinePlaces.Placing.{IsCarriageOf, IsFormOf, printing_of_chart}
-use Rattle.panel_cycles.specs.Below.program_unit.CycleOrder.{card_over}
-use Rattle.panel_cycles.specs.Below.program_unit.Program.{ProgramState}
-use Rattle.decks.specs.Below.report.Places.{before_all, placed}
+use Rattle.wired_panels.specs.Below.carriage.Asked.{nothing_asked}
+use Rattle.report.specs.Below.page_text.declared.placed_lines.placed_line.PlacedLine.{PlacedLine}
+use Rattle.report.specs.Below.chart_rules.Rules.{IsLawful}
+use Rattle.report.specs.Below.charts.Chart.{Chart}
+use Rattle.report.specs.FollowedDecks.Runner.{Runner, GoesByCards, FollowsNext, Runs}
+use Rattle.report.specs.FollowedDecks.Stands.{Stand, at_first, card_bodies, stand_after}
+use Rattle.wired_panels.specs.Below.setups.Wiring.{Wiring}
+use Rattle.wired_panels.specs.Below.machine.Cycles.{CycleRun}
+use Rattle.wired_panels.specs.Below.machine.Feeds.{Feeds, LinesFrom, begun, due_in}
+use Rattle.wired_panels.specs.Below.machine.Machine.{MachineState, machine_at_start}
+use Rattle.wired_panels.specs.Below.machine.Runs.{has_more, moved_on}
+use Rattle.wired_panels.specs.Below.net.Printing.{printing_of}
+use Rattle.wired_panels.specs.Below.net.declared.cycle.Cycle.TheVariants.{RunIn}
+use Rattle.wired_panels.specs.Below.net.declared.cycle.ProgramLevel.{ProgramLevel}
+use Rattle.wired_panels.proofs.CycleAsks.LinePlaces.DueCycles.{due, is_between}
+use Rattle.wired_panels.proofs.CycleAsks.LinePlaces.Placements.{starts}
+use Rattle.wired_panels.specs.CycleAsks.LinePlaces.Placing.{IsCarriageOf, IsFormOf, printing_of_chart}
+use Rattle.wired_panels.specs.Below.program_unit.CycleOrder.{card_over}
+use Rattle.wired_panels.specs.Below.program_unit.Program.{ProgramState}
+use Rattle.report.specs.Places.{before_all, placed}
 use Rattle.printed_reports.proofs.Feed.{IsWaiting, card_fed}
 use Rattle.printed_reports.proofs.Levels.{quietly}
 use Rattle.printed_reports.proofs.Steps.{fed_with, GoesFrom, stepped, over}

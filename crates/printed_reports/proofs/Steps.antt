@@ -1,11 +1,11 @@
 -- The steps of a feed: the cycle that is due, and what follows it.
 use Rattle.std.proofs.Common.{◌≡◌, subst, ℕ, Bool, List, [], ◌∷◌, ◌++◌, Option, Some, None}
-use Rattle.decks.specs.Below.placed_lines.declared.placed_line.PlacedLine.{PlacedLine}
-use Rattle.panel_cycles.specs.Below.setups.Wiring.{Wiring}
-use Rattle.panel_cycles.specs.Below.machine.Cycles.{CycleRun, line_of}
-use Rattle.panel_cycles.specs.Below.machine.Feeds.{Fed, FeedStep, FeedRuns, due_in, taken}
-use Rattle.panel_cycles.specs.Below.machine.Machine.{MachineState}
-use Rattle.panel_cycles.specs.Below.net.declared.cycle.Cycle.{Cycle}
+use Rattle.report.specs.Below.page_text.declared.placed_lines.placed_line.PlacedLine.{PlacedLine}
+use Rattle.wired_panels.specs.Below.setups.Wiring.{Wiring}
+use Rattle.wired_panels.specs.Below.machine.Cycles.{CycleRun, line_of}
+use Rattle.wired_panels.specs.Below.machine.Feeds.{Fed, FeedStep, FeedRuns, due_in, taken}
+use Rattle.wired_panels.specs.Below.machine.Machine.{MachineState}
+use Rattle.wired_panels.specs.Below.net.declared.cycle.Cycle.{Cycle}
 
 -- a machine in a feed
 abbrev pub fed_with : MachineState → Bool → Option (List ℕ) → Fed

@@ -4,21 +4,21 @@ use Rattle.std.proofs.Common.{◌≡◌, ◌∙◌, refl, sym, ap, subst, ℕ, z
 use Rattle.std.specs.Int.{is_negative}
 use Rattle.std.proofs.lemmas.Bool.Decides.{nat_tests}
 use Rattle.std.proofs.lemmas.Int.{ints}
-use Rattle.panel_cycles.specs.Below.totals.CounterCycles.Acts.{Held}
-use Rattle.decks.specs.Below.charts.declared.statement.Field.{Field}
-use Rattle.panel_cycles.specs.Below.net.declared.cycle.Ordinal.TheVariants.{First, Second, Third}
-use Rattle.decks.specs.Below.report.Amounts.{digits_on, is_negated, number_in, value_of}
-use Rattle.decks.specs.Below.report.Breaks.{cleared, taking}
-use Rattle.decks.specs.Below.report.Totals.{total_of}
-use Rattle.panel_cycles.proofs.Below.totals.Cards.{equal_sums, card_goes}
-use Rattle.panel_cycles.proofs.Below.totals.Figures.{not-negative}
-use Rattle.panel_cycles.proofs.Below.totals.GroupEnds.{total_shows, empty_ends}
-use Rattle.panel_cycles.proofs.Below.totals.Passing.{empty_passes}
-use Rattle.panel_cycles.specs.Below.totals.Amounts.{Amount, HasGroups, IsOnCard, state_after}
-use Rattle.panel_cycles.specs.Below.totals.Amounts.Kind.{Entry, Prog}
-use Rattle.panel_cycles.specs.Below.totals.Laws.{IsGroupEnd, ready}
-use Rattle.panel_cycles.specs.Below.totals.Standing.{StandsAll}
-use Rattle.panel_cycles.specs.Below.totals.Sums as sums
+use Rattle.wired_panels.specs.Below.totals.CounterCycles.Acts.{Held}
+use Rattle.report.specs.Below.charts.declared.statement.Field.{Field}
+use Rattle.wired_panels.specs.Below.net.declared.cycle.Ordinal.TheVariants.{First, Second, Third}
+use Rattle.report.specs.Amounts.{digits_on, is_negated, number_in, value_of}
+use Rattle.report.specs.Breaks.{cleared, taking}
+use Rattle.report.specs.Totals.{total_of}
+use Rattle.wired_panels.proofs.Below.totals.Cards.{equal_sums, card_goes}
+use Rattle.wired_panels.proofs.Below.totals.Figures.{not-negative}
+use Rattle.wired_panels.proofs.Below.totals.GroupEnds.{total_shows, empty_ends}
+use Rattle.wired_panels.proofs.Below.totals.Passing.{empty_passes}
+use Rattle.wired_panels.specs.Below.totals.Amounts.{Amount, HasGroups, IsOnCard, state_after}
+use Rattle.wired_panels.specs.Below.totals.Amounts.Kind.{Entry, Prog}
+use Rattle.wired_panels.specs.Below.totals.Laws.{IsGroupEnd, ready}
+use Rattle.wired_panels.specs.Below.totals.Standing.{StandsAll}
+use Rattle.wired_panels.specs.Below.totals.Sums as sums
 use Rattle.printed_reports.specs.Content.{sums_of}
 
 -- the total of cards and one more

@@ -1,17 +1,17 @@
 -- The law of decks whose totals don't all fit.
 use Rattle.std.specs.Prelude.{◌≡◌, ℕ, ◌≤◌, List, ◌∷◌, ◌++◌, All, length}
-use Rattle.decks.specs.Below.card_code.MostCards.{most_cards}
-use Rattle.panel_cycles.specs.Below.plans.Plans.{Lists}
-use Rattle.decks.specs.Below.placed_lines.declared.placed_line.PlacedLine.{PlacedLine}
-use Rattle.decks.specs.Below.chart_rules.ValidCard.{IsValidCard}
-use Rattle.decks.specs.Below.charts.Chart.{Chart, NumbersRise}
-use Rattle.decks.specs.Below.charts.Literals.{HaveLiteralTexts}
-use Rattle.decks.specs.FitBefore.{FitBefore}
-use Rattle.decks.specs.Stands.{report_before}
-use Rattle.panel_cycles.specs.Below.setups.Wiring.{Wiring}
-use Rattle.panel_cycles.specs.Below.wired_panels.Panel.{IsPanel}
-use Rattle.panel_cycles.specs.Below.machine.Feeds.{FedLines}
-use Rattle.panel_cycles.specs.Below.machine.Machine.{MachineState, machine_at_start}
+use Rattle.report.specs.Below.card_code.MostCards.{most_cards}
+use Rattle.wired_panels.specs.Below.plans.Plans.{Lists}
+use Rattle.report.specs.Below.page_text.declared.placed_lines.placed_line.PlacedLine.{PlacedLine}
+use Rattle.report.specs.Below.chart_rules.ValidCard.{IsValidCard}
+use Rattle.report.specs.Below.charts.Chart.{Chart, NumbersRise}
+use Rattle.report.specs.Below.charts.Literals.{HaveLiteralTexts}
+use Rattle.report.specs.FollowedDecks.FitBefore.{FitBefore}
+use Rattle.report.specs.FollowedDecks.Stands.{report_before}
+use Rattle.wired_panels.specs.Below.setups.Wiring.{Wiring}
+use Rattle.wired_panels.specs.Panel.{IsPanel}
+use Rattle.wired_panels.specs.Below.machine.Feeds.{FedLines}
+use Rattle.wired_panels.specs.Below.machine.Machine.{MachineState, machine_at_start}
 
 -- Where the totals of a deck don't all fit, the lines that the machine places before those of the first card at which one doesn't are the
 -- lines of the report that stand before that card's. In full: for every chart that breaks no rule, whose line numbers rise and whose

@@ -1,1 +1,1 @@
-pub use Rattle.panel_cycles.specs.Below.wiring_table
+pub use Rattle.wired_panels.specs.Below.wiring_table

@@ -1,30 +1,30 @@
 -- What a machine that is wired for a chart holds between its cycles: the latches of group indication, the pilots, the totals and the stored
 -- texts.
 use Rattle.std.specs.Prelude.{◌≡◌, ℕ, suc, ◌≤◌, ℤ, List, Option, Some}
-use Rattle.panel_cycles.specs.Below.totals.CounterCycles.Acts.{Held}
-use Rattle.panel_cycles.specs.Below.plans.Plans.{Lists}
-use Rattle.decks.specs.Below.charts.Chart.{Chart}
-use Rattle.decks.specs.Below.charts.declared.statement.Field.{Field}
-use Rattle.decks.specs.Stands.{Stand}
-use Rattle.panel_cycles.specs.Below.setups.Wiring.{Wiring}
-use Rattle.panel_cycles.specs.ChartAmounts.{amount_of}
-use Rattle.panel_cycles.specs.CounterStates.{state_of}
-use Rattle.panel_cycles.specs.Below.wired_panels.PanelCycles.{AreSetTo, PilotsTellSigns, UnitsHold}
-use Rattle.panel_cycles.specs.Below.machine.Machine.{MachineState}
-use Rattle.panel_cycles.specs.Below.net.Cycles.{level_number}
-use Rattle.panel_cycles.specs.Below.net.declared.cycle.Cycle.{Cycle}
-use Rattle.panel_cycles.specs.Below.net.declared.cycle.Cycle.TheVariants.{RunIn, Card, Prog, Head}
-use Rattle.panel_cycles.specs.Below.net.declared.cycle.ProgramLevel.{ProgramLevel}
-use Rattle.panel_cycles.specs.Below.net.declared.cycle.Ordinal.TheVariants.{First}
-use Rattle.decks.specs.Below.report.Amounts.{digits_on, is_negated, number_in}
-use Rattle.panel_cycles.specs.Below.totals.Amounts.{Kind, state_after}
-use Rattle.panel_cycles.specs.Below.totals.Amounts.Kind.{Entry, Prog as Ends, Other}
-use Rattle.panel_cycles.specs.Below.totals.Laws.{ready}
-use Rattle.panel_cycles.specs.Below.totals.Standing.{StandsAll}
-use Rattle.panel_cycles.specs.Below.whole_cycles.Between.{IsReady}
-use Rattle.panel_cycles.specs.Below.wiring_table.Figures.{IsAmount}
-use Rattle.decks.specs.Below.report.Breaks.{cleared, ended_after, taking}
-use Rattle.decks.specs.Below.report.Totals.{total_of}
+use Rattle.wired_panels.specs.Below.totals.CounterCycles.Acts.{Held}
+use Rattle.wired_panels.specs.Below.plans.Plans.{Lists}
+use Rattle.report.specs.Below.charts.Chart.{Chart}
+use Rattle.report.specs.Below.charts.declared.statement.Field.{Field}
+use Rattle.report.specs.FollowedDecks.Stands.{Stand}
+use Rattle.wired_panels.specs.Below.setups.Wiring.{Wiring}
+use Rattle.wired_panels.specs.CycleAsks.ChartAmounts.{amount_of}
+use Rattle.wired_panels.specs.CycleAsks.CounterStates.{state_of}
+use Rattle.wired_panels.specs.PanelCycles.{AreSetTo, PilotsTellSigns, UnitsHold}
+use Rattle.wired_panels.specs.Below.machine.Machine.{MachineState}
+use Rattle.wired_panels.specs.Below.net.Cycles.{level_number}
+use Rattle.wired_panels.specs.Below.net.declared.cycle.Cycle.{Cycle}
+use Rattle.wired_panels.specs.Below.net.declared.cycle.Cycle.TheVariants.{RunIn, Card, Prog, Head}
+use Rattle.wired_panels.specs.Below.net.declared.cycle.ProgramLevel.{ProgramLevel}
+use Rattle.wired_panels.specs.Below.net.declared.cycle.Ordinal.TheVariants.{First}
+use Rattle.report.specs.Amounts.{digits_on, is_negated, number_in}
+use Rattle.wired_panels.specs.Below.totals.Amounts.{Kind, state_after}
+use Rattle.wired_panels.specs.Below.totals.Amounts.Kind.{Entry, Prog as Ends, Other}
+use Rattle.wired_panels.specs.Below.totals.Laws.{ready}
+use Rattle.wired_panels.specs.Below.totals.Standing.{StandsAll}
+use Rattle.wired_panels.specs.Below.whole_cycles.Between.{IsReady}
+use Rattle.wired_panels.specs.Below.wiring_table.Figures.{IsAmount}
+use Rattle.report.specs.Breaks.{cleared, ended_after, taking}
+use Rattle.report.specs.Totals.{total_of}
 
 -- the latches, the pilots and the units of a machine between cycles
 pub record Holds (chart : Chart) (plan : Lists) (wiring : Wiring) (latches : ℕ) (signs : Option (List ℕ)) (machine : MachineState) :

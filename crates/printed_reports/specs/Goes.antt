@@ -1,23 +1,23 @@
 -- What a machine does card by card, cycle by cycle, that is wired for a chart: told by what it holds between its cycles, whatever that is.
 use Rattle.std.specs.Prelude.{◌≡◌, ℕ, suc, ◌≤◌, List, Option, Some}
-use Rattle.panel_cycles.specs.Below.carriage.Asked.{nothing_asked}
-use Rattle.decks.specs.Below.charts.Chart.{Chart}
-use Rattle.decks.specs.Alike.{AlikeWith}
-use Rattle.decks.specs.CardMisfits.{GroupsFit}
-use Rattle.decks.specs.Runner.{ReadsNext}
-use Rattle.decks.specs.Stands.{Stand, at_first, stand_after}
-use Rattle.panel_cycles.specs.Below.setups.Wiring.{Wiring}
-use Rattle.panel_cycles.specs.Below.machine.Cycles.{CycleRun}
-use Rattle.panel_cycles.specs.Below.machine.Machine.{MachineState, machine_at_start}
-use Rattle.panel_cycles.specs.Below.machine.Runs.{moved_on}
-use Rattle.panel_cycles.specs.Below.net.Cycles.{level_number}
-use Rattle.panel_cycles.specs.Below.net.Printing.{printing_of}
-use Rattle.panel_cycles.specs.Below.net.declared.cycle.Cycle.TheVariants.{Card, Head, Prog, RunIn}
-use Rattle.panel_cycles.specs.Below.net.declared.cycle.ProgramLevel.{ProgramLevel}
-use Rattle.panel_cycles.specs.Below.net.declared.cycle.Ordinal.{Ordinal}
-use Rattle.panel_cycles.specs.Below.net.declared.cycle.Ordinal.TheVariants.{First, Second, Third}
-use Rattle.panel_cycles.specs.LinePlaces.Placing.{IsFormOf, printing_of_chart}
-use Rattle.decks.specs.Below.report.Breaks.{ended_after, taking}
+use Rattle.wired_panels.specs.Below.carriage.Asked.{nothing_asked}
+use Rattle.report.specs.Below.charts.Chart.{Chart}
+use Rattle.report.specs.FollowedDecks.Alike.{AlikeWith}
+use Rattle.report.specs.FollowedDecks.CardMisfits.{GroupsFit}
+use Rattle.report.specs.FollowedDecks.Runner.{ReadsNext}
+use Rattle.report.specs.FollowedDecks.Stands.{Stand, at_first, stand_after}
+use Rattle.wired_panels.specs.Below.setups.Wiring.{Wiring}
+use Rattle.wired_panels.specs.Below.machine.Cycles.{CycleRun}
+use Rattle.wired_panels.specs.Below.machine.Machine.{MachineState, machine_at_start}
+use Rattle.wired_panels.specs.Below.machine.Runs.{moved_on}
+use Rattle.wired_panels.specs.Below.net.Cycles.{level_number}
+use Rattle.wired_panels.specs.Below.net.Printing.{printing_of}
+use Rattle.wired_panels.specs.Below.net.declared.cycle.Cycle.TheVariants.{Card, Head, Prog, RunIn}
+use Rattle.wired_panels.specs.Below.net.declared.cycle.ProgramLevel.{ProgramLevel}
+use Rattle.wired_panels.specs.Below.net.declared.cycle.Ordinal.{Ordinal}
+use Rattle.wired_panels.specs.Below.net.declared.cycle.Ordinal.TheVariants.{First, Second, Third}
+use Rattle.wired_panels.specs.CycleAsks.LinePlaces.Placing.{IsFormOf, printing_of_chart}
+use Rattle.report.specs.Breaks.{ended_after, taking}
 use Rattle.printed_reports.specs.Steps.{GoesOn, Heads, RunsCard, Totals}
 
 -- what heading cycles keep and print

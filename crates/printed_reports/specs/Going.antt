@@ -1,10 +1,10 @@
 -- The law of the cycles of machines that are wired for charts.
-use Rattle.panel_cycles.specs.Below.plans.Plans.{Lists}
-use Rattle.decks.specs.Below.chart_rules.ValidCard.{IsValidCard}
-use Rattle.decks.specs.Below.charts.Chart.{Chart, NumbersRise}
-use Rattle.decks.specs.Below.charts.Literals.{HaveLiteralTexts}
-use Rattle.panel_cycles.specs.Below.setups.Wiring.{Wiring}
-use Rattle.panel_cycles.specs.Below.wired_panels.Panel.{IsPanel}
+use Rattle.wired_panels.specs.Below.plans.Plans.{Lists}
+use Rattle.report.specs.Below.chart_rules.ValidCard.{IsValidCard}
+use Rattle.report.specs.Below.charts.Chart.{Chart, NumbersRise}
+use Rattle.report.specs.Below.charts.Literals.{HaveLiteralTexts}
+use Rattle.wired_panels.specs.Below.setups.Wiring.{Wiring}
+use Rattle.wired_panels.specs.Panel.{IsPanel}
 use Rattle.printed_reports.specs.Content.{After, Waits, Within, by_first, by_second}
 use Rattle.printed_reports.specs.Goes.{MachineGoes}
 

@@ -1,16 +1,16 @@
 -- The law of machines that are wired for charts.
 use Rattle.std.specs.Prelude.{◌≡◌, ℕ, ◌≤◌, List, All, length}
-use Rattle.decks.specs.Below.card_code.MostCards.{most_cards}
-use Rattle.panel_cycles.specs.Below.plans.Plans.{Lists}
-use Rattle.decks.specs.Below.placed_lines.declared.placed_line.PlacedLine.{PlacedLine}
-use Rattle.decks.specs.Below.chart_rules.ValidCard.{IsValidCard}
-use Rattle.decks.specs.Below.charts.Chart.{Chart, NumbersRise}
-use Rattle.decks.specs.Below.charts.Literals.{HaveLiteralTexts}
-use Rattle.panel_cycles.specs.Below.setups.Wiring.{Wiring}
-use Rattle.panel_cycles.specs.Below.wired_panels.Panel.{IsPanel}
-use Rattle.panel_cycles.specs.Below.machine.Runs.{MachineLines}
-use Rattle.decks.specs.Below.report.Report.{report_lines}
-use Rattle.decks.specs.Below.report.Totals.{Fits}
+use Rattle.report.specs.Below.card_code.MostCards.{most_cards}
+use Rattle.wired_panels.specs.Below.plans.Plans.{Lists}
+use Rattle.report.specs.Below.page_text.declared.placed_lines.placed_line.PlacedLine.{PlacedLine}
+use Rattle.report.specs.Below.chart_rules.ValidCard.{IsValidCard}
+use Rattle.report.specs.Below.charts.Chart.{Chart, NumbersRise}
+use Rattle.report.specs.Below.charts.Literals.{HaveLiteralTexts}
+use Rattle.wired_panels.specs.Below.setups.Wiring.{Wiring}
+use Rattle.wired_panels.specs.Panel.{IsPanel}
+use Rattle.wired_panels.specs.Below.machine.Runs.{MachineLines}
+use Rattle.report.specs.Report.{report_lines}
+use Rattle.report.specs.Totals.{Fits}
 
 -- For every chart that breaks no rule, whose line numbers rise and whose literals can be printed, as in every chart that is read, every
 -- setup that is wired for it by a plan of it, and every deck of at most 999,999 valid cards whose totals fit, the lines that the machine

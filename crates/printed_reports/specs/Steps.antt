@@ -1,24 +1,24 @@
 -- What the cycles of a machine that is wired for a chart do: for each kind of cycle what it leaves and what it prints. What the counter
 -- groups, contacts and storage units hold for it is told by tests of the machine, whatever they are.
 use Rattle.std.specs.Prelude.{◌≡◌, ℕ, ◌≤◌, true, List, Option, is_some}
-use Rattle.panel_cycles.specs.Below.carriage.Asked.{nothing_asked}
-use Rattle.decks.specs.Below.charts.Chart.{Chart}
-use Rattle.decks.specs.Stands.{Stand}
-use Rattle.panel_cycles.specs.Below.machine.Machine.{MachineState}
-use Rattle.panel_cycles.specs.Below.net.Cycles.{level_number, ordinal_number}
-use Rattle.panel_cycles.specs.Below.net.declared.cycle.Cycle.{Cycle}
-use Rattle.panel_cycles.specs.Below.net.declared.cycle.Cycle.TheVariants.{Card, Prog, Head}
-use Rattle.panel_cycles.specs.Below.net.declared.cycle.ProgramLevel.{ProgramLevel}
-use Rattle.panel_cycles.specs.Below.net.declared.cycle.Ordinal.{Ordinal}
-use Rattle.panel_cycles.specs.Below.net.declared.cycle.Ordinal.TheVariants.{Third}
-use Rattle.panel_cycles.specs.LinePlaces.CarriageCycles.{carriage_after}
-use Rattle.panel_cycles.specs.LinePlaces.Placing.{asked_of}
-use Rattle.panel_cycles.specs.Below.program_unit.CycleOrder.{levels_to, top_level}
-use Rattle.panel_cycles.specs.Below.program_unit.Program.{program_ended}
-use Rattle.panel_cycles.specs.Below.program_unit.declared.stage.Stage.TheVariants.{RanCard}
-use Rattle.decks.specs.Below.report.BodyLines.{card_line, heading_line, total_line}
-use Rattle.decks.specs.Below.report.Breaks.{ended_after, taking}
-use Rattle.decks.specs.Below.report.ChartForm.{heading_count, prints_details, prints_totals}
+use Rattle.wired_panels.specs.Below.carriage.Asked.{nothing_asked}
+use Rattle.report.specs.Below.charts.Chart.{Chart}
+use Rattle.report.specs.FollowedDecks.Stands.{Stand}
+use Rattle.wired_panels.specs.Below.machine.Machine.{MachineState}
+use Rattle.wired_panels.specs.Below.net.Cycles.{level_number, ordinal_number}
+use Rattle.wired_panels.specs.Below.net.declared.cycle.Cycle.{Cycle}
+use Rattle.wired_panels.specs.Below.net.declared.cycle.Cycle.TheVariants.{Card, Prog, Head}
+use Rattle.wired_panels.specs.Below.net.declared.cycle.ProgramLevel.{ProgramLevel}
+use Rattle.wired_panels.specs.Below.net.declared.cycle.Ordinal.{Ordinal}
+use Rattle.wired_panels.specs.Below.net.declared.cycle.Ordinal.TheVariants.{Third}
+use Rattle.wired_panels.specs.CycleAsks.LinePlaces.CarriageCycles.{carriage_after}
+use Rattle.wired_panels.specs.CycleAsks.LinePlaces.Placing.{asked_of}
+use Rattle.wired_panels.specs.Below.program_unit.CycleOrder.{levels_to, top_level}
+use Rattle.wired_panels.specs.Below.program_unit.Program.{program_ended}
+use Rattle.wired_panels.specs.Below.program_unit.declared.stage.Stage.TheVariants.{RanCard}
+use Rattle.report.specs.BodyLines.{card_line, heading_line, total_line}
+use Rattle.report.specs.Breaks.{ended_after, taking}
+use Rattle.report.specs.ChartForm.{heading_count, prints_details, prints_totals}
 
 -- A cycle other than a card cycle leaves the cards and goes on; the carriage was asked for the given.
 pub record GoesOn (cycle : Cycle) (asked : _) (old new : MachineState) : Type 0 where

@@ -9,7 +9,7 @@ use Rattle.chart_rules.specs.Below.charts.declared.statement.Field.{Field}
 use Rattle.chart_rules.specs.Below.charts.declared.statement.Statement.{Statement}
 use Rattle.chart_rules.specs.Below.charts.declared.statement.TotalLine.{TotalLine}
 use Rattle.chart_rules.specs.Below.charts.declared.statement.Statement.TheVariants as says
-use Rattle.chart_rules.specs.Below.field_rules.Fields.{field_named}
+use Rattle.chart_rules.specs.Below.line_rules.FieldRules.Fields.{field_named}
 use Rattle.report.specs.Misfits.{Misfit, fits_in, misfit_of, misfit_on, misfits_in}
 use Rattle.report.specs.Totals.{GroupFits, total_of}
 

@@ -14,9 +14,9 @@ use Rattle.chart_rules.specs.Below.charts.declared.statement.Statement.{Statemen
 use Rattle.chart_rules.specs.Below.charts.declared.statement.Statement.TheVariants as says
 use Rattle.chart_rules.proofs.Below.charts.Listed.{any-passing}
 use Rattle.chart_rules.specs.declared.rule.Rule.TheVariants as rule
-use Rattle.chart_rules.specs.Below.print_rules.Forms.{has_form, has_room, heading_of, breaks_form}
+use Rattle.chart_rules.specs.Below.line_rules.PrintRules.Forms.{has_form, has_room, heading_of, breaks_form}
 use Rattle.chart_rules.specs.Rules.{IsLawful}
-use Rattle.chart_rules.specs.Below.print_rules.Tapes.{form_lines, form_lines_of, rise_above, are_within, is_good_tape, is_tape_of, has_tape, breaks_tape}
+use Rattle.chart_rules.specs.Below.line_rules.PrintRules.Tapes.{form_lines, form_lines_of, rise_above, are_within, is_good_tape, is_tape_of, has_tape, breaks_tape}
 use Rattle.chart_rules.proofs.Laws.{kept-line, lacks-lawful}
 use Rattle.report.specs.ChartForm.{Form, after_of, form_of, form_from, heading_count, spacing_from, spacing_of, kind_number, stops_of}
 use Rattle.report.proofs.Said.{SaysTape, after-said, form-said, tape-said}

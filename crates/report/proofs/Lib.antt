@@ -16,3 +16,4 @@ pub mod NextStops
 pub mod LinePlaces
 pub mod RisingPlaces
 pub mod Said
+pub mod FollowedDecks

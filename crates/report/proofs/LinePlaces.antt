@@ -4,7 +4,7 @@ use Rattle.std.proofs.lemmas.Bool.Decides.{nat_tests}
 use Rattle.chart_rules.specs.Below.charts.declared.chart.Line.{Line}
 use Rattle.chart_rules.specs.Below.charts.declared.statement.After.{After}
 use Rattle.chart_rules.specs.Below.charts.declared.statement.After.TheVariants as action
-use Rattle.chart_rules.specs.Below.print_rules.Tapes.{rise_above}
+use Rattle.chart_rules.specs.Below.line_rules.PrintRules.Tapes.{rise_above}
 use Rattle.report.specs.ChartForm.{form_of, heading_count, spacing_of, after_of, stops_of}
 use Rattle.report.specs.PlaceLaws.{ComesTo, stays, skips, EndsPage, full, asked, no_stop, standing, headings_on, first_body_line, Follow, no_more, on_its_page, on_the_next, ArePlaced, nothing, from_page_1, LinesStandByTheLineBefore}
 use Rattle.report.specs.Places.{BodyText, before_all, top_line, next_stop, after_action, above_overflow, placed}

@@ -7,7 +7,7 @@ use Rattle.std.proofs.lemmas.List.FromFn.{get_or-range_with_len, length-range_wi
 use Rattle.std.proofs.lemmas.List.Sums.{AllPass-from_list_all}
 use Rattle.std.proofs.lemmas.Bool.{and_parts}
 use Rattle.chart_rules.specs.Below.card_code.CardCode.{code, character_in, deck_character, print_character, printed_for, rows_of}
-use Rattle.page_text.specs.Below.placed_lines.declared.placed_line.PlacedLine.{PlacedLine}
+use Rattle.page_text.specs.declared.placed_lines.placed_line.PlacedLine.{PlacedLine}
 use Rattle.chart_rules.specs.Below.charts.Field.{columns_of, decimals_of}
 use Rattle.chart_rules.specs.Below.charts.Headings.{heading_number}
 use Rattle.chart_rules.specs.Below.charts.Levels.{level_number}
@@ -21,8 +21,8 @@ use Rattle.chart_rules.specs.Below.charts.declared.statement.Mark.{Mark}
 use Rattle.chart_rules.specs.Below.charts.declared.statement.Mark.TheVariants as mark
 use Rattle.chart_rules.specs.Below.charts.declared.statement.Statement.{Statement}
 use Rattle.chart_rules.specs.Below.charts.declared.statement.Statement.TheVariants as says
-use Rattle.chart_rules.specs.Below.field_rules.Fields.{field_named}
-use Rattle.chart_rules.specs.Below.print_rules.Items.{mark_shown, mark_width}
+use Rattle.chart_rules.specs.Below.line_rules.FieldRules.Fields.{field_named}
+use Rattle.chart_rules.specs.Below.line_rules.PrintRules.Items.{mark_shown, mark_width}
 use Rattle.chart_rules.specs.ValidCard.{column_of}
 use Rattle.report.specs.Amounts.{columns_in, is_blank_on, value_of}
 use Rattle.report.specs.BodyLines.{Piece, piece_at, char_at, line_of, text_on, amount_on, field_on, is_shown, card_piece, card_line, a_card_of, total_piece, total_line, heading_piece, heading_line}

@@ -11,7 +11,7 @@ use Rattle.chart_rules.specs.Below.charts.declared.statement.BodyLine.{BodyLine}
 use Rattle.chart_rules.specs.Below.charts.declared.statement.Statement.{Statement}
 use Rattle.chart_rules.specs.Below.charts.declared.statement.Statement.TheVariants as says
 use Rattle.chart_rules.proofs.Below.charts.Listed.{listed-first, listed-after, any-passing}
-use Rattle.chart_rules.specs.Below.print_rules.Forms.{has_form, is_form}
+use Rattle.chart_rules.specs.Below.line_rules.PrintRules.Forms.{has_form, is_form}
 use Rattle.report.specs.ChartForm.{after_from, after_of, form_from, form_of, kind_number, spacing_from, spacing_of, stops_from, stops_of}
 
 -- A line of a chart gives the kind of body line with a number a spacing of so many lines.

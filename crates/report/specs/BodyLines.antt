@@ -15,8 +15,8 @@ use Rattle.chart_rules.specs.Below.charts.declared.statement.FieldKind.TheVarian
 use Rattle.chart_rules.specs.Below.charts.declared.statement.Mark.{Mark}
 use Rattle.chart_rules.specs.Below.charts.declared.statement.Statement.{Statement}
 use Rattle.chart_rules.specs.Below.charts.declared.statement.Statement.TheVariants as says
-use Rattle.chart_rules.specs.Below.field_rules.Fields.{field_named}
-use Rattle.chart_rules.specs.Below.print_rules.Items.{mark_shown}
+use Rattle.chart_rules.specs.Below.line_rules.FieldRules.Fields.{field_named}
+use Rattle.chart_rules.specs.Below.line_rules.PrintRules.Items.{mark_shown}
 use Rattle.chart_rules.specs.ValidCard.{column_of}
 use Rattle.report.specs.Amounts.{columns_in, is_blank_on, value_of}
 use Rattle.report.specs.Edits.{edited, edited_blank}

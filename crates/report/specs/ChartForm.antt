@@ -11,7 +11,7 @@ use Rattle.chart_rules.specs.Below.charts.declared.statement.BodyLine.TheVariant
 use Rattle.chart_rules.specs.Below.charts.declared.statement.Printing.TheVariants as prints
 use Rattle.chart_rules.specs.Below.charts.declared.statement.Statement.{Statement}
 use Rattle.chart_rules.specs.Below.charts.declared.statement.Statement.TheVariants as says
-pub use Rattle.chart_rules.specs.Below.print_rules.Forms.{heading_count}
+pub use Rattle.chart_rules.specs.Below.line_rules.PrintRules.Forms.{heading_count}
 
 -- A form: how many lines a page has, its first line, and the line at which it is full.
 pub record Form : Type 0 where

@@ -5,7 +5,7 @@ use Rattle.std.specs.Prelude.{ℤ}
 use Rattle.std.specs.Int.{is_negative}
 use Rattle.chart_rules.specs.Below.charts.declared.statement.Mark.{Mark}
 use Rattle.chart_rules.specs.Below.charts.declared.statement.Mark.TheVariants as mark
-use Rattle.chart_rules.specs.Below.print_rules.Items.{mark_width}
+use Rattle.chart_rules.specs.Below.line_rules.PrintRules.Items.{mark_width}
 
 -- the last so many digits of a number, the first of them first
 abbrev pub last_digits : (count number : ℕ) → List ℕ

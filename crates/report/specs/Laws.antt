@@ -3,8 +3,8 @@ use Rattle.std.specs.Prelude.{◌≡◌, ◌↔◌, ℕ, ℤ, pos, ◌+ℤ◌, �
 use Rattle.chart_rules.specs.Below.charts.Chart.{Chart}
 use Rattle.chart_rules.specs.Below.charts.declared.chart.Line.{Line}
 use Rattle.chart_rules.specs.Below.charts.declared.statement.Field.{Field}
-use Rattle.chart_rules.specs.Below.print_rules.Items.{figure_width}
-use Rattle.chart_rules.specs.Below.print_rules.declared.items.Figure.{Figure}
+use Rattle.chart_rules.specs.Below.line_rules.PrintRules.Items.{figure_width}
+use Rattle.chart_rules.specs.Below.line_rules.declared.print_rules.items.Figure.{Figure}
 use Rattle.report.specs.BodyLines.{Piece, line_of}
 use Rattle.report.specs.Edits.{edited, edited_blank}
 use Rattle.report.specs.Groups.{cards_of, groups_of, groups_within}

@@ -15,3 +15,4 @@ pub mod AmountLaws
 pub mod OutlineLaws
 pub mod PageLaws
 pub mod PlaceLaws
+pub mod FollowedDecks

@@ -1,7 +1,7 @@
 -- Laws of pages: what the lines of a report are made of, and what the bytes of pages are.
 use Rattle.std.specs.Prelude.{◌≡◌, ℕ, ◌+◌, ◌*◌, ◌==◌, List, [], ◌∷◌, if◌then◌else◌}
 use Rattle.std.specs.List.{All, AllPass}
-use Rattle.page_text.specs.Below.placed_lines.declared.placed_line.PlacedLine.{PlacedLine}
+use Rattle.page_text.specs.declared.placed_lines.placed_line.PlacedLine.{PlacedLine}
 use Rattle.chart_rules.specs.Below.charts.Chart.{Chart}
 use Rattle.chart_rules.specs.Below.charts.Literal.{is_printable}
 use Rattle.chart_rules.specs.Below.charts.Literals.{HaveLiteralTexts}

@@ -3,7 +3,7 @@
 -- first body line of a page stands below the last heading line, or below the form's first line where there is none.
 use Rattle.std.specs.Prelude.{ℕ, ◌+◌, ◌-◌, List, [], ◌∷◌, ◌++◌, Option, Some, None, map, max, nat_le, nat_lt, if◌then◌else◌}
 use Rattle.std.specs.List.{find, range_with_len}
-use Rattle.page_text.specs.Below.placed_lines.declared.placed_line.PlacedLine.{PlacedLine}
+use Rattle.page_text.specs.declared.placed_lines.placed_line.PlacedLine.{PlacedLine}
 use Rattle.chart_rules.specs.Below.charts.declared.chart.Line.{Line}
 use Rattle.chart_rules.specs.Below.charts.declared.statement.After.{After}
 use Rattle.chart_rules.specs.Below.charts.declared.statement.After.TheVariants as action

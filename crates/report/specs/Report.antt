@@ -2,7 +2,7 @@
 -- their places, as the bytes of pages.
 use Rattle.std.specs.Prelude.{ℕ, List, [], ◌∷◌, if◌then◌else◌}
 use Rattle.std.specs.List.{flat_map}
-use Rattle.page_text.specs.Below.placed_lines.declared.placed_line.PlacedLine.{PlacedLine}
+use Rattle.page_text.specs.declared.placed_lines.placed_line.PlacedLine.{PlacedLine}
 use Rattle.chart_rules.specs.Below.charts.Chart.{Chart}
 use Rattle.chart_rules.specs.Below.charts.declared.chart.Line.{Line}
 use Rattle.page_text.specs.Pages.{Pages}

@@ -6,7 +6,7 @@ ghost use Rattle.card_code.specs.CardCode.{rows_of};
 use crate::files::read;
 use card_code::Column;
 use commands::{Ending, Fault};
-use fold_calls::fold_to_end;
+use folding::fold_calls::fold_to_end;
 use std::io::Write;
 
 /// The status of words that can't be obeyed.

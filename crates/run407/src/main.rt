@@ -1,5 +1,5 @@
 //! The program `run407`: has what the words of the command line ask for done by `commands`, whose `serve` and `replay_by_orders` it offers
-//! too, by `whole_runs`, `panel_guides`, `browser_pages`, `trace_calls`, `ledger_calls`, `sheet_calls`, `check_calls`, `match_calls`, `chart_calls`, `text_lists`, `fold_calls` and
+//! too, by `whole_runs`, `panel_guides`, `browser_pages`, `sheets`, `check_calls`, `match_calls`, `text_lists`, `folding` and
 //! `guides`, on the files that they name. `command_line` reads the words.
 #![tactic(auto)]
 

@@ -7,7 +7,6 @@ use crate::running::waiting_pages;
 use crate::watched::Watched;
 use crate::words::tell_waiting;
 use browser_pages::show_to_end;
-use chart_calls::chart_to_end;
 use check_calls::{check_deck_to_end, check_groups_to_end, print_large_totals, show_deck_to_end};
 use command_line::Wanted;
 use commands::{
@@ -15,14 +14,15 @@ use commands::{
     serve_command,
 };
 use fault_guide::guides::fault_to_end;
-use ledger_calls::{Question, tell_to_end};
+use match_calls::chart_calls::chart_to_end;
 use match_calls::match_texts::Telling;
 use match_calls::{match_deck_to_end, match_to_end};
+use panel_guides::ledger_calls::{Question, tell_to_end};
+use panel_guides::trace_calls::trace_to_end;
 use panel_guides::{Place, legend_to_end};
-use sheet_calls::{fields_to_end, layout_to_end};
+use sheets::sheet_calls::{fields_to_end, layout_to_end};
 use std::alloc::Global;
 use text_lists::list_text_to_end;
-use trace_calls::trace_to_end;
 use whole_runs::run_whole_to_end;
 
 /// The status of a text or a deck that is refused.

@@ -3,7 +3,7 @@ use Rattle.std.specs.Prelude.{◌≡◌, ℕ, List}
 use Rattle.compile407.specs.Below.charts.Chart.{Chart}
 use Rattle.compile407.specs.Headline.{IsSound}
 use Rattle.compile407.specs.Below.page_text.Pages.{Pages}
-use Rattle.served_runs.specs.Below.placed_lines.declared.placed_line.PlacedLine.{PlacedLine}
+use Rattle.served_runs.specs.Below.page_text.declared.placed_lines.placed_line.PlacedLine.{PlacedLine}
 use Rattle.compile407.specs.Below.plans.Plans.{Lists, ServesChart}
 use Rattle.compile407.specs.Below.streamed_runs.PrintPromises.Promises.{IsDeck, PrintsReport}
 use Rattle.compile407.specs.Below.report.ChartForm.{form_of}

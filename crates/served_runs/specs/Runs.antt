@@ -5,7 +5,7 @@ use Rattle.machine.specs.Cycles.{line_of}
 use Rattle.machine.specs.Machine.{MachineState}
 use Rattle.machine.specs.Runs.{InRun, cycle_due, made_ready, run_at_start}
 use Rattle.net.specs.declared.cycle.Cycle.{Cycle}
-use Rattle.placed_lines.specs.declared.placed_line.PlacedLine.{PlacedLine}
+use Rattle.page_text.specs.declared.placed_lines.placed_line.PlacedLine.{PlacedLine}
 use Rattle.served.specs.Orders.{unit_count}
 use Rattle.served.specs.Rounds.{Rounds}
 use Rattle.served.specs.Steps.{Served, Starts}

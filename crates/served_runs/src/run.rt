@@ -3,7 +3,7 @@
 ghost use Rattle.std.specs.Prelude.{◌≤◌, IfOk, length};
 ghost use Rattle.card_code.specs.MostCards.{most_cards};
 ghost use Rattle.machine.specs.Runs.{MachineLines};
-ghost use Rattle.placed_lines.specs.InOrder.{IsInOrder};
+ghost use Rattle.page_text.specs.PlacedLines.InOrder.{IsInOrder};
 ghost use Rattle.served_runs.specs.Runs.{IsServedRun};
 
 use crate::counts::Counts;
@@ -13,7 +13,7 @@ use crate::units::Units;
 use card_code::Card;
 use machine::append_line;
 use net::Net;
-use placed_lines::PlacedLine;
+use page_text::placed_lines::PlacedLine;
 use served::Service;
 use setups::Setup;
 use std::alloc::{AllocError, Global};

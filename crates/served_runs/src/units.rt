@@ -5,7 +5,7 @@ use carriage::Carriage;
 use counters::Group;
 use machine::{STORAGE_UNITS, end_all, groups_at_start, placed_line, storage_at_start};
 use net::{Contacts, Cycle, Picture, Point, Unit};
-use placed_lines::PlacedLine;
+use page_text::placed_lines::PlacedLine;
 use print_unit::{Emitters, Wheels};
 use program_unit::Program;
 use selectors::{GROUPS, Indicate, Pilots, Splits};

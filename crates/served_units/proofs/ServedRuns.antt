@@ -11,7 +11,7 @@ use Rattle.machine.proofs.Below.net.EachPicture.{each_picture}
 use Rattle.machine.specs.Below.net.Impulsed.{IsPicture}
 use Rattle.machine.specs.Below.net.declared.cycle.Cycle.{Cycle}
 use Rattle.machine.specs.Below.net.declared.cycle.Cycle.TheVariants.{RunIn, Card, Prog, Head}
-use Rattle.machine.specs.Below.placed_lines.declared.placed_line.PlacedLine.{PlacedLine}
+use Rattle.machine.specs.Below.page_text.declared.placed_lines.placed_line.PlacedLine.{PlacedLine}
 use Rattle.served.proofs.FirstPass.{impulsed_grows}
 use Rattle.served.proofs.Kept.{schedules_end}
 use Rattle.served.proofs.SomeSteps.{units_go}

@@ -4,7 +4,7 @@ use Rattle.machine.specs.Cycles.{CycleRun}
 use Rattle.machine.specs.Machine.{MachineState}
 use Rattle.machine.specs.Runs.{MachineLines}
 use Rattle.machine.specs.Below.net.declared.cycle.Cycle.{Cycle}
-use Rattle.machine.specs.Below.placed_lines.declared.placed_line.PlacedLine.{PlacedLine}
+use Rattle.machine.specs.Below.page_text.declared.placed_lines.placed_line.PlacedLine.{PlacedLine}
 use Rattle.served_units.specs.AnyUnit.{AreInOrder}
 use Rattle.served_units.specs.Runs.{ServedCycle, ServedLines}
 use Rattle.machine.specs.Below.setups.Wiring.{Wiring}

@@ -3,7 +3,7 @@ use Rattle.std.specs.Prelude.{◌≡◌, ℕ, List, map}
 use Rattle.machine.specs.Machine.{MachineState}
 use Rattle.machine.specs.Runs.{RunsBy, run_at_start}
 use Rattle.machine.specs.Below.net.declared.cycle.Cycle.{Cycle}
-use Rattle.machine.specs.Below.placed_lines.declared.placed_line.PlacedLine.{PlacedLine}
+use Rattle.machine.specs.Below.page_text.declared.placed_lines.placed_line.PlacedLine.{PlacedLine}
 use Rattle.served.specs.Laws.{GoesBySteps}
 use Rattle.served.specs.Orders.{unit_count}
 use Rattle.served_units.specs.AnyUnit.{any_ended, any_kind, unit_at, unit_numbers, units_of}

@@ -5,3 +5,4 @@ pub mod Digits
 pub mod Columns
 pub mod Widths
 pub mod Standing
+pub mod SheetCalls

@@ -5,7 +5,7 @@ use Rattle.charts.specs.Field.{decimals_of, is_amount, sign_column}
 use Rattle.charts.specs.declared.statement.Field.{Field}
 use Rattle.charts.specs.declared.statement.FieldKind.{FieldKind}
 use Rattle.charts.specs.declared.statement.FieldKind.TheVariants as holds
-use Rattle.chart_rules.specs.Below.field_rules.Fields.{fields_of}
+use Rattle.chart_rules.specs.Below.line_rules.FieldRules.Fields.{fields_of}
 use Rattle.chart_rules.specs.Rules.{IsLawful}
 use Rattle.chart_rules.proofs.Laws.{IsGoodField, good-listed}
 use Rattle.misfits.proofs.LawfulTotals.{good_column}

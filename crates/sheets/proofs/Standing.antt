@@ -11,13 +11,13 @@ use Rattle.chart_rules.specs.Below.charts.declared.chart.Line.{Line}
 use Rattle.chart_rules.specs.Below.charts.declared.statement.BodyLine.{BodyLine}
 use Rattle.chart_rules.specs.Below.charts.declared.statement.BodyLine.TheVariants as body
 use Rattle.chart_rules.specs.Below.charts.declared.statement.Statement.{Statement}
-use Rattle.chart_rules.specs.Below.field_rules.Fields.{fields_of}
-use Rattle.chart_rules.specs.Below.field_rules.Repeats.{is_same_body}
-use Rattle.chart_rules.specs.Below.print_rules.Items.{is_same_line, item_of}
-use Rattle.chart_rules.specs.Below.print_rules.Wheels.{is_off_wheels, meet, overlap}
-use Rattle.chart_rules.specs.Below.print_rules.declared.items.Item.{Item}
-use Rattle.chart_rules.specs.Below.print_rules.declared.items.PrintedLine.{PrintedLine}
-use Rattle.chart_rules.specs.Below.print_rules.declared.items.PrintedLine.TheVariants.{Heading, Body}
+use Rattle.chart_rules.specs.Below.line_rules.FieldRules.Fields.{fields_of}
+use Rattle.chart_rules.specs.Below.line_rules.FieldRules.Repeats.{is_same_body}
+use Rattle.chart_rules.specs.Below.line_rules.PrintRules.Items.{is_same_line, item_of}
+use Rattle.chart_rules.specs.Below.line_rules.PrintRules.Wheels.{is_off_wheels, meet, overlap}
+use Rattle.chart_rules.specs.Below.line_rules.declared.print_rules.items.Item.{Item}
+use Rattle.chart_rules.specs.Below.line_rules.declared.print_rules.items.PrintedLine.{PrintedLine}
+use Rattle.chart_rules.specs.Below.line_rules.declared.print_rules.items.PrintedLine.TheVariants.{Heading, Body}
 use Rattle.chart_rules.specs.declared.rule.Rule.TheVariants as rule
 use Rattle.chart_rules.proofs.Laws.{breaks-lawful}
 use Rattle.charts.proofs.Listed.{Place, listed-first, listed-after, listed-place}

@@ -9,11 +9,11 @@ use Rattle.chart_rules.specs.Below.charts.declared.statement.FieldKind.{FieldKin
 use Rattle.chart_rules.specs.Below.charts.declared.statement.FieldKind.TheVariants as holds
 use Rattle.chart_rules.specs.Below.charts.declared.statement.Statement.{Statement}
 use Rattle.chart_rules.specs.Below.charts.declared.statement.Statement.TheVariants as says
-use Rattle.chart_rules.specs.Below.field_rules.Fields.{first_named}
-use Rattle.chart_rules.specs.Below.print_rules.Items.{detail_item, figure_item, figure_width, item_of, mark_width, text_item, total_item}
-use Rattle.chart_rules.specs.Below.print_rules.declared.items.Figure.{Figure}
-use Rattle.chart_rules.specs.Below.print_rules.declared.items.Item.{Item}
-use Rattle.chart_rules.specs.Below.print_rules.declared.items.PrintedLine.{PrintedLine}
+use Rattle.chart_rules.specs.Below.line_rules.FieldRules.Fields.{first_named}
+use Rattle.chart_rules.specs.Below.line_rules.PrintRules.Items.{detail_item, figure_item, figure_width, item_of, mark_width, text_item, total_item}
+use Rattle.chart_rules.specs.Below.line_rules.declared.print_rules.items.Figure.{Figure}
+use Rattle.chart_rules.specs.Below.line_rules.declared.print_rules.items.Item.{Item}
+use Rattle.chart_rules.specs.Below.line_rules.declared.print_rules.items.PrintedLine.{PrintedLine}
 use Rattle.report.proofs.EditLaws.{marked-length, point-length}
 use Rattle.report.specs.Edits.{free_digits, marked, point}
 use Rattle.sheets.specs.Layout.{drawn, drawn_figure}

@@ -3,8 +3,8 @@ use Rattle.std.specs.Prelude.{◌≡◌, ◌≤◌, ◌<◌, ◌+◌, ◌-◌, �
 use Rattle.chart_rules.specs.Below.charts.Chart.{Chart}
 use Rattle.chart_rules.specs.Below.charts.Literals.{literal_in}
 use Rattle.chart_rules.specs.Below.charts.declared.chart.Line.{Line}
-use Rattle.chart_rules.specs.Below.print_rules.declared.items.Item.{Item}
-use Rattle.chart_rules.specs.Below.print_rules.declared.items.PrintedLine.{PrintedLine}
+use Rattle.chart_rules.specs.Below.line_rules.declared.print_rules.items.Item.{Item}
+use Rattle.chart_rules.specs.Below.line_rules.declared.print_rules.items.PrintedLine.{PrintedLine}
 use Rattle.chart_rules.specs.Rules.{IsLawful}
 use Rattle.sheets.specs.Layout.{drawn, drawn_line, item_on}
 

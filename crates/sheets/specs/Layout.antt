@@ -16,12 +16,12 @@ use Rattle.chart_rules.specs.Below.charts.declared.statement.DetailOption.{Detai
 use Rattle.chart_rules.specs.Below.charts.declared.statement.DetailOption.TheVariants as shown
 use Rattle.chart_rules.specs.Below.charts.declared.statement.Statement.{Statement}
 use Rattle.chart_rules.specs.Below.charts.declared.statement.Statement.TheVariants as says
-use Rattle.chart_rules.specs.Below.field_rules.Fields.{fields_of}
-use Rattle.chart_rules.specs.Below.print_rules.Items.{is_same_line, item_of}
-use Rattle.chart_rules.specs.Below.print_rules.declared.items.Figure.{Figure}
-use Rattle.chart_rules.specs.Below.print_rules.declared.items.Item.{Item}
-use Rattle.chart_rules.specs.Below.print_rules.declared.items.PrintedLine.{PrintedLine}
-use Rattle.chart_rules.specs.Below.print_rules.declared.items.PrintedLine.TheVariants.{Heading, Body}
+use Rattle.chart_rules.specs.Below.line_rules.FieldRules.Fields.{fields_of}
+use Rattle.chart_rules.specs.Below.line_rules.PrintRules.Items.{is_same_line, item_of}
+use Rattle.chart_rules.specs.Below.line_rules.declared.print_rules.items.Figure.{Figure}
+use Rattle.chart_rules.specs.Below.line_rules.declared.print_rules.items.Item.{Item}
+use Rattle.chart_rules.specs.Below.line_rules.declared.print_rules.items.PrintedLine.{PrintedLine}
+use Rattle.chart_rules.specs.Below.line_rules.declared.print_rules.items.PrintedLine.TheVariants.{Heading, Body}
 use Rattle.report.specs.BodyLines.{Piece, line_of, piece_at}
 use Rattle.report.specs.Edits.{free_digits, marked, point}
 use Rattle.sheets.specs.Rulers.{wheel_ruler}

@@ -4,3 +4,4 @@ pub mod Fields
 pub mod Helper
 pub mod Laws
 pub mod Marks
+pub mod SheetCalls

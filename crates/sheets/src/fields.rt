@@ -4,7 +4,7 @@ ghost use Rattle.std.specs.Prelude.{◌≡◌, ◌++◌, ◌-◌, ◌<◌, ◌�
 ghost use Rattle.std.specs.Int.{is_negative};
 ghost use Rattle.chart_rules.specs.Below.charts.Field.{decimals_of, is_amount};
 ghost use Rattle.chart_rules.specs.HelperOnCard.{IsOnCard};
-ghost use Rattle.chart_rules.specs.Below.field_rules.Fields.{fields_of};
+ghost use Rattle.chart_rules.specs.Below.line_rules.FieldRules.Fields.{fields_of};
 ghost use Rattle.misfits.specs.HelperAmounts.{IsGoodAmount};
 ghost use Rattle.report.specs.BodyLines.{text_on};
 ghost use Rattle.report.specs.Edits.{figure, last_digits};

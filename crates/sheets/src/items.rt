@@ -7,8 +7,8 @@ ghost use Rattle.sheets.specs.Layout as layout;
 use crate::lines::item_on;
 use chart_rules::Chart;
 use charts::{DetailOption, Line, Name, Statement};
+use line_rules::print_rules::{Item, PrintedLine};
 use numerals::{write_between, write_number, write_numbered};
-use print_rules::{Item, PrintedLine};
 use std::io;
 use std::io::Write;
 

@@ -9,7 +9,7 @@ ghost use Rattle.sheets.specs.Layout as layout;
 use crate::runs::write_run;
 use chart_rules::Chart;
 use charts::{Mark, Statement};
-use print_rules::{Figure, Item, PrintedLine};
+use line_rules::print_rules::{Figure, Item, PrintedLine};
 use std::io;
 use std::io::Write;
 

@@ -2,7 +2,7 @@
 
 ghost use Rattle.std.specs.Prelude.{◌≡◌, ◌++◌, OnOk, map, take};
 ghost use Rattle.std.specs.List.{flat_map};
-ghost use Rattle.chart_rules.specs.Below.field_rules.Fields.{fields_of};
+ghost use Rattle.chart_rules.specs.Below.line_rules.FieldRules.Fields.{fields_of};
 ghost use Rattle.sheets.specs.Marks as marks;
 
 use crate::runs::write_run;

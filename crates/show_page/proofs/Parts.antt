@@ -11,17 +11,17 @@ use Rattle.explanations.specs.Pages.{AreFoundLines}
 use Rattle.explanations.specs.declared.found.FoundLine.{FoundLine}
 use Rattle.hubs.specs.declared.hub.Hub.{Hub}
 use Rattle.markup.specs.Pieces.{GainsEach}
-use Rattle.placed_lines.specs.declared.placed_line.PlacedLine.{PlacedLine}
+use Rattle.page_text.specs.declared.placed_lines.placed_line.PlacedLine.{PlacedLine}
 use Rattle.setups.specs.Wiring.{Wiring}
-use Rattle.shown_lines.specs.Shown.{AreShown}
+use Rattle.show_page.specs.ShownLines.Shown.{AreShown}
 use Rattle.page_sections.specs.WheelSections.Sections.{told_sections}
 use Rattle.page_sections.specs.WheelSections.Told.{AreTold, IsTold, printed_places}
 use Rattle.page_sections.specs.declared.wheel_sections.told.ToldWheel.{ToldWheel}
 use Rattle.page_sections.specs.WireSections.Helper.{GainsWireSections}
 use Rattle.page_links.specs.declared.shown.ShownRun.{ShownRun}
-use Rattle.panel_drawing.specs.Helper.{GainsDrawing}
-use Rattle.panel_drawing.specs.declared.drawing.PanelWire.{PanelWire}
-use Rattle.sum_places.specs.declared.places.SumPlace.{SumPlace}
+use Rattle.drawings.specs.PanelDrawing.Helper.{GainsDrawing}
+use Rattle.drawings.specs.declared.panel_drawing.drawing.PanelWire.{PanelWire}
+use Rattle.page_links.specs.declared.sum_places.places.SumPlace.{SumPlace}
 use Rattle.sum_sections.specs.Sections.{sum_sections_text}
 use Rattle.sum_sections.specs.Sums.{AreSums, IsExplained, place_of}
 use Rattle.sum_sections.specs.declared.sums.PageSum.{PageSum}

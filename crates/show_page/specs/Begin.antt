@@ -5,7 +5,7 @@ use Rattle.card_code.specs.Lines.{lines_of}
 use Rattle.page_links.specs.Links.{card_open}
 use Rattle.page_sections.specs.ReportSheets.Sheets.{link_text}
 use Rattle.page_sections.specs.declared.wheel_sections.told.ToldWheel.{ToldWheel}
-use Rattle.panel_drawing.specs.declared.drawing.PanelWire.{PanelWire}
+use Rattle.drawings.specs.declared.panel_drawing.drawing.PanelWire.{PanelWire}
 use Rattle.sum_sections.specs.Sections.{first_sum}
 use Rattle.sum_sections.specs.declared.sums.PageSum.{PageSum}
 use Rattle.traces.specs.declared.parts.TracePart.{TracePart}

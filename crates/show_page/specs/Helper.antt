@@ -5,13 +5,13 @@ use Rattle.charts.specs.declared.chart.Line.{Line}
 use Rattle.cycle_steps.specs.Steps.{AreStepSections, links_text}
 use Rattle.explanations.specs.declared.found.FoundLine.{FoundLine}
 use Rattle.page_links.specs.declared.shown.ShownRun.{ShownRun}
-use Rattle.panel_drawing.specs.Drawing.{IsDrawing}
+use Rattle.drawings.specs.PanelDrawing.Drawing.{IsDrawing}
 use Rattle.setups.specs.Wiring.{Wiring}
-use Rattle.panel_drawing.specs.declared.drawing.PanelWire.{PanelWire}
+use Rattle.drawings.specs.declared.panel_drawing.drawing.PanelWire.{PanelWire}
 use Rattle.page_sections.specs.WheelSections.Sections.{told_sections}
 use Rattle.page_sections.specs.declared.wheel_sections.told.ToldWheel.{ToldWheel}
 use Rattle.page_sections.specs.WireSections.Sections.{AreWireSections}
-use Rattle.sum_places.specs.declared.places.SumPlace.{SumPlace}
+use Rattle.page_links.specs.declared.sum_places.places.SumPlace.{SumPlace}
 use Rattle.sum_sections.specs.Sections.{sum_sections_text}
 use Rattle.sum_sections.specs.declared.sums.PageSum.{PageSum}
 use Rattle.traces.specs.declared.parts.TracePart.{TracePart}

@@ -8,3 +8,4 @@ pub mod Page
 pub mod ReadPanel
 pub mod Shown
 pub mod Titles
+pub mod ShownLines

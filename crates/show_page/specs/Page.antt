@@ -2,7 +2,7 @@
 -- what came through each wire, and the cycles of the run.
 use Rattle.std.specs.Prelude.{◌≡◌, ℕ, List, [], ◌∷◌, ◌++◌, decimal, Option, None, Some, String, if◌then◌else◌, length, map, nat_le}
 use Rattle.std.specs.declared.alloc.Global.{Global}
-use Rattle.card_drawing.specs.Drawings.{shapes_text}
+use Rattle.drawings.specs.CardDrawing.Drawings.{shapes_text}
 use Rattle.card_sections.specs.Decks.{deck_text}
 use Rattle.card_sections.specs.Sections.{sections_text}
 use Rattle.charts.specs.declared.chart.Line.{Line}
@@ -18,14 +18,14 @@ use Rattle.markup.specs.Escapes.{escaped}
 use Rattle.markup.specs.Pieces.{EachText}
 use Rattle.page_links.specs.declared.shown.Shown.{Shown}
 use Rattle.page_links.specs.declared.shown.ShownRun.{ShownRun}
-use Rattle.panel_drawing.specs.Drawing.{IsDrawing}
-use Rattle.panel_drawing.specs.declared.drawing.PanelWire.{PanelWire}
-use Rattle.placed_lines.specs.declared.placed_line.PlacedLine.{PlacedLine}
+use Rattle.drawings.specs.PanelDrawing.Drawing.{IsDrawing}
+use Rattle.drawings.specs.declared.panel_drawing.drawing.PanelWire.{PanelWire}
+use Rattle.page_text.specs.declared.placed_lines.placed_line.PlacedLine.{PlacedLine}
 use Rattle.plans.specs.Plans.{Lists}
 use Rattle.page_sections.specs.ReportSheets.Sheets.{sheets_text, widest}
 use Rattle.setups.specs.Wires.{AreWiresOf}
 use Rattle.setups.specs.Wiring.{Wiring}
-use Rattle.shown_lines.specs.Shown.{shown}
+use Rattle.show_page.specs.ShownLines.Shown.{shown}
 use Rattle.sum_sections.specs.Sections.{sum_sections_text}
 use Rattle.sum_sections.specs.Sums.{AreSums, place_of}
 use Rattle.sum_sections.specs.declared.sums.PageSum.{PageSum}

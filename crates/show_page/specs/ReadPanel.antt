@@ -7,7 +7,7 @@ use Rattle.markup.specs.Escapes.{escaped}
 use Rattle.markup.specs.Pieces.{EachText}
 use Rattle.page_sections.specs.ChartPanels.Asking.{AreChartWires}
 use Rattle.page_sections.specs.ChartPanels.Legends.{IsLegendSection}
-use Rattle.panel_drawing.specs.declared.drawing.PanelWire.{PanelWire}
+use Rattle.drawings.specs.declared.panel_drawing.drawing.PanelWire.{PanelWire}
 use Rattle.plans.specs.Plans.{Lists}
 use Rattle.setups.specs.Wiring.{Wiring}
 use Rattle.wheel_ledgers.specs.Totals.{totals_in}

@@ -2,14 +2,14 @@
 
 ghost use Rattle.std.specs.Prelude.{◌≡◌, ◌≤◌, ◌<◌, ◌^◌, IfOk, length};
 ghost use Rattle.card_code.specs.MostCards.{most_cards};
-ghost use Rattle.shown_lines.specs.Shown.{AreShown};
+ghost use Rattle.show_page.specs.ShownLines.Shown.{AreShown};
 ghost use Rattle.traces.specs.Parts.{IsTracePart};
 ghost use Rattle.show_page.specs.Choice.{cycles_of_lines, cycles_shown, first_shown, last_card, pages_around, pages_shown};
 
+use crate::shown_lines::{ShownLines, all_lines, lines_on_pages};
 use card_code::Card;
 use explanations::FoundLine;
 use setups::Setup;
-use shown_lines::{ShownLines, all_lines, lines_on_pages};
 use std::alloc::{AllocError, Global};
 use traces::{CycleChoice, TracePart, trace_part};
 

@@ -10,8 +10,8 @@ use crate::marks::write_marks;
 use charts::{Line, Statement};
 use markup::push_escaped;
 use numerals::push_number;
+use page_text::placed_lines::PlacedLine;
 use page_text::without_trailing_blanks;
-use placed_lines::PlacedLine;
 use std::alloc::AllocError;
 
 // How much a run has of what is counted at the head of its page.

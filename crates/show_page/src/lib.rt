@@ -6,6 +6,8 @@
 //! for each printed character an element with its explanation, to which the character links, for each wire and each of their hubs an element
 //! with what came through it, and an element for each cycle of the run; of a long deck for some pages and cycles.
 //! `specs/Page.antt` says what is written.
+//!
+//! - `shown_lines`: the lines of a run that are shown, each with the cycle that placed it
 #![tactic(auto)]
 
 mod begin;
@@ -18,6 +20,7 @@ mod page;
 mod read_panel;
 mod show;
 mod shown;
+pub mod shown_lines;
 
 pub use read_panel::show_read;
 pub use show::{show_chart, show_panel};

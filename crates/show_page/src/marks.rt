@@ -8,7 +8,7 @@ ghost use Rattle.show_page.specs.Marks.{row_rule, wheel_rule};
 
 use numerals::{push_between, push_number};
 use page_sections::report_sheets::{widest, write_row_name};
-use placed_lines::PlacedLine;
+use page_text::placed_lines::PlacedLine;
 use std::alloc::AllocError;
 
 #[tactic(auto, unfolding(crate::specs::Marks::row_rule))]

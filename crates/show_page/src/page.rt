@@ -10,14 +10,14 @@ use crate::frame::{
     write_sheets_open,
 };
 use card_code::Card;
-use card_drawing::write_shapes;
 use card_sections::write_deck;
 use charts::Line;
+use drawings::card_drawing::write_shapes;
 use explanations::FoundLine;
 use numerals::push_number;
 use page_links::Shown;
 use page_sections::report_sheets::{widest, write_sheets};
-use placed_lines::PlacedLine;
+use page_text::placed_lines::PlacedLine;
 use std::alloc::{AllocError, Global};
 
 // What is said where not all pages are shown.

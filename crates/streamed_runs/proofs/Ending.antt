@@ -11,12 +11,12 @@ use Rattle.page_writer.specs.Open.{Open}
 use Rattle.page_writer.specs.Outgoing.{Breaks, Outgoing, TakesUp}
 use Rattle.page_writer.specs.Writing.{Writing}
 use Rattle.page_writer.proofs.Opens.{pages_end}
-use Rattle.placed_lines.specs.declared.placed_line.PlacedLine.{PlacedLine}
+use Rattle.page_text.specs.declared.placed_lines.placed_line.PlacedLine.{PlacedLine}
 use Rattle.report.specs.ChartForm.{form_of}
 use Rattle.report.specs.Report.{Report}
 use Rattle.streamed_runs.proofs.Standing.{run_in_order}
 use Rattle.streamed_runs.proofs.Written.{all_written, begins_shorter, taken_broken, taken_more}
-use Rattle.decks.specs.Stands.{report_before}
+use Rattle.report.specs.FollowedDecks.Stands.{report_before}
 use Rattle.streamed_runs.specs.Causes.{HasCause, cards_written, stops_between_cards}
 use Rattle.streamed_runs.specs.FirstCauses.{HaveFitSoFar, IsFirstCause}
 use Rattle.streamed_runs.specs.HelperStanding.{Ends, HasTaken, PutsOut, Serves, StandBeforeLast, Start, Stops, broken, whole}

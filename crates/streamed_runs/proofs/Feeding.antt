@@ -7,8 +7,8 @@ use Rattle.machine.specs.Runs.{MachineLines}
 use Rattle.machine.proofs.FeedsInRuns.{feeds-in-run}
 use Rattle.machine.proofs.Order.{MachineLines-in_order}
 use Rattle.machine.proofs.SomeOutcome.{LinesFrom-some}
-use Rattle.placed_lines.specs.InOrder.{FollowInOrder, IsInOrder}
-use Rattle.placed_lines.specs.declared.placed_line.PlacedLine.{PlacedLine}
+use Rattle.page_text.specs.PlacedLines.InOrder.{FollowInOrder, IsInOrder}
+use Rattle.page_text.specs.declared.placed_lines.placed_line.PlacedLine.{PlacedLine}
 use Rattle.setups.specs.Tapes.{IsCarriageTape}
 use Rattle.setups.specs.Wiring.{Wiring}
 use Rattle.streamed_runs.specs.Laws.{FeedsPlaceInOrder}

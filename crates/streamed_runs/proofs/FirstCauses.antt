@@ -8,8 +8,8 @@ use Rattle.card_code.specs.Deck.{Deck, IsCardOf}
 use Rattle.card_code.specs.Lines.{lines_of}
 use Rattle.card_code.specs.MostCards.{most_cards}
 use Rattle.charts.specs.Chart.{Chart}
-use Rattle.decks.proofs.FitSoFar.{first_told}
-use Rattle.decks.specs.FitSoFar.{misfits_of_last}
+use Rattle.report.proofs.FollowedDecks.FitSoFar.{first_told}
+use Rattle.report.specs.FollowedDecks.FitSoFar.{misfits_of_last}
 use Rattle.misfits.specs.Told.{told}
 use Rattle.misfits.specs.declared.misfit.Misfit.{Misfit as Found}
 use Rattle.report.specs.Misfits.{first_of, misfits}

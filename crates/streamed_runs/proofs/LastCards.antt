@@ -2,9 +2,9 @@
 use Rattle.std.proofs.Common.{◌≡◌, ◌∙◌, sym, ap, subst, ℕ, ◌+◌, List, [], ◌∷◌, ◌++◌, Option, Some, None, is_some}
 use Rattle.std.proofs.lemmas.Bool.{false≢true}
 use Rattle.charts.specs.declared.chart.Line.{Line}
-use Rattle.decks.specs.FitSoFar.{groups_before}
-use Rattle.decks.specs.Stands.{last_of}
-use Rattle.decks.proofs.FitSoFar.{last-more}
+use Rattle.report.specs.FollowedDecks.FitSoFar.{groups_before}
+use Rattle.report.specs.FollowedDecks.Stands.{last_of}
+use Rattle.report.proofs.FollowedDecks.FitSoFar.{last-more}
 use Rattle.misfits.specs.OpenSums.{AreSumsOf, Sums}
 use Rattle.misfits.proofs.Following.{sums_go_on}
 use Rattle.report.specs.Breaks.{cleared, ended_after, taking}

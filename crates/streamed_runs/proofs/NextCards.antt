@@ -14,7 +14,7 @@ use Rattle.card_lines.specs.declared.fault.ReadFault.TheVariants as read
 use Rattle.charts.specs.Chart.{Chart}
 use Rattle.chart_rules.specs.ValidCard.{IsFirstInvalid}
 use Rattle.chart_rules.specs.declared.card.CardFault.{CardFault}
-use Rattle.field_rules.specs.Fields.{fields_of}
+use Rattle.line_rules.specs.FieldRules.Fields.{fields_of}
 use Rattle.streamed_runs.specs.Causes.{IsInvalidNext}
 use Rattle.streamed_runs.specs.HelperStanding.{HasToCome, ReadsOn}
 use Rattle.streamed_runs.specs.Reading.{HasRead, HasReadUpTo}

@@ -7,10 +7,10 @@ use Rattle.card_code.specs.MostCards.{most_cards}
 use Rattle.charts.specs.Chart.{Chart}
 use Rattle.charts.specs.declared.chart.Line.{Line}
 use Rattle.chart_rules.specs.ValidCard.{IsValidCard}
-use Rattle.decks.specs.FitSoFar.{misfits_of_last}
-use Rattle.decks.specs.Stands.{report_before}
-use Rattle.decks.proofs.Begins.{reports_begin}
-use Rattle.decks.proofs.FitSoFar.{fits_before}
+use Rattle.report.specs.FollowedDecks.FitSoFar.{misfits_of_last}
+use Rattle.report.specs.FollowedDecks.Stands.{report_before}
+use Rattle.report.proofs.FollowedDecks.Begins.{reports_begin}
+use Rattle.report.proofs.FollowedDecks.FitSoFar.{fits_before}
 use Rattle.machine.specs.Feeds.{FedLines, Feeds}
 use Rattle.machine.specs.Machine.{MachineState, machine_at_start}
 use Rattle.machine.specs.Runs.{MachineLines}
@@ -21,8 +21,8 @@ use Rattle.misfits.specs.declared.misfit.Misfit.{Misfit as Found}
 use Rattle.page_text.specs.Pages.{Pages}
 use Rattle.page_writer.specs.Open.{Open}
 use Rattle.page_writer.proofs.Opens.{pages_begin}
-use Rattle.placed_lines.specs.InOrder.{IsInOrder}
-use Rattle.placed_lines.specs.declared.placed_line.PlacedLine.{PlacedLine}
+use Rattle.page_text.specs.PlacedLines.InOrder.{IsInOrder}
+use Rattle.page_text.specs.declared.placed_lines.placed_line.PlacedLine.{PlacedLine}
 use Rattle.streamed_runs.specs.PrintPromises.Promises.{IsDeck}
 use Rattle.report.specs.ChartForm.{form_of}
 use Rattle.report.specs.Misfits.{Misfit, first_of}

@@ -12,9 +12,9 @@ use Rattle.card_lines.specs.declared.fault.ReadFault.TheVariants as read
 use Rattle.charts.specs.Chart.{Chart}
 use Rattle.charts.specs.declared.chart.Line.{Line}
 use Rattle.chart_rules.specs.ValidCard.{IsValidCard}
-use Rattle.decks.specs.FitSoFar.{misfits_of_last}
-use Rattle.decks.specs.Stands.{report_before}
-use Rattle.decks.proofs.FitSoFar.{first_told, fits_go_on}
+use Rattle.report.specs.FollowedDecks.FitSoFar.{misfits_of_last}
+use Rattle.report.specs.FollowedDecks.Stands.{report_before}
+use Rattle.report.proofs.FollowedDecks.FitSoFar.{first_told, fits_go_on}
 use Rattle.machine.specs.Feeds.{Feeds}
 use Rattle.machine.specs.Gains.{GainsFeed}
 use Rattle.machine.specs.Machine.{MachineState, machine_at_start}
@@ -27,8 +27,8 @@ use Rattle.page_writer.specs.Added.{added_all, line_after, page_after}
 use Rattle.page_writer.specs.Open.{Open}
 use Rattle.page_writer.specs.Outgoing.{Breaks, TakesUp}
 use Rattle.page_writer.specs.Writing.{Writing}
-use Rattle.placed_lines.specs.InOrder.{FollowInOrder, IsInOrder}
-use Rattle.placed_lines.specs.declared.placed_line.PlacedLine.{PlacedLine}
+use Rattle.page_text.specs.PlacedLines.InOrder.{FollowInOrder, IsInOrder}
+use Rattle.page_text.specs.declared.placed_lines.placed_line.PlacedLine.{PlacedLine}
 use Rattle.streamed_runs.specs.PrintPromises.Promises.{IsDeck}
 use Rattle.report.specs.Breaks.{no_cards}
 use Rattle.report.specs.ChartForm.{form_of}

@@ -2,7 +2,7 @@
 use Rattle.std.proofs.Common.{[], ◌∷◌, length-append, arith}
 use Rattle.std.proofs.lemmas.List.Elements.{All-append, All-cons, All-nil}
 use Rattle.chart_rules.specs.ValidCard.{IsValidCard}
-use Rattle.decks.proofs.FitSoFar.{fits_end, fits_go_on}
+use Rattle.report.proofs.FollowedDecks.FitSoFar.{fits_end, fits_go_on}
 use Rattle.machine.specs.Machine.{machine_at_start}
 use Rattle.machine.proofs.FeedsInRuns.{feeds-in-run}
 use Rattle.charts.specs.Levels.{level_number}

@@ -11,8 +11,8 @@ use Rattle.page_writer.specs.Outgoing.{Breaks, Outgoing, TakesUp}
 use Rattle.page_writer.specs.Writing.{Writing}
 use Rattle.page_writer.proofs.Opens.{open_grows_by_all, order_goes_on}
 use Rattle.page_writer.proofs.Texts.{line_after-append, page_after-append}
-use Rattle.placed_lines.specs.InOrder.{FollowInOrder, IsInOrder}
-use Rattle.placed_lines.specs.declared.placed_line.PlacedLine.{PlacedLine}
+use Rattle.page_text.specs.PlacedLines.InOrder.{FollowInOrder, IsInOrder}
+use Rattle.page_text.specs.declared.placed_lines.placed_line.PlacedLine.{PlacedLine}
 use Rattle.streamed_runs.specs.HelperStanding.{HasTaken, TakesLines}
 
 -- bytes begin with the first of those that they begin with

@@ -3,7 +3,7 @@ use Rattle.std.specs.Prelude.{◌≡◌, ℕ, ◌+◌, ◌-◌, Bool, true, fals
 use Rattle.card_lines.specs.Faults.{HasFaultNext, read_fault_number}
 use Rattle.card_lines.specs.declared.fault.ReadFault.{ReadFault}
 use Rattle.charts.specs.Chart.{Chart}
-use Rattle.field_rules.specs.Fields.{fields_of}
+use Rattle.line_rules.specs.FieldRules.Fields.{fields_of}
 use Rattle.chart_rules.specs.ValidCard.{IsFirstInvalid, fault_number}
 use Rattle.chart_rules.specs.declared.card.CardFault.{CardFault}
 use Rattle.report.specs.Misfits.{first_of, misfits}

@@ -3,7 +3,7 @@ use Rattle.std.specs.Prelude.{◌≡◌, ℕ, ⊤, List, [], ◌∷◌, ◌++◌
 use Rattle.card_code.specs.Deck.{Deck}
 use Rattle.charts.specs.Chart.{Chart}
 use Rattle.charts.specs.declared.chart.Line.{Line}
-use Rattle.decks.specs.FitSoFar.{FitSoFar, misfits_of_last}
+use Rattle.report.specs.FollowedDecks.FitSoFar.{FitSoFar, misfits_of_last}
 use Rattle.misfits.specs.Told.{told}
 use Rattle.misfits.specs.declared.misfit.Misfit.{Misfit as Found}
 use Rattle.report.specs.Misfits.{first_of}

@@ -7,8 +7,8 @@ use Rattle.card_lines.specs.Reading.{Reading, still_to_come}
 use Rattle.chart_rules.specs.Rules.{IsLawful}
 use Rattle.charts.specs.Chart.{Chart}
 use Rattle.charts.specs.declared.chart.Line.{Line}
-use Rattle.decks.specs.FitSoFar.{groups_before}
-use Rattle.decks.specs.Stands.{last_of, report_before}
+use Rattle.report.specs.FollowedDecks.FitSoFar.{groups_before}
+use Rattle.report.specs.FollowedDecks.Stands.{last_of, report_before}
 use Rattle.machine.specs.Machine.{MachineState, machine_at_start}
 use Rattle.machine.specs.Runs.{MachineLines}
 use Rattle.misfits.specs.OpenSums.{AreSumsOf, Sums}
@@ -17,7 +17,7 @@ use Rattle.page_writer.specs.Added.{line_after, page_after}
 use Rattle.page_writer.specs.Open.{Open}
 use Rattle.page_writer.specs.Outgoing.{Breaks, Outgoing, TakesUp}
 use Rattle.page_writer.specs.Writing.{Writing}
-use Rattle.placed_lines.specs.declared.placed_line.PlacedLine.{PlacedLine}
+use Rattle.page_text.specs.declared.placed_lines.placed_line.PlacedLine.{PlacedLine}
 use Rattle.streamed_runs.specs.PrintPromises.Promises.{BeginsReport, IsDeck, PrintsReport}
 use Rattle.report.specs.Breaks.{no_cards}
 use Rattle.report.specs.ChartForm.{form_of}

@@ -4,12 +4,12 @@ use Rattle.card_code.specs.Deck.{Deck}
 use Rattle.card_code.specs.MostCards.{most_cards}
 use Rattle.chart_rules.specs.ValidCard.{IsValidCard}
 use Rattle.charts.specs.Chart.{Chart}
-use Rattle.decks.specs.FitSoFar.{misfits_of_last}
+use Rattle.report.specs.FollowedDecks.FitSoFar.{misfits_of_last}
 use Rattle.machine.specs.Feeds.{FedLines, Feeds}
 use Rattle.machine.specs.Machine.{MachineState, machine_at_start}
 use Rattle.machine.specs.Runs.{MachineLines}
-use Rattle.placed_lines.specs.InOrder.{IsInOrder}
-use Rattle.placed_lines.specs.declared.placed_line.PlacedLine.{PlacedLine}
+use Rattle.page_text.specs.PlacedLines.InOrder.{IsInOrder}
+use Rattle.page_text.specs.declared.placed_lines.placed_line.PlacedLine.{PlacedLine}
 use Rattle.misfits.specs.Told.{told}
 use Rattle.misfits.specs.declared.misfit.Misfit.{Misfit as Found}
 use Rattle.report.specs.Misfits.{first_of, misfits}

@@ -4,7 +4,7 @@ use Rattle.std.specs.Io.{StartsWith}
 use Rattle.std.specs.Io.KnownBytes.{Appends, IsAtEnd}
 use Rattle.card_code.specs.Deck.{Deck}
 use Rattle.charts.specs.Chart.{Chart}
-use Rattle.decks.specs.Stands.{report_before}
+use Rattle.report.specs.FollowedDecks.Stands.{report_before}
 use Rattle.page_writer.specs.Open.{Open}
 use Rattle.streamed_runs.specs.PrintPromises.Promises.{IsDeck}
 use Rattle.report.specs.ChartForm.{form_of}

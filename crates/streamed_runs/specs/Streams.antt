@@ -3,10 +3,10 @@ use Rattle.std.specs.Prelude.{ℕ, ◌≤◌, List, ◌∷◌, length, All}
 use Rattle.card_code.specs.MostCards.{most_cards}
 use Rattle.chart_rules.specs.ValidCard.{IsValidCard}
 use Rattle.charts.specs.Chart.{Chart}
-use Rattle.decks.specs.FitSoFar.{FitSoFar}
+use Rattle.report.specs.FollowedDecks.FitSoFar.{FitSoFar}
 use Rattle.machine.specs.Feeds.{FedLines}
 use Rattle.machine.specs.Machine.{MachineState, machine_at_start}
-use Rattle.placed_lines.specs.declared.placed_line.PlacedLine.{PlacedLine}
+use Rattle.page_text.specs.declared.placed_lines.placed_line.PlacedLine.{PlacedLine}
 use Rattle.setups.specs.Wiring.{Wiring}
 
 -- Between two cards: a card and those after it are valid and not too many, no group that ended before the last of them has a misfit, and the

@@ -5,7 +5,7 @@ ghost use Rattle.std.specs.Io.KnownBytes.{IsAtEnd};
 ghost use Rattle.card_code.specs.MostCards.{most_cards};
 ghost use Rattle.card_lines.specs.declared.fault.ReadFault.TheVariants as read;
 ghost use Rattle.chart_rules.specs.ValidCard.{IsValidCard};
-ghost use Rattle.decks.specs.FitSoFar.{misfits_of_last};
+ghost use Rattle.report.specs.FollowedDecks.FitSoFar.{misfits_of_last};
 ghost use Rattle.machine.specs.Gains.{GainsFeed};
 ghost use Rattle.machine.specs.Running.{IsStarted};
 ghost use Rattle.misfits.specs.OpenSums.{AreSumsOf};
@@ -24,8 +24,8 @@ use chart_rules::{Chart, valid_card};
 use devices::{Sink, Source};
 use machine::Machine;
 use misfits::{Misfit, OpenSums};
+use page_text::placed_lines::PlacedLine;
 use page_writer::PageWriter;
-use placed_lines::PlacedLine;
 use setups::Setup;
 use std::alloc::Global;
 

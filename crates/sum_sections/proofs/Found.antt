@@ -6,7 +6,7 @@ use Rattle.explanations.specs.PlacedInRun.{PlacedLinesArePrinted, PrintsNoneAt}
 use Rattle.explanations.specs.declared.explanation.Explanation.{Explanation}
 use Rattle.machine.specs.Kept.{IsElsewhere}
 use Rattle.machine.proofs.OneOutcome.{MachineLines-one}
-use Rattle.placed_lines.specs.declared.placed_line.PlacedLine.{PlacedLine}
+use Rattle.page_text.specs.declared.placed_lines.placed_line.PlacedLine.{PlacedLine}
 use Rattle.setups.specs.Wiring.{Wiring}
 use Rattle.sum_sections.specs.Sums.{IsExplained}
 

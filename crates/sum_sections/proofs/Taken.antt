@@ -5,8 +5,8 @@ use Rattle.std.proofs.lemmas.List.{map-append, take_more}
 use Rattle.page_sections.specs.declared.wheel_sections.told.ToldWheel.{ToldWheel}
 use Rattle.setups.specs.Wiring.{Wiring}
 use Rattle.explanations.specs.declared.explanation.Explanation.{Explanation}
-use Rattle.sum_places.specs.Places.{has_sum, sum_at}
-use Rattle.sum_places.specs.declared.places.SumPlace.{SumPlace}
+use Rattle.page_links.specs.SumPlaces.Places.{has_sum, sum_at}
+use Rattle.page_links.specs.declared.sum_places.places.SumPlace.{SumPlace}
 use Rattle.wheel_ledgers.specs.declared.chart_totals.TitledAccount.{TitledAccount}
 use Rattle.sum_sections.specs.Sums.{AreSums, TakesSum, place_of}
 use Rattle.sum_sections.specs.Sums.AreSums.{begun, more}

@@ -1,7 +1,7 @@
 -- The two cards between which a total was printed: the card after which its cycle ran, and the next one, one below the other. Each that is
 -- shown is a picture, with the names of the fields above it, and links to its element.
 use Rattle.std.specs.Prelude.{ℕ, ◌+◌, List, [], ◌++◌, codes, if◌then◌else◌}
-use Rattle.card_drawing.specs.Drawings.{shown_card}
+use Rattle.drawings.specs.CardDrawing.Drawings.{shown_card}
 use Rattle.page_links.specs.Links.{card_name, card_open, is_shown}
 use Rattle.page_links.specs.declared.shown.Shown.{Shown}
 

@@ -4,7 +4,7 @@ use Rattle.std.specs.List.{flat_map}
 use Rattle.ledgers.specs.declared.entry.Entry.{Entry}
 use Rattle.net.specs.declared.cycle.Cycle.{Cycle}
 use Rattle.net.specs.declared.cycle.Cycle.TheVariants as in_cycle
-use Rattle.sum_places.specs.Places.{sum_open}
+use Rattle.page_links.specs.SumPlaces.Places.{sum_open}
 use Rattle.sum_sections.specs.Labels.{label_text}
 use Rattle.sum_sections.specs.Targets.{same_amount}
 use Rattle.sum_sections.specs.declared.sums.PageSum.{PageSum}

@@ -2,7 +2,7 @@
 use Rattle.std.specs.Prelude.{ℕ, ◌&&◌, List, [], ◌++◌, Option, Some, None, codes, decimal, if◌then◌else◌, nat_le}
 use Rattle.charts.specs.Name.{name_text}
 use Rattle.hubs.specs.declared.hub.Group.{Group}
-use Rattle.ledger_text.specs.Figures.{figure_at}
+use Rattle.ledgers.specs.LedgerText.Figures.{figure_at}
 use Rattle.markup.specs.Escapes.{escaped}
 use Rattle.wheel_ledgers.specs.declared.chart_totals.TitledAccount.{TitledAccount}
 use Rattle.sum_sections.specs.declared.sums.PageSum.{PageSum}

@@ -2,9 +2,9 @@
 -- after.
 use Rattle.std.specs.Prelude.{ℕ, ◌==◌, List, [], ◌∷◌, ◌++◌, Option, Some, None, codes, if◌then◌else◌}
 use Rattle.std.specs.List.{flat_map}
-use Rattle.ledger_text.specs.Amounts.{amount_text}
-use Rattle.ledger_text.specs.Entries.{Words, gap_line, source_text, sum_text}
-use Rattle.ledger_text.specs.Names.{cycle_text}
+use Rattle.ledgers.specs.LedgerText.Amounts.{amount_text}
+use Rattle.ledgers.specs.LedgerText.Entries.{Words, gap_line, source_text, sum_text}
+use Rattle.ledgers.specs.LedgerText.Names.{cycle_text}
 use Rattle.ledgers.specs.declared.entry.Change.{Change}
 use Rattle.ledgers.specs.declared.entry.Change.TheVariants.{Plus, Minus}
 use Rattle.ledgers.specs.declared.entry.Entry.{Entry}

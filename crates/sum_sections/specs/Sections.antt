@@ -1,11 +1,11 @@
 -- The elements of sums: what each is called, its counter, its rows, into which sums it went, and why it was printed then.
 use Rattle.std.specs.Prelude.{ℕ, List, [], ◌∷◌, ◌++◌, codes}
 use Rattle.std.specs.List.{flat_map}
-use Rattle.ledger_text.specs.Names.{cycle_text}
+use Rattle.ledgers.specs.LedgerText.Names.{cycle_text}
 use Rattle.markup.specs.Escapes.{escaped}
 use Rattle.page_links.specs.declared.shown.Shown.{Shown}
 use Rattle.page_sections.specs.ReportSheets.Sheets.{row_name}
-use Rattle.sum_places.specs.Places.{sum_name, sum_open}
+use Rattle.page_links.specs.SumPlaces.Places.{sum_name, sum_open}
 use Rattle.sum_sections.specs.Between.{cards_between}
 use Rattle.sum_sections.specs.Into.{higher_sums}
 use Rattle.sum_sections.specs.Labels.{label_text}

@@ -3,14 +3,14 @@
 use Rattle.std.specs.Prelude.{◌≡◌, ℕ, List, [], ◌∷◌, ◌++◌, Option, Some, None, false, map, true}
 use Rattle.explanations.specs.Explanations.{IsExplanation}
 use Rattle.explanations.specs.declared.explanation.Explanation.{Explanation}
-use Rattle.ledger_text.specs.Names.{account_text}
+use Rattle.ledgers.specs.LedgerText.Names.{account_text}
 use Rattle.ledgers.specs.Accounts.{positions_of}
 use Rattle.ledgers.specs.Running.{IsKeptLedger, PlacesLine}
 use Rattle.origins.specs.Levels.{called_by}
 use Rattle.page_sections.specs.declared.wheel_sections.told.ToldWheel.{ToldWheel}
 use Rattle.setups.specs.Wiring.{Wiring}
-use Rattle.sum_places.specs.Places.{account_at, has_sum, sum_at}
-use Rattle.sum_places.specs.declared.places.SumPlace.{SumPlace}
+use Rattle.page_links.specs.SumPlaces.Places.{account_at, has_sum, sum_at}
+use Rattle.page_links.specs.declared.sum_places.places.SumPlace.{SumPlace}
 use Rattle.wheel_ledgers.specs.Printed.{place_printed}
 use Rattle.wheel_ledgers.specs.Totals.{find_total}
 use Rattle.wheel_ledgers.specs.declared.chart_totals.TitledAccount.{TitledAccount}

@@ -7,7 +7,7 @@ use Rattle.net.specs.declared.cycle.Cycle.{Cycle}
 use Rattle.net.specs.declared.cycle.Cycle.TheVariants as in_cycle
 use Rattle.page_links.specs.Links.{card_open, is_shown}
 use Rattle.page_links.specs.declared.shown.Shown.{Shown}
-use Rattle.sum_places.specs.Places.{sum_open}
+use Rattle.page_links.specs.SumPlaces.Places.{sum_open}
 use Rattle.wheel_ledgers.specs.declared.chart_totals.TitledAccount.{TitledAccount}
 use Rattle.sum_sections.specs.declared.sums.PageSum.{PageSum}
 use Rattle.sum_sections.specs.declared.targets.Target.{Target}

@@ -4,7 +4,7 @@ ghost use Rattle.std.specs.Prelude.{◌≡◌, ◌<◌, ◌+◌, ◌^◌, ◌++�
 ghost use Rattle.std.specs.String.{string_bytes};
 ghost use Rattle.sum_sections.specs.Between.{card_at, card_front, card_picture, cards_between, picture_open};
 
-use card_drawing::write_shown_card;
+use drawings::card_drawing::write_shown_card;
 use page_links::{Shown, write_card_name, write_card_open};
 use std::alloc::AllocError;
 

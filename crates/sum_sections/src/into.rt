@@ -10,8 +10,8 @@ use crate::sums::PageSum;
 use crate::targets::same_amount;
 use ledgers::Entry;
 use net::Cycle;
+use page_links::sum_places::write_sum_open;
 use std::alloc::AllocError;
-use sum_places::write_sum_open;
 
 // Whether one of some entries is that of the cycle behind so many others.
 fn has_entry(entries: &[Entry], passed: u64) -> bool

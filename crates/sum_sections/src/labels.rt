@@ -6,7 +6,7 @@ ghost use Rattle.sum_sections.specs.Labels.{figure_of, group_name, label_text, s
 
 use crate::sums::PageSum;
 use hubs::Group;
-use ledger_text::figure_at;
+use ledgers::ledger_text::figure_at;
 use markup::push_escaped;
 use numerals::push_numbered;
 use std::alloc::AllocError;

@@ -3,13 +3,13 @@
 ghost use Rattle.std.specs.Prelude.{◌≡◌, ◌++◌, codes, IfOk, OnOk};
 ghost use Rattle.std.specs.List.{flat_map};
 ghost use Rattle.std.specs.String.{string_bytes};
-ghost use Rattle.ledger_text.specs.Entries.{gap_line, sum_text};
+ghost use Rattle.ledgers.specs.LedgerText.Entries.{gap_line, sum_text};
 ghost use Rattle.wheel_ledgers.specs.Told.{words_told};
 ghost use Rattle.sum_sections.specs.Rows.{amount_cell, amount_of, from_cell, from_text, gap_row, gap_rows, row_text, sum_cell, table_front, table_text};
 
 use crate::sums::PageSum;
 use crate::targets::{target_of, write_target_close, write_target_open};
-use ledger_text::{write_amount, write_cycle, write_gap, write_source, write_sum};
+use ledgers::ledger_text::{write_amount, write_cycle, write_gap, write_source, write_sum};
 use ledgers::{Change, Entry, LeftOut};
 use markup::push_escaped;
 use page_links::Shown;

@@ -3,7 +3,7 @@
 ghost use Rattle.std.specs.Prelude.{◌≡◌, ◌++◌, codes, IfOk, OnOk};
 ghost use Rattle.std.specs.List.{flat_map};
 ghost use Rattle.std.specs.String.{string_bytes};
-ghost use Rattle.ledger_text.specs.Names.{cycle_text};
+ghost use Rattle.ledgers.specs.LedgerText.Names.{cycle_text};
 ghost use Rattle.sum_sections.specs.Sections.{back_text, before_text, behind_text, first_sum, front_text, head_text, open_text, section_text, sum_sections_text, sum_entry, sum_words, why_some, why_text, why_words};
 
 use crate::between::write_cards_between;
@@ -11,13 +11,13 @@ use crate::into::write_higher_sums;
 use crate::labels::write_label;
 use crate::rows::write_table;
 use crate::sums::PageSum;
-use ledger_text::write_cycle;
 use ledgers::FoundCycle;
+use ledgers::ledger_text::write_cycle;
 use markup::push_escaped;
 use page_links::Shown;
+use page_links::sum_places::{write_sum_name, write_sum_open};
 use page_sections::report_sheets::write_row_name;
 use std::alloc::{AllocError, Global};
-use sum_places::{write_sum_name, write_sum_open};
 
 #[tactic(auto, unfolding(crate::specs::Sections::open_text))]
 // The front of an element, with its name.

@@ -2,24 +2,24 @@
 
 ghost use Rattle.std.specs.Prelude.{◌≡◌, ◌≤◌, ◌<◌, ◌+◌, All, IfOk, OnOk, length, map};
 ghost use Rattle.card_code.specs.MostCards.{most_cards};
-ghost use Rattle.ledger_text.specs.Names.{account_text};
+ghost use Rattle.ledgers.specs.LedgerText.Names.{account_text};
 ghost use Rattle.ledgers.specs.Accounts.{IsAccount};
 ghost use Rattle.ledgers.specs.Running.{PlacesLine};
 ghost use Rattle.origins.specs.Levels.{called_by};
-ghost use Rattle.sum_places.specs.Places.{has_sum};
+ghost use Rattle.page_links.specs.SumPlaces.Places.{has_sum};
 ghost use Rattle.wheel_ledgers.specs.Totals.{AreAccounts};
 ghost use Rattle.sum_sections.specs.Sums.{AreSums, IsExplained, IsSumOf, TakesSum, place_of};
 
 use card_code::Card;
 use explanations::Explanation;
 use explanations::laws::placed_lines_are_printed;
-use ledger_text::{positions_of, write_account};
+use ledgers::ledger_text::{positions_of, write_account};
 use ledgers::{Account, FoundCycle, Ledger, find_cycle, ledger_before};
 use origins::called_by;
+use page_links::sum_places::{SumPlace, has_sum, sum_at};
 use page_sections::wheel_sections::ToldWheel;
 use setups::Setup;
 use std::alloc::{AllocError, Global};
-use sum_places::{SumPlace, has_sum, sum_at};
 use wheel_ledgers::{TitledAccount, account_told, find_total, place_printed};
 
 // How many entries at each end of a long ledger are told.

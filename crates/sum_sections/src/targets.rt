@@ -7,9 +7,9 @@ ghost use Rattle.sum_sections.specs.Targets.{lower_sum, same_amount, target_clos
 use crate::sums::PageSum;
 use ledgers::Entry;
 use net::Cycle;
+use page_links::sum_places::{SumPlace, write_sum_open};
 use page_links::{Shown, write_card_open};
 use std::alloc::AllocError;
-use sum_places::{SumPlace, write_sum_open};
 use wheel_ledgers::TitledAccount;
 
 /// To what an entry of a sum links.

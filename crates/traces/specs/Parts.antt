@@ -1,7 +1,7 @@
 -- A part of a trace: the lines of some cycles of a run, which follow one another, and how many cycles there are before them and in all.
 use Rattle.std.specs.Prelude.{◌≡◌, ℕ, ◌+◌, ◌≤◌, ◌&&◌, Bool, List, [], ◌∷◌, ◌++◌, Some, None, length, nat_le, nat_lt, take}
 use Rattle.std.specs.List.{filter, flat_map}
-use Rattle.placed_lines.specs.declared.placed_line.PlacedLine.{PlacedLine}
+use Rattle.page_text.specs.declared.placed_lines.placed_line.PlacedLine.{PlacedLine}
 use Rattle.setups.specs.Wiring.{Wiring}
 use Rattle.net.specs.declared.cycle.Cycle.{Cycle}
 use Rattle.machine.specs.Cycles.{Reached}

@@ -8,7 +8,7 @@ use Rattle.counters.specs.Counters.{Counter}
 use Rattle.counters.specs.declared.controls.Controls.{Controls}
 use Rattle.hubs.specs.declared.hub.Group.{Group}
 use Rattle.page_text.specs.Pages.{without_trailing_blanks}
-use Rattle.placed_lines.specs.declared.placed_line.PlacedLine.{PlacedLine}
+use Rattle.page_text.specs.declared.placed_lines.placed_line.PlacedLine.{PlacedLine}
 use Rattle.print_unit.specs.ZeroControl.{character_of}
 use Rattle.selectors.specs.Pilots.{PilotStates, is_transferred}
 use Rattle.storage_units.specs.Storage.{StorageState, holds}

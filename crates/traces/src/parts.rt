@@ -8,7 +8,7 @@ ghost use Rattle.traces.specs.Parts.{IsPartOf, IsTracePart};
 use crate::tracing::{card_in, make_ready, move_on, run_cycle};
 use card_code::Card;
 use machine::SteppedMachine;
-use placed_lines::PlacedLine;
+use page_text::placed_lines::PlacedLine;
 use setups::Setup;
 use std::alloc::{AllocError, Global};
 use std::io;

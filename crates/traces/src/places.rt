@@ -5,8 +5,8 @@ ghost use Rattle.std.specs.List.{flat_map};
 ghost use Rattle.traces.specs.Told.{bracketed, line_told, pilot_told, pilots_told};
 
 use numerals::write_numbered;
+use page_text::placed_lines::PlacedLine;
 use page_text::without_trailing_blanks;
-use placed_lines::PlacedLine;
 use selectors::Pilots;
 use std::io;
 use std::io::Write;

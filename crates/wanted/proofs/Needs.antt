@@ -7,13 +7,13 @@ use Rattle.charts.specs.declared.statement.Field.{Field}
 use Rattle.charts.specs.declared.statement.Statement.{Statement}
 use Rattle.charts.specs.declared.statement.Statement.TheVariants as says
 use Rattle.chart_rules.specs.declared.rule.Rule.TheVariants as rule
-use Rattle.field_rules.specs.Fields.{fields_of, field_named}
+use Rattle.line_rules.specs.FieldRules.Fields.{fields_of, field_named}
 use Rattle.charts.specs.Field.{sign_column}
-use Rattle.field_rules.specs.Names.{breaks_unknown_name}
-use Rattle.field_rules.specs.Digits.{is_out_of_digits, breaks_digits_range}
+use Rattle.line_rules.specs.FieldRules.Names.{breaks_unknown_name}
+use Rattle.line_rules.specs.FieldRules.Digits.{is_out_of_digits, breaks_digits_range}
 use Rattle.chart_rules.specs.Rules.{IsLawful}
 use Rattle.charts.proofs.Listed.{given-by}
-use Rattle.field_rules.proofs.DigitsKept.{digits-kept}
+use Rattle.line_rules.proofs.FieldRules.DigitsKept.{digits-kept}
 use Rattle.chart_rules.proofs.Laws.{kept-line}
 use Rattle.wanted.specs.declared.total.Total.{Total}
 use Rattle.wanted.specs.Totals.{NeedsFit}

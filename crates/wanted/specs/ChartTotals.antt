@@ -5,8 +5,8 @@ use Rattle.charts.specs.declared.chart.Line.{Line}
 use Rattle.charts.specs.declared.statement.Field.{Field}
 use Rattle.charts.specs.declared.statement.Statement.{Statement}
 use Rattle.charts.specs.declared.statement.Statement.TheVariants as says
-use Rattle.field_rules.specs.Coupled.{positions_of}
-use Rattle.field_rules.specs.Fields.{field_named}
+use Rattle.line_rules.specs.FieldRules.Coupled.{positions_of}
+use Rattle.line_rules.specs.FieldRules.Fields.{field_named}
 use Rattle.wanted.specs.declared.total.Total.{Total}
 
 -- the positions that a total of so many digits needs

@@ -5,7 +5,7 @@ use Rattle.charts.specs.declared.chart.Line.{Line}
 use Rattle.charts.specs.declared.statement.Field.{Field}
 use Rattle.charts.specs.declared.statement.Statement.{Statement}
 use Rattle.charts.specs.declared.statement.Statement.TheVariants as says
-use Rattle.field_rules.specs.Fields.{fields_of}
+use Rattle.line_rules.specs.FieldRules.Fields.{fields_of}
 use Rattle.charts.specs.Field.{sign_column}
 use Rattle.charts.specs.Name.{is_same_name}
 

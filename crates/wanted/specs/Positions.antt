@@ -8,7 +8,7 @@ use Rattle.charts.specs.declared.statement.DetailOption.TheVariants as shown
 use Rattle.charts.specs.declared.statement.Field.{Field}
 use Rattle.charts.specs.declared.statement.Statement.{Statement}
 use Rattle.charts.specs.declared.statement.Statement.TheVariants as says
-use Rattle.field_rules.specs.Fields.{field_named}
+use Rattle.line_rules.specs.FieldRules.Fields.{field_named}
 use Rattle.charts.specs.Field.{columns_of}
 use Rattle.wanted.specs.declared.position.Position.{Position}
 use Rattle.wanted.specs.declared.position.ColumnUse.{ColumnUse}

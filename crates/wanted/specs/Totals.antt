@@ -1,7 +1,7 @@
 -- The totals of a chart, and the counter groups that they want.
 use Rattle.std.specs.Prelude.{ℕ, ◌+◌, ◌≤◌, Bool, ◌&&◌, nat_le, if◌then◌else◌}
 use Rattle.std.specs.Prelude.{List, All, count_by}
-use Rattle.field_rules.specs.Coupled.{needs_two}
+use Rattle.line_rules.specs.FieldRules.Coupled.{needs_two}
 use Rattle.wanted.specs.declared.total.Total.{Total}
 
 -- no total needs more positions than two of the widest counter groups have

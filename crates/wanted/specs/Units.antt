@@ -4,7 +4,7 @@ use Rattle.charts.specs.declared.chart.Line.{Line}
 use Rattle.charts.specs.declared.statement.Field.{Field}
 use Rattle.charts.specs.declared.statement.Statement.{Statement}
 use Rattle.charts.specs.declared.statement.Statement.TheVariants as says
-use Rattle.field_rules.specs.Fields.{field_named}
+use Rattle.line_rules.specs.FieldRules.Fields.{field_named}
 use Rattle.charts.specs.Field.{sign_column, columns_of}
 use Rattle.wanted.specs.declared.unit.LineKind.{LineKind}
 use Rattle.wanted.specs.declared.unit.LineKind.TheVariants.{TotalText, WideText, SplitAmount}

@@ -1,7 +1,7 @@
 //! The totals of a chart.
 
 ghost use Rattle.std.specs.Prelude.{◌≡◌, ◌==◌, IfOk, position, filter_map};
-ghost use Rattle.field_rules.specs.Coupled.{has_sign};
+ghost use Rattle.line_rules.specs.FieldRules.Coupled.{has_sign};
 ghost use Rattle.wanted.specs.ChartTotals as totals;
 ghost use Rattle.wanted.specs.Totals.{NeedsFit};
 

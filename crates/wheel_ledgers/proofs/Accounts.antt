@@ -9,8 +9,8 @@ use Rattle.ledgers.specs.Running.{IsKeptLedger, PlacesLine}
 use Rattle.ledgers.specs.Summaries.{Summary}
 use Rattle.ledgers.specs.declared.account.Account.{Account}
 use Rattle.ledgers.specs.declared.found.FoundCycle.{FoundCycle}
-use Rattle.ledger_text.specs.Entries.{Words}
-use Rattle.ledger_text.specs.Tellings.{ledger_text}
+use Rattle.ledgers.specs.LedgerText.Entries.{Words}
+use Rattle.ledgers.specs.LedgerText.Tellings.{ledger_text}
 use Rattle.wheel_ledgers.specs.Figures.{printed_text}
 use Rattle.wheel_ledgers.specs.Printed.{place_printed}
 use Rattle.wheel_ledgers.specs.Told.{IsFigureText, IsPlaceText, IsTextFor, TellsLedger, account_told, words_told}

@@ -9,7 +9,7 @@ use Rattle.std.specs.declared.alloc.Global.{Global}
 use Rattle.explanations.specs.Explanations.{IsExplanation}
 use Rattle.explanations.specs.declared.explanation.Explanation.{Explanation}
 use Rattle.hubs.specs.declared.hub.Hub.{Hub}
-use Rattle.ledger_holes.specs.Down.{ledger_down}
+use Rattle.wheel_ledgers.specs.LedgerHoles.Down.{ledger_down}
 use Rattle.ledgers.proofs.Summaries.{length-one}
 use Rattle.ledgers.specs.Running.{IsKeptLedger, PlacesLine}
 use Rattle.ledgers.specs.Summaries.{Summary}

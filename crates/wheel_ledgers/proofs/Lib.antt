@@ -3,3 +3,4 @@ mod Behind
 mod Lists
 mod Asked
 mod Down
+pub mod LedgerHoles

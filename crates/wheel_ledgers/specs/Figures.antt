@@ -1,6 +1,6 @@
 -- What was printed on a wheel of a line.
 use Rattle.std.specs.Prelude.{ℕ, ◌-◌, List, ◌++◌, codes, slice_index_or, if◌then◌else◌}
-use Rattle.ledger_text.specs.Figures.{figure_at, is_blank}
+use Rattle.ledgers.specs.LedgerText.Figures.{figure_at, is_blank}
 
 -- the figure on the wheel, or that the wheel itself is blank
 abbrev pub printed_text : List ℕ → ℕ → List ℕ

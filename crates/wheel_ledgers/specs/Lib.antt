@@ -7,3 +7,4 @@ pub mod Resting
 pub mod Lower
 pub mod Whole
 pub mod Scopes
+pub mod LedgerHoles

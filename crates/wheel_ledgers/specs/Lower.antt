@@ -2,7 +2,7 @@
 use Rattle.std.specs.Prelude.{◌≡◌, ℕ, ◌<◌, ◌==◌, ◌&&◌, Bool, true, false, List, [], ◌∷◌, ◌++◌, if◌then◌else◌}
 use Rattle.std.specs.List.{flat_map, range_with_len}
 use Rattle.counters.specs.Counters.{Counter}
-use Rattle.ledger_holes.specs.Feeding.{feeds}
+use Rattle.wheel_ledgers.specs.LedgerHoles.Feeding.{feeds}
 use Rattle.ledgers.specs.InCycle.{IsInCycle}
 use Rattle.ledgers.specs.Accounts.{counter_at}
 use Rattle.ledgers.specs.Running.{HasCycle}

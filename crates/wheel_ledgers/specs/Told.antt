@@ -2,9 +2,9 @@
 use Rattle.std.specs.Prelude.{◌≡◌, ℕ, List, ◌++◌, Option, Some, None}
 use Rattle.explanations.specs.Explanations.{IsExplanation}
 use Rattle.explanations.specs.declared.explanation.Explanation.{Explanation}
-use Rattle.ledger_text.specs.Entries.{Words}
-use Rattle.ledger_text.specs.Tellings.{ledger_text, no_ledger_text}
-use Rattle.ledger_text.specs.Titles.{words_of}
+use Rattle.ledgers.specs.LedgerText.Entries.{Words}
+use Rattle.ledgers.specs.LedgerText.Tellings.{ledger_text, no_ledger_text}
+use Rattle.ledgers.specs.LedgerText.Titles.{words_of}
 use Rattle.ledgers.specs.Running.{IsKeptLedger, PlacesLine}
 use Rattle.ledgers.specs.Summaries.{Summary}
 use Rattle.ledgers.specs.declared.account.Account.{Account}

@@ -1,6 +1,6 @@
 -- The totals of a chart, by the counter groups that serve them.
 use Rattle.std.specs.Prelude.{All, ℕ, ◌==◌, ◌||◌, Bool, List, [], ◌∷◌, ◌++◌, Option, Some, None, option_to_list, if◌then◌else◌}
-use Rattle.chart_rules.specs.Below.field_rules.Fields.{field_named}
+use Rattle.chart_rules.specs.Below.line_rules.FieldRules.Fields.{field_named}
 use Rattle.charts.specs.Field.{decimals_of}
 use Rattle.charts.specs.declared.chart.Line.{Line}
 use Rattle.charts.specs.declared.statement.Field.{Field}

@@ -8,8 +8,8 @@ use crate::places::place_of;
 use chart_rules::Chart;
 use charts::{Line, Name, Statement};
 use hubs::Group;
-use ledger_text::Title;
 use ledgers::Account;
+use ledgers::ledger_text::Title;
 use plans::{Plan, TotalCounter};
 use std::alloc::{AllocError, Global};
 

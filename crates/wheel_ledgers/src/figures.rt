@@ -3,7 +3,7 @@
 ghost use Rattle.std.specs.Prelude.{◌≡◌, ◌≤◌, ◌++◌, OnOk, length};
 ghost use Rattle.wheel_ledgers.specs.Figures.{printed_text};
 
-use ledger_text::figure_at;
+use ledgers::ledger_text::figure_at;
 use std::io;
 use std::io::Write;
 

@@ -8,11 +8,11 @@ ghost use Rattle.wheel_ledgers.specs.Lower.{AreLower, AreLowerOf, IsAsked, cycle
 ghost use Rattle.wheel_ledgers.specs.Totals.{AreAccounts};
 
 use crate::chart_totals::{TitledAccount, find_total};
+use crate::ledger_holes::feeds;
 use crate::places::GROUPS;
 use crate::telling::account_told;
 use card_code::Card;
 use counters::Group;
-use ledger_holes::feeds;
 use ledgers::{Account, Change, Entry, machine_in_cycle};
 use net::Cycle;
 use origins::PassedCycle;

@@ -2,7 +2,7 @@
 use Rattle.std.proofs.Common.{◌≡◌, ◌∙◌, sym, ap, refl, ℕ, Bool, true, false, List, [], ◌∷◌, Option, map, subst, if◌then◌else◌}
 use Rattle.std.specs.List.{range_with_len}
 use Rattle.machine.specs.Below.carriage.Carriage.{CarriageState}
-use Rattle.machine.specs.Below.placed_lines.declared.placed_line.PlacedLine.{PlacedLine}
+use Rattle.machine.specs.Below.page_text.declared.placed_lines.placed_line.PlacedLine.{PlacedLine}
 use Rattle.machine.specs.Below.setups.Wiring.{Wiring}
 use Rattle.machine.specs.Below.hubs.declared.hub.Hub.{Hub}
 use Rattle.machine.specs.Below.net.declared.cycle.Cycle.{Cycle}

@@ -7,7 +7,7 @@ use Rattle.machine.specs.Below.card_code.declared.row.Row.{Row as CardRow}
 use Rattle.machine.specs.Below.carriage.Carriage.{CarriageState, carriage_sensed, carriage_ended}
 use Rattle.machine.specs.Below.counters.Counters.{Counter, shows}
 use Rattle.machine.specs.Below.hub_table.Ranges.{is_within}
-use Rattle.machine.specs.Below.placed_lines.declared.placed_line.PlacedLine.{PlacedLine}
+use Rattle.machine.specs.Below.page_text.declared.placed_lines.placed_line.PlacedLine.{PlacedLine}
 use Rattle.machine.specs.Below.setups.Wiring.{HasWire, LeadsToEntries, Wiring, is_wired}
 use Rattle.machine.specs.Below.hubs.Hubs.{carry_into, carry_out_of, is_entry_hub}
 use Rattle.machine.specs.Below.hubs.declared.hub.Hub.{Hub}

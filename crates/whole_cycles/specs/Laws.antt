@@ -2,7 +2,7 @@
 use Rattle.std.specs.Prelude.{◌≡◌, ◌↔◌, ℕ, ◌≤◌, Bool, List, Option, map}
 use Rattle.std.specs.List.{range_with_len}
 use Rattle.machine.specs.Below.card_code.declared.row.Row.{Row as CardRow}
-use Rattle.machine.specs.Below.placed_lines.declared.placed_line.PlacedLine.{PlacedLine}
+use Rattle.machine.specs.Below.page_text.declared.placed_lines.placed_line.PlacedLine.{PlacedLine}
 use Rattle.machine.specs.Below.setups.Wiring.{Wiring}
 use Rattle.machine.specs.Below.hubs.declared.hub.Group.{Group}
 use Rattle.machine.specs.Below.hubs.declared.hub.Hub.{Hub}

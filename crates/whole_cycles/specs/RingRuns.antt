@@ -3,7 +3,7 @@
 use Rattle.std.specs.Prelude.{◌≡◌, ◌↔◌, ℕ, Bool, List, map}
 use Rattle.machine.specs.Below.card_code.declared.row.Row.{Row as CardRow}
 use Rattle.machine.specs.Below.carriage.Carriage.{carriage_sensed, carriage_ended}
-use Rattle.machine.specs.Below.placed_lines.declared.placed_line.PlacedLine.{PlacedLine}
+use Rattle.machine.specs.Below.page_text.declared.placed_lines.placed_line.PlacedLine.{PlacedLine}
 use Rattle.machine.specs.Below.setups.Wiring.{LeadsToEntries, Wiring, is_wired}
 use Rattle.machine.specs.Below.hubs.declared.hub.Hub.{Hub}
 use Rattle.machine.specs.Below.hubs.declared.hub.Hub.TheVariants.{CI, CO}

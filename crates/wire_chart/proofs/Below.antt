@@ -1,1 +1,1 @@
-pub use Rattle.wiring_reader.proofs as wiring_reader
+pub use Rattle.wiring_text.proofs as wiring_text

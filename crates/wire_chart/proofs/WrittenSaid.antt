@@ -25,7 +25,7 @@ use Rattle.wiring_text.specs.declared.statement.Statement.{Statement}
 use Rattle.wiring_text.specs.declared.statement.Statement.TheVariants.{Stop, Plug, Wire}
 use Rattle.wire_chart.proofs.WrittenBytes.{IsWord, IsWrittenLine, words_line, line_of_words, is_inner}
 use Rattle.wire_chart.proofs.WrittenWords.{group_word, group_written, number_written, number_word, hub_written, hub_word}
-use Rattle.wiring_reader.proofs.SetupSteps.{lawful_fits}
+use Rattle.wiring_text.proofs.WiringReader.SetupSteps.{lawful_fits}
 use Rattle.wiring_text.specs.declared.statement.Version.{Version}
 use Rattle.wiring_text.specs.declared.statement.Version.TheVariants.{First, Second}
 

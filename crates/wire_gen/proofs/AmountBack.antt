@@ -2,7 +2,7 @@
 use Rattle.std.proofs.Common.{ℕ, ◌+◌, ◌-◌, List, Some, None, sym, ap, subst, ◌∙◌}
 use Rattle.std.proofs.lemmas.Option.{slice_get_within, same_Some}
 use Rattle.plans.specs.Plans.{Lists}
-use Rattle.chart_rules.specs.Below.field_rules.Fields.{field_named}
+use Rattle.chart_rules.specs.Below.line_rules.FieldRules.Fields.{field_named}
 use Rattle.charts.specs.Field.{columns_of, decimals_of}
 use Rattle.charts.specs.declared.chart.Line.{Line}
 use Rattle.charts.specs.declared.statement.Statement.TheVariants as says

@@ -1,8 +1,8 @@
 -- The amounts of a line of a lawful chart as its items.
 use Rattle.std.proofs.Common.{option_map, ◌≡◌, ℕ, ◌+◌, ◌≤◌, true, List, Option, Some, None, refl, sym, ap, ◌∙◌, subst, arith}
 use Rattle.plans.specs.Plans.{Lists}
-use Rattle.chart_rules.specs.Below.field_rules.Fields.{field_named}
-use Rattle.chart_rules.specs.Below.print_rules.Items.{mark_shown, item_of, detail_item, total_item}
+use Rattle.chart_rules.specs.Below.line_rules.FieldRules.Fields.{field_named}
+use Rattle.chart_rules.specs.Below.line_rules.PrintRules.Items.{mark_shown, item_of, detail_item, total_item}
 use Rattle.charts.specs.Field.{columns_of, decimals_of, is_amount}
 use Rattle.charts.specs.Levels.{level_number}
 use Rattle.charts.specs.declared.chart.Line.{Line}
@@ -19,9 +19,9 @@ use Rattle.line_wires.specs.Below.wiring_table.Figures as figures
 use Rattle.line_wires.specs.HelperItems.{HasFigureWheels, DetailRanges, IsGoodDetail}
 use Rattle.total_wires.specs.HelperTotals.{IsGoodTotal}
 use Rattle.wire_gen.specs.HelperKnown.{IsGood, IsNamed}
-use Rattle.chart_rules.specs.Below.field_rules.Fields.{fields_of}
-use Rattle.chart_rules.specs.Below.print_rules.declared.items.Figure.{Figure}
-use Rattle.chart_rules.specs.Below.print_rules.declared.items.Item.{Item}
+use Rattle.chart_rules.specs.Below.line_rules.FieldRules.Fields.{fields_of}
+use Rattle.chart_rules.specs.Below.line_rules.declared.print_rules.items.Figure.{Figure}
+use Rattle.chart_rules.specs.Below.line_rules.declared.print_rules.items.Item.{Item}
 use Rattle.jacks_and_tape.specs.HelperJacks.{FiguresAre, IsGoodFigure, ItemWith}
 use Rattle.wire_gen.proofs.Fields.{named-field, named-has}
 

@@ -5,7 +5,7 @@ use Rattle.plans.specs.Counters.{single_group}
 use Rattle.plans.specs.Plans.{Lists}
 use Rattle.plans.specs.declared.counter.TotalCounter.{TotalCounter}
 use Rattle.plans.specs.declared.counter.TotalCounter.TheVariants as of
-use Rattle.chart_rules.specs.Below.field_rules.Fields.{field_named}
+use Rattle.chart_rules.specs.Below.line_rules.FieldRules.Fields.{field_named}
 use Rattle.charts.specs.Field.{decimals_of}
 use Rattle.charts.specs.Levels.{level_number}
 use Rattle.charts.specs.declared.chart.Line.{Line}

@@ -2,8 +2,8 @@
 use Rattle.std.proofs.Common.{◌≡◌, ℕ, ◌+◌, ◌-◌, ◌≤◌, true, false, List, Some, refl, sym, ap, ◌∙◌, subst, arith}
 use Rattle.std.proofs.lemmas.Option.{slice_get_within, same_Some}
 use Rattle.plans.specs.Plans.{Lists}
-use Rattle.chart_rules.specs.Below.field_rules.Fields.{field_named}
-use Rattle.chart_rules.specs.Below.print_rules.Items.{mark_shown}
+use Rattle.chart_rules.specs.Below.line_rules.FieldRules.Fields.{field_named}
+use Rattle.chart_rules.specs.Below.line_rules.PrintRules.Items.{mark_shown}
 use Rattle.charts.specs.Field.{columns_of, decimals_of, is_amount, sign_column}
 use Rattle.charts.specs.declared.chart.Line.{Line}
 use Rattle.charts.specs.declared.statement.DetailOption.{DetailOption}

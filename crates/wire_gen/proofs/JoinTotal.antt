@@ -1,7 +1,7 @@
 -- The wires that the code adds for a total are those of the table.
 use Rattle.std.proofs.Common.{ℕ, List}
 use Rattle.plans.specs.Plans.{Lists}
-use Rattle.chart_rules.specs.Below.field_rules.Fields.{field_named}
+use Rattle.chart_rules.specs.Below.line_rules.FieldRules.Fields.{field_named}
 use Rattle.charts.specs.declared.chart.Line.{Line}
 use Rattle.charts.specs.declared.level.Level.{Level}
 use Rattle.charts.specs.declared.statement.Statement.TheVariants as says

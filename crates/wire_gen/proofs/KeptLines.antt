@@ -1,8 +1,8 @@
 -- What is known of each line of a lawful chart and its plan.
 use Rattle.std.proofs.Common.{◌≡◌, ℕ, zero, suc, ◌+◌, ◌<◌, ◌≤◌, ◌⊎◌, inl, inr, Bool, true, false, not, ◌&&◌, ◌==◌, cond, nat_lt, nat_le, option_map, List, [], ◌∷◌, length, Some, slice_get, refl, sym, ap, ◌∙◌, subst, arith}
 use Rattle.plans.specs.Plans.{Lists, ServesChart}
-use Rattle.chart_rules.specs.Below.field_rules.Fields.{field_named}
-use Rattle.chart_rules.specs.Below.print_rules.Items.{mark_shown}
+use Rattle.chart_rules.specs.Below.line_rules.FieldRules.Fields.{field_named}
+use Rattle.chart_rules.specs.Below.line_rules.PrintRules.Items.{mark_shown}
 use Rattle.charts.specs.Field.{columns_of, decimals_of, is_amount, sign_column}
 use Rattle.charts.specs.Levels.{level_number}
 use Rattle.charts.specs.declared.chart.Line.{Line}
@@ -29,16 +29,16 @@ use Rattle.std.specs.List.{Contains, filter}
 use Rattle.std.proofs.lemmas.Bool.{cases_lt, not-false}
 use Rattle.std.proofs.lemmas.Bool.Decides.{nat_tests}
 use Rattle.plans.specs.Below.wanted.Units.{is_of_kind, is_wide, is_wide_text, wide_texts_of}
-use Rattle.chart_rules.specs.Below.field_rules.Fields.{fields_of}
+use Rattle.chart_rules.specs.Below.line_rules.FieldRules.Fields.{fields_of}
 use Rattle.chart_rules.specs.HelperOnCard.{IsOnCard}
-use Rattle.chart_rules.specs.Below.print_rules.Items.{item_of, mark_width, detail_item, text_item, total_item}
-use Rattle.chart_rules.specs.Below.print_rules.declared.items.Item.{Item}
-use Rattle.chart_rules.specs.Below.print_rules.declared.items.PrintedLine.TheVariants.{Body, Heading}
+use Rattle.chart_rules.specs.Below.line_rules.PrintRules.Items.{item_of, mark_width, detail_item, text_item, total_item}
+use Rattle.chart_rules.specs.Below.line_rules.declared.print_rules.items.Item.{Item}
+use Rattle.chart_rules.specs.Below.line_rules.declared.print_rules.items.PrintedLine.TheVariants.{Body, Heading}
 use Rattle.charts.specs.declared.statement.BodyLine.TheVariants as body
-use Rattle.chart_rules.specs.Below.field_rules.Names.{names_amount, names_text, is_unknown}
+use Rattle.chart_rules.specs.Below.line_rules.FieldRules.Names.{names_amount, names_text, is_unknown}
 use Rattle.chart_rules.specs.Rules.{breaks, IsLawful}
-use Rattle.chart_rules.specs.Below.print_rules.Tapes.{has_tape, is_tape_of, form_lines, rise_above, are_within}
-use Rattle.chart_rules.specs.Below.print_rules.Wheels.{is_off_wheels}
+use Rattle.chart_rules.specs.Below.line_rules.PrintRules.Tapes.{has_tape, is_tape_of, form_lines, rise_above, are_within}
+use Rattle.chart_rules.specs.Below.line_rules.PrintRules.Wheels.{is_off_wheels}
 use Rattle.chart_rules.specs.declared.rule.Rule.{Rule}
 use Rattle.chart_rules.specs.declared.rule.Rule.TheVariants as rule
 use Rattle.charts.specs.Chart.{Chart, NumbersRise}
@@ -47,7 +47,7 @@ use Rattle.line_wires.specs.HelperItems.{HasWheels, DetailRanges}
 use Rattle.line_wires.specs.HelperRanges.{HasChannel}
 use Rattle.line_wires.specs.Below.wiring_table.Parts.{HasTotal}
 use Rattle.chart_rules.proofs.Laws.{kept-line, good-listed, good-field}
-use Rattle.chart_rules.specs.Below.field_rules.Fields.{field_of}
+use Rattle.chart_rules.specs.Below.line_rules.FieldRules.Fields.{field_of}
 use Rattle.line_wires.proofs.Below.wiring_table.Totals.{digits-grow, one-total, total-digits, total-of}
 use Rattle.wire_gen.proofs.KeptFields.{known-name, named-by, good-sign, wheels-within}
 use Rattle.wire_gen.proofs.KeptTotals.{counter-for}

@@ -4,7 +4,7 @@ use Rattle.std.proofs.lemmas.Bool.Decides.{nat_tests}
 use Rattle.plans.specs.Below.capacity.Capacities.{HasGroup, standard}
 use Rattle.charts.specs.Chart.{NumbersRise}
 use Rattle.charts.specs.declared.chart.Line.{Line}
-use Rattle.chart_rules.specs.Below.field_rules.Fields.{field_named}
+use Rattle.chart_rules.specs.Below.line_rules.FieldRules.Fields.{field_named}
 use Rattle.setups.specs.Below.hubs.declared.hub.Group.{Group}
 use Rattle.plans.proofs.CounterGroups.{width-cases}
 use Rattle.plans.specs.Counters.{IsEnoughFor}

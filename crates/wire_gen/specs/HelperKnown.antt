@@ -1,7 +1,7 @@
 -- A helper of the code: what is known of each line of a lawful chart and its plan.
 use Rattle.std.specs.Prelude.{◌≡◌, ℕ, ◌≤◌, List, Option, Some, None, length, false}
 use Rattle.plans.specs.Plans.{Lists}
-use Rattle.chart_rules.specs.Below.field_rules.Fields.{field_named}
+use Rattle.chart_rules.specs.Below.line_rules.FieldRules.Fields.{field_named}
 use Rattle.chart_rules.specs.HelperOnCard.{IsOnCard}
 use Rattle.charts.specs.Field.{columns_of, is_amount, sign_column}
 use Rattle.charts.specs.declared.chart.Line.{Line}

@@ -1,7 +1,7 @@
 -- A helper of the code: the wires of a line of the chart as the code adds them.
 use Rattle.std.specs.Prelude.{ℕ, List, slice_get}
 use Rattle.plans.specs.Plans.{Lists}
-use Rattle.chart_rules.specs.Below.field_rules.Fields.{field_named}
+use Rattle.chart_rules.specs.Below.line_rules.FieldRules.Fields.{field_named}
 use Rattle.charts.specs.Headings.{heading_number}
 use Rattle.charts.specs.Levels.{level_number}
 use Rattle.charts.specs.declared.chart.Line.{Line}

@@ -1,7 +1,7 @@
 //! The lines of a chart, one by one.
 
 ghost use Rattle.std.specs.Prelude.{◌≡◌, ℕ, OnOk, Some, slice_get, length};
-ghost use Rattle.chart_rules.specs.Below.field_rules.Fields.{field_named};
+ghost use Rattle.chart_rules.specs.Below.line_rules.FieldRules.Fields.{field_named};
 ghost use Rattle.chart_rules.specs.HelperOnCard.{IsOnCard};
 ghost use Rattle.charts.specs.declared.chart.Line.{Line};
 ghost use Rattle.line_wires.specs.HelperAdds.{Adds, OfSome};

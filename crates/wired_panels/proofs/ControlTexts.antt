@@ -4,8 +4,8 @@ use Rattle.std.proofs.lemmas.Bool.Decides.{nat_tests}
 use Rattle.std.specs.List.{list_all}
 use Rattle.whole_cycles.specs.Below.card_code.CardCode.{code, character_in, deck_character}
 use Rattle.whole_cycles.specs.Below.card_code.Rows.{is_row_set}
-use Rattle.wiring_table.specs.Below.field_rules.Fields.{field_named}
-use Rattle.wiring_table.specs.Below.field_rules.Names.{names_amount}
+use Rattle.wiring_table.specs.Below.line_rules.FieldRules.Fields.{field_named}
+use Rattle.wiring_table.specs.Below.line_rules.FieldRules.Names.{names_amount}
 use Rattle.wiring_table.specs.Below.chart_rules.Rules.{IsLawful, breaks}
 use Rattle.wiring_table.specs.Below.chart_rules.ValidCard.{IsValidCard, IsText, column_of, is_printed}
 use Rattle.wiring_table.specs.Below.chart_rules.declared.rule.Rule.TheVariants as rule

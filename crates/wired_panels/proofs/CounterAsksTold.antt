@@ -1,7 +1,7 @@
 -- Cycles as the control hubs of counter groups tell them apart, and wires from the lines of totals.
 use Rattle.std.proofs.Common.{◌≡◌, ◌∙◌, refl, sym, ap, subst, ℕ, ◌<◌, Bool, true, false, List, Some}
 use Rattle.wiring_table.specs.Below.plans.Plans.{Lists, ServesChart}
-use Rattle.wiring_table.proofs.Below.field_rules.Places.{is_same_name-equal}
+use Rattle.wiring_table.proofs.Below.line_rules.FieldRules.Places.{is_same_name-equal}
 use Rattle.wiring_table.specs.Below.charts.Chart.{Chart, NumbersRise}
 use Rattle.wiring_table.specs.Below.charts.declared.chart.Line.{Line}
 use Rattle.wiring_table.specs.Below.charts.declared.statement.Statement.TheVariants as says

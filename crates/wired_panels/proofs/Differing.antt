@@ -5,7 +5,7 @@ use Rattle.std.proofs.lemmas.List.Folds.{list_all_at}
 use Rattle.std.proofs.lemmas.List.FromFn.{length-range_with_len, get_or-range_with_len}
 use Rattle.std.specs.List.{cons_option, filter_map, list_all, range_with_len}
 use Rattle.std.proofs.lemmas.Bool.{and_right}
-use Rattle.wiring_table.specs.Below.field_rules.Fields.{field_named}
+use Rattle.wiring_table.specs.Below.line_rules.FieldRules.Fields.{field_named}
 use Rattle.wiring_table.specs.Below.chart_rules.Controls.{control_on}
 use Rattle.wiring_table.specs.Below.chart_rules.ValidCard.{column_of}
 use Rattle.wiring_table.specs.Below.charts.Field.{columns_of}

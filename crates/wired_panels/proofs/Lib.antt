@@ -28,3 +28,4 @@ pub mod ReadingOut
 pub mod SpeakersLawful
 pub mod ToWheels
 mod PanelLaws
+pub mod CycleAsks

@@ -2,7 +2,7 @@
 use Rattle.std.proofs.Common.{◌≡◌, ◌∙◌, refl, sym, ap, ℕ, ◌≤◌, true, List, Some, None, is_some, position, arith}
 use Rattle.wiring_table.specs.Below.wanted.Pilots.{shows}
 use Rattle.wiring_table.specs.Below.plans.Plans.{Lists, ServesChart}
-use Rattle.wiring_table.proofs.Below.field_rules.Places.{is_same_name-equal}
+use Rattle.wiring_table.proofs.Below.line_rules.FieldRules.Places.{is_same_name-equal}
 use Rattle.wiring_table.specs.Below.chart_rules.Rules.{IsLawful}
 use Rattle.wiring_table.specs.Below.charts.Chart.{Chart, NumbersRise}
 use Rattle.wiring_table.specs.Below.charts.Field.{sign_column}

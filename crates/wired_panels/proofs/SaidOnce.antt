@@ -3,7 +3,7 @@ use Rattle.std.proofs.Common.{◌≡◌, ◌∙◌, refl, sym, ap, ℕ, zero, su
 use Rattle.std.proofs.lemmas.Bool.Decides.{nat_tests}
 use Rattle.std.specs.List.{list_any}
 use Rattle.wiring_table.proofs.Below.chart_rules.Laws.{breaks-lawful}
-use Rattle.wiring_table.specs.Below.field_rules.Repeats.{repeats, is_same_body}
+use Rattle.wiring_table.specs.Below.line_rules.FieldRules.Repeats.{repeats, is_same_body}
 use Rattle.wiring_table.specs.Below.chart_rules.Rules.{IsLawful}
 use Rattle.wiring_table.specs.Below.chart_rules.declared.rule.Rule.TheVariants as rule
 use Rattle.wiring_table.specs.Below.charts.Chart.{Chart}

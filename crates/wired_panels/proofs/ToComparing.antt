@@ -7,7 +7,7 @@ use Rattle.wiring_table.specs.Below.plans.Plans.{Lists}
 use Rattle.whole_cycles.specs.Below.card_code.CardCode.{has_row}
 use Rattle.whole_cycles.specs.Below.card_code.Rows.{rows, row_number}
 use Rattle.whole_cycles.specs.Below.card_code.declared.row.Row.{Row as CardRow}
-use Rattle.wiring_table.specs.Below.field_rules.Fields.{field_named}
+use Rattle.wiring_table.specs.Below.line_rules.FieldRules.Fields.{field_named}
 use Rattle.wiring_table.specs.Below.chart_rules.ValidCard.{IsValidCard, column_of}
 use Rattle.wiring_table.specs.Below.charts.Chart.{Chart}
 use Rattle.wiring_table.specs.Below.charts.Field.{columns_of}

@@ -18,7 +18,7 @@ use Rattle.wiring_table.proofs.Groups.{position-serves}
 use Rattle.wiring_table.specs.Wires.{LineWire}
 use Rattle.wiring_table.specs.Wires.LineWire.{detail_mark_in, entry, entry_adds, entry_sign, entry_plus, entry_minus, read_out, balance_test, conversion, conversion_read_out, conversion_minus, feedback, total_mark_in, transfer, transfer_adds, transfer_sign, transfer_plus, transfer_minus}
 use Rattle.wired_panels.specs.Groups.{IsGroupOf, IsPlaceFor, IsTopOf}
-use Rattle.wiring_table.proofs.Below.field_rules.Places.{is_same_name-own}
+use Rattle.wiring_table.proofs.Below.line_rules.FieldRules.Places.{is_same_name-own}
 
 -- the total that a line says
 pub the_total :

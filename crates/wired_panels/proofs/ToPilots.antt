@@ -4,7 +4,7 @@ use Rattle.wiring_table.specs.Below.plans.Plans.{Lists}
 use Rattle.whole_cycles.specs.Below.card_code.CardCode.{has_row}
 use Rattle.whole_cycles.specs.Below.card_code.declared.row.Row.{Row as CardRow}
 use Rattle.whole_cycles.specs.Below.card_code.declared.row.Row.TheVariants.{Eleven}
-use Rattle.wiring_table.specs.Below.field_rules.Fields.{field_named}
+use Rattle.wiring_table.specs.Below.line_rules.FieldRules.Fields.{field_named}
 use Rattle.wiring_table.specs.Below.chart_rules.ValidCard.{column_of}
 use Rattle.wiring_table.specs.Below.charts.Chart.{Chart}
 use Rattle.wiring_table.specs.Below.charts.Field.{column_of_rule}

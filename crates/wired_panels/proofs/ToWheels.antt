@@ -4,7 +4,7 @@ use Rattle.std.proofs.Common.{◌≡◌, ◌∙◌, refl, sym, ap, subst, ℕ, �
 use Rattle.std.proofs.lemmas.Option.{same_Some}
 use Rattle.whole_cycles.specs.Below.card_code.Rows.{row_number}
 use Rattle.whole_cycles.specs.Below.card_code.declared.row.Row.{Row as CardRow}
-use Rattle.wiring_table.specs.Below.field_rules.Fields.{field_named}
+use Rattle.wiring_table.specs.Below.line_rules.FieldRules.Fields.{field_named}
 use Rattle.wiring_table.specs.Below.charts.Chart.{NumbersRise}
 use Rattle.wiring_table.specs.Below.charts.Field.{sign_column}
 use Rattle.wiring_table.specs.Below.charts.Levels.{control_number, level_number}

@@ -6,3 +6,4 @@ pub mod PanelCycles
 pub mod CycleRows
 pub mod PanelLaws
 pub mod CarryLaws
+pub mod CycleAsks

@@ -11,7 +11,7 @@ use Rattle.line_slips.specs.Near.{is_near}
 use Rattle.tokens.specs.Number.{is_digit}
 use Rattle.tokens.specs.NumberReading.{number_of}
 use Rattle.tokens.specs.Steps.{◌>>=◌}
-use Rattle.wiring_reader.specs.Reading.{letters_spelled}
+use Rattle.wiring_text.specs.WiringReader.Reading.{letters_spelled}
 use Rattle.wiring_slips.specs.declared.hub.HubWord.{HubWord}
 use Rattle.wiring_slips.specs.declared.hub.HubWord.TheVariants as hub
 

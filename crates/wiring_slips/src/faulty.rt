@@ -9,8 +9,8 @@ ghost use Rattle.wiring_slips.specs.Faulty.{AreFaults};
 
 use line_marks::emptied;
 use std::alloc::{AllocError, Global};
-use wiring_reader::read_setup;
 use wiring_text::WiringFault;
+use wiring_text::wiring_reader::read_setup;
 
 /// How many faults are listed at most.
 const MOST: usize = 500;

@@ -5,7 +5,7 @@ ghost use Rattle.std.specs.List.{prefix_len};
 ghost use Rattle.std.specs.Str.{bytes_eq};
 ghost use Rattle.hub_table.specs.HubTable.{row_of};
 ghost use Rattle.line_slips.specs.Near.{is_near};
-ghost use Rattle.wiring_reader.specs.Reading.{letters_spelled};
+ghost use Rattle.wiring_text.specs.WiringReader.Reading.{letters_spelled};
 ghost use Rattle.wiring_slips.specs.HubWords as law;
 
 use hub_table::{KINDS, Letters, Numbers};

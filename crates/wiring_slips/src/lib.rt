@@ -1,6 +1,6 @@
 //! What is wrong with the lines of a wiring chart, as values.
 //!
-//! [`wiring_faults`] answers all faults of a text: the one that `read_setup` of `wiring_reader` tells, and then those of the text without the line at
+//! [`wiring_faults`] answers all faults of a text: the one that `read_setup` of `wiring_text` tells, and then those of the text without the line at
 //! fault. [`line_slip`] tells of a line that is none of a wiring chart what is wrong with it, [`hub_word`] what a word is that stands where a
 //! hub is wanted, and [`carry_slip`] why the panel can't have a carry. [`first_met`] finds the line that another one meets. All of them are
 //! total over any text.

@@ -2,10 +2,10 @@
 use Rattle.std.proofs.Common.{◌≡◌, ◌∙◌, refl, sym, ap, Bool, true, false, List, [], ◌∷◌, ◌++◌, Contains, Option, Some, None, is_some, if◌then◌else◌}
 use Rattle.std.specs.List.{cons_option}
 use Rattle.plans.proofs.Below.chart_rules.Laws.{breaks-lawful}
-use Rattle.report.proofs.Below.field_rules.Places.{is_same_name-own}
+use Rattle.report.proofs.Below.line_rules.FieldRules.Places.{is_same_name-own}
 use Rattle.plans.proofs.Below.charts.Listed.{listed-place}
-use Rattle.report.specs.Below.field_rules.Fields.{field_of, fields_of, first_named, field_named}
-use Rattle.report.specs.Below.field_rules.Names.{breaks_name_twice}
+use Rattle.report.specs.Below.line_rules.FieldRules.Fields.{field_of, fields_of, first_named, field_named}
+use Rattle.report.specs.Below.line_rules.FieldRules.Names.{breaks_name_twice}
 use Rattle.plans.specs.Below.chart_rules.Rules.{IsLawful}
 use Rattle.plans.specs.Below.chart_rules.declared.rule.Rule.TheVariants as rule
 use Rattle.plans.specs.Below.charts.Chart.{Chart}

@@ -10,8 +10,8 @@ use Rattle.plans.specs.Below.charts.declared.statement.Statement.{Statement}
 use Rattle.plans.specs.Below.charts.declared.statement.Statement.TheVariants as says
 use Rattle.plans.proofs.Below.charts.Listed.{given-by, listed-at, listed-given, position-passing, position-stands}
 use Rattle.plans.proofs.Below.charts.Rising.{one-line}
-use Rattle.report.proofs.Below.field_rules.Places.{is_same_name-equal}
-use Rattle.report.specs.Below.field_rules.Fields.{field_named}
+use Rattle.report.proofs.Below.line_rules.FieldRules.Places.{is_same_name-equal}
+use Rattle.report.specs.Below.line_rules.FieldRules.Fields.{field_named}
 use Rattle.setups.specs.Below.hubs.declared.hub.Group.{Group}
 use Rattle.plans.specs.Counters.{HasCounter, IsEnoughFor, IsGroupOf, SharesGroup, single_group}
 use Rattle.plans.specs.Plans.{Lists, ServesChart}

@@ -16,8 +16,8 @@ use Rattle.plans.specs.Below.charts.declared.statement.Field.{Field}
 use Rattle.plans.specs.Below.charts.declared.statement.Statement.TheVariants as says
 use Rattle.plans.proofs.Below.charts.Listed.{any-listed, listed-filter, listed-map, listed-parts, listed-range}
 use Rattle.plans.proofs.Below.chart_rules.Laws.{field-line}
-use Rattle.report.proofs.Below.field_rules.Places.{is_same_name-equal, is_same_name-own}
-use Rattle.report.specs.Below.field_rules.Fields.{field_named, fields_of}
+use Rattle.report.proofs.Below.line_rules.FieldRules.Places.{is_same_name-equal, is_same_name-own}
+use Rattle.report.specs.Below.line_rules.FieldRules.Fields.{field_named, fields_of}
 use Rattle.plans.proofs.Numbers.{HasNumber, both-stand, number-given, number-there}
 use Rattle.plans.specs.PartNumbers.{AreNumbers, number_for, numbers_at}
 use Rattle.plans.specs.Plans.{Lists, ServesChart}

@@ -11,12 +11,12 @@ use Rattle.plans.specs.Below.charts.declared.statement.Statement.TheVariants as 
 use Rattle.plans.specs.Below.charts.declared.statement.TotalLine.{TotalLine}
 use Rattle.std.specs.List.{Contains}
 use Rattle.plans.proofs.Below.charts.Listed.{none-any}
-use Rattle.report.proofs.Below.field_rules.DigitsKept.{AreGoodDigits, digits-kept}
-use Rattle.report.proofs.Below.field_rules.Places.{is_same_name-equal, is_same_name-own}
-use Rattle.report.specs.Below.field_rules.Digits.{is_out_of_digits}
-use Rattle.report.specs.Below.field_rules.Fields.{field_named}
-use Rattle.report.specs.Below.field_rules.Repeats.{repeats}
-use Rattle.report.specs.Below.field_rules.Shrink.{is_wider_below}
+use Rattle.report.proofs.Below.line_rules.FieldRules.DigitsKept.{AreGoodDigits, digits-kept}
+use Rattle.report.proofs.Below.line_rules.FieldRules.Places.{is_same_name-equal, is_same_name-own}
+use Rattle.report.specs.Below.line_rules.FieldRules.Digits.{is_out_of_digits}
+use Rattle.report.specs.Below.line_rules.FieldRules.Fields.{field_named}
+use Rattle.report.specs.Below.line_rules.FieldRules.Repeats.{repeats}
+use Rattle.report.specs.Below.line_rules.FieldRules.Shrink.{is_wider_below}
 use Rattle.plans.proofs.Below.chart_rules.Laws.{kept-line, said-once}
 use Rattle.plans.specs.Below.chart_rules.Rules.{IsLawful, breaks}
 use Rattle.plans.specs.Below.chart_rules.declared.rule.Rule.TheVariants as rule

@@ -2,9 +2,9 @@
 -- mark. Position 1 of an amount is the units; the point stands left of the decimals, and the mark after the units.
 use Rattle.std.specs.Prelude.{◌≡◌, ℕ, ◌+◌, ◌-◌, nat_lt, true, false, List, Option, Some, None, slice_get, if◌then◌else◌}
 use Rattle.report.specs.Below.card_code.CardCode.{has_row, rows_of}
-use Rattle.report.specs.Below.field_rules.Fields.{field_named}
-use Rattle.report.specs.Below.print_rules.Items.{mark_shown}
-use Rattle.report.specs.Below.print_rules.declared.items.Figure.{Figure}
+use Rattle.report.specs.Below.line_rules.FieldRules.Fields.{field_named}
+use Rattle.report.specs.Below.line_rules.PrintRules.Items.{mark_shown}
+use Rattle.report.specs.Below.line_rules.declared.print_rules.items.Figure.{Figure}
 use Rattle.plans.specs.Below.charts.Field.{columns_of, decimals_of, is_amount}
 use Rattle.plans.specs.Below.charts.Headings.{heading_number}
 use Rattle.plans.specs.Below.charts.Levels.{level_number}

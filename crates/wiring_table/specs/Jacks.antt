@@ -1,7 +1,7 @@
 -- The jacks of a chart: which cycles print, and zero control on the wheels of amounts.
 use Rattle.std.specs.Prelude.{◌≡◌, ℕ, ◌+◌, ◌<◌, ◌≤◌, List, Contains, true}
-use Rattle.report.specs.Below.print_rules.Items.{figure_width}
-use Rattle.report.specs.Below.print_rules.declared.items.Figure.{Figure}
+use Rattle.report.specs.Below.line_rules.PrintRules.Items.{figure_width}
+use Rattle.report.specs.Below.line_rules.declared.print_rules.items.Figure.{Figure}
 use Rattle.plans.specs.Below.charts.declared.chart.Line.{Line}
 use Rattle.setups.specs.Below.hubs.declared.jack.Jack.{Jack}
 use Rattle.setups.specs.Below.hubs.declared.jack.Jack.TheVariants as jack

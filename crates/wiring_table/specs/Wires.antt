@@ -3,8 +3,8 @@ use Rattle.std.specs.Prelude.{◌≡◌, ◌≢◌, ℕ, ◌+◌, ◌-◌, ◌<�
 use Rattle.plans.specs.Below.capacity.declared.group.CounterGroup.{CounterGroup}
 use Rattle.plans.specs.Plans.{Lists}
 use Rattle.plans.specs.declared.counter.TotalCounter.TheVariants as of
-use Rattle.report.specs.Below.field_rules.Fields.{field_named}
-use Rattle.report.specs.Below.print_rules.declared.items.Figure.{Figure}
+use Rattle.report.specs.Below.line_rules.FieldRules.Fields.{field_named}
+use Rattle.report.specs.Below.line_rules.declared.print_rules.items.Figure.{Figure}
 use Rattle.plans.specs.Below.charts.Field.{columns_of, decimals_of, column_of_rule, sign_column}
 use Rattle.plans.specs.Below.charts.Levels.{control_number, level_number}
 use Rattle.plans.specs.Below.charts.declared.chart.Line.{Line}

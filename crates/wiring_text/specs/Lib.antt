@@ -3,3 +3,4 @@ pub mod Statements
 pub mod WiringFaultNumbers
 pub mod WiringFaults
 pub mod WiringText
+pub mod WiringReader

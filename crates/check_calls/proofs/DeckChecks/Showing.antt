@@ -23,7 +23,7 @@ use Rattle.check_calls.specs.DeckChecks.Listings.{IsListing, Lists, lines_told, 
 use Rattle.check_calls.specs.DeckChecks.Shown.{IsShown, IsTooLong, ShowsFaults, ShowsNone, card_named, entries_told, entry_in, entry_told}
 use Rattle.check_calls.specs.declared.deck_checks.shown.Shown.{Shown}
 use Rattle.check_calls.specs.declared.deck_checks.standing.Standing.{Standing}
-use Rattle.decks.specs.FitSoFar.{misfits_of_last}
+use Rattle.report.specs.FollowedDecks.FitSoFar.{misfits_of_last}
 use Rattle.faults.specs.declared.fault.Fault.{Fault}
 use Rattle.report.specs.Misfits.{Misfit, first_of}
 

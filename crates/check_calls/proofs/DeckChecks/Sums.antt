@@ -5,9 +5,9 @@ use Rattle.card_code.specs.MostCards.{most_cards}
 use Rattle.charts.specs.declared.chart.Line.{Line}
 use Rattle.check_calls.specs.DeckChecks.HelperStanding.{AreBeforeLast, IsAt}
 use Rattle.check_calls.specs.declared.deck_checks.standing.Standing.{Standing}
-use Rattle.decks.specs.FitSoFar.{groups_before}
-use Rattle.decks.specs.Stands.{last_of}
-use Rattle.decks.proofs.FitSoFar.{last-more}
+use Rattle.report.specs.FollowedDecks.FitSoFar.{groups_before}
+use Rattle.report.specs.FollowedDecks.Stands.{last_of}
+use Rattle.report.proofs.FollowedDecks.FitSoFar.{last-more}
 use Rattle.misfits.specs.OpenSums.{AreSumsOf, Sums}
 use Rattle.misfits.proofs.Following.{sums_go_on}
 use Rattle.report.specs.Breaks.{cleared, ended_after, taking}

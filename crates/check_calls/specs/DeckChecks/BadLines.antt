@@ -8,7 +8,7 @@ use Rattle.charts.specs.Chart.{Chart}
 use Rattle.faults.specs.Told.{deck_told, run_told}
 use Rattle.faults.specs.declared.deck.RunFault.TheVariants as deck
 use Rattle.faults.specs.declared.fault.Fault.{Fault}
-use Rattle.field_rules.specs.Fields.{fields_of}
+use Rattle.line_rules.specs.FieldRules.Fields.{fields_of}
 
 -- The card of a line, which is valid for the chart.
 pub record IsGoodLine (chart : Chart) (line card : List ℕ) : Type 0 where

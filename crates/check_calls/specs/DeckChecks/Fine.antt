@@ -1,7 +1,7 @@
 -- What is told of a deck with which nothing is wrong: `ok`, how many cards there are, the first and the last one.
 use Rattle.std.specs.Prelude.{ℕ, List, [], ◌∷◌, ◌++◌, Option, Some, None, codes, decimal, length, map, slice_get}
 use Rattle.card_code.specs.CardCode.{print_character}
-use Rattle.decks.specs.Stands.{last_of}
+use Rattle.report.specs.FollowedDecks.Stands.{last_of}
 use Rattle.page_text.specs.Pages.{without_trailing_blanks}
 
 -- a card between brackets, as its columns print, cut behind the last one that is no blank

@@ -9,8 +9,8 @@ use Rattle.check_calls.specs.DeckChecks.BadLines.{IsBadLine, IsGoodLine}
 use Rattle.check_calls.specs.DeckChecks.Listings.{IsListing, Lists, lines_told, totals_told, with_card}
 use Rattle.check_calls.specs.declared.deck_checks.standing.Standing.{Standing}
 use Rattle.check_calls.specs.DeckChecks.Fine.{last_in}
-use Rattle.decks.specs.FitSoFar.{groups_before}
-use Rattle.decks.specs.Stands.{last_of}
+use Rattle.report.specs.FollowedDecks.FitSoFar.{groups_before}
+use Rattle.report.specs.FollowedDecks.Stands.{last_of}
 use Rattle.faults.specs.declared.fault.Fault.{Fault}
 use Rattle.faults.specs.declared.fault.Fault.TheVariants as fault
 use Rattle.misfits.specs.OpenSums.{AreSumsOf, Sums}

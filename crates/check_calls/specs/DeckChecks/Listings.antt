@@ -6,7 +6,7 @@ use Rattle.card_code.specs.Lines.{lines_of}
 use Rattle.card_code.specs.MostCards.{most_cards}
 use Rattle.charts.specs.Chart.{Chart}
 use Rattle.check_calls.specs.DeckChecks.BadLines.{IsBadLine, IsGoodLine}
-use Rattle.decks.specs.FitSoFar.{misfits_of_last}
+use Rattle.report.specs.FollowedDecks.FitSoFar.{misfits_of_last}
 use Rattle.faults.specs.Lines.{fault_line}
 use Rattle.faults.specs.Told.{run_told}
 use Rattle.faults.specs.declared.deck.RunFault.TheVariants as deck

@@ -12,7 +12,7 @@ use Rattle.check_calls.specs.DeckChecks.Listings.{IsListing}
 use Rattle.faults.specs.Lines.{fault_line}
 use Rattle.faults.specs.declared.fault.Fault.{Fault}
 use Rattle.faults.specs.declared.fault.Fault.TheVariants as fault
-use Rattle.field_rules.specs.Fields.{fields_of}
+use Rattle.line_rules.specs.FieldRules.Fields.{fields_of}
 use Rattle.sheets.specs.Marks.{marked_line}
 
 -- the column to mark on the card that a fault names: its own, or of a card that is too long the first one behind the card

@@ -15,8 +15,8 @@ use Rattle.page_writer.specs.Open.{Open}
 use Rattle.page_writer.specs.Outgoing.{Breaks, Outgoing, Takes, TakesUp, Writes}
 use Rattle.page_writer.specs.Writing.{Writing}
 use Rattle.page_writer.specs.declared.fault.WriteFault.{WriteFault}
-use Rattle.placed_lines.specs.InOrder.{IsInOrder}
-use Rattle.placed_lines.specs.declared.placed_line.PlacedLine.{PlacedLine}
+use Rattle.page_text.specs.PlacedLines.InOrder.{IsInOrder}
+use Rattle.page_text.specs.declared.placed_lines.placed_line.PlacedLine.{PlacedLine}
 use Rattle.commands.specs.DeckReplays.HelperStanding.{Ends, IsUnbegun, Stops, broken, refused}
 use Rattle.commands.specs.DeckReplays.Replays.{GainsFront, GainsPages}
 use Rattle.commands.specs.declared.replays.fault.ReplayCause.{ReplayCause}

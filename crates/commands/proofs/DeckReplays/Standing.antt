@@ -17,8 +17,8 @@ use Rattle.page_writer.specs.Added.{added_all, line_after, page_after}
 use Rattle.page_writer.specs.Open.{Open, bytes_to}
 use Rattle.page_writer.specs.Outgoing.{Breaks, Outgoing, TakesUp}
 use Rattle.page_writer.specs.Writing.{Writing}
-use Rattle.placed_lines.specs.InOrder.{FollowInOrder, IsInOrder}
-use Rattle.placed_lines.specs.declared.placed_line.PlacedLine.{PlacedLine}
+use Rattle.page_text.specs.PlacedLines.InOrder.{FollowInOrder, IsInOrder}
+use Rattle.page_text.specs.declared.placed_lines.placed_line.PlacedLine.{PlacedLine}
 use Rattle.commands.proofs.DeckReplays.Upcoming.{ComeAfter, lines_join, some_after, upcoming}
 use Rattle.commands.specs.DeckReplays.HelperFeeding.{ComeNext, StopsInFeed, TakesFeed}
 use Rattle.commands.specs.DeckReplays.HelperFeeding as feed

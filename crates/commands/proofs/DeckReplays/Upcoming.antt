@@ -3,7 +3,7 @@ use Rattle.std.proofs.Common.{◌≡◌, ◌∙◌, refl, sym, ap, subst, List, 
 use Rattle.machine.proofs.SomeOutcome.{LinesFrom-some}
 use Rattle.machine.specs.Feeds.{Feeds, LinesFrom}
 use Rattle.machine.specs.Machine.{MachineState}
-use Rattle.placed_lines.specs.declared.placed_line.PlacedLine.{PlacedLine}
+use Rattle.page_text.specs.declared.placed_lines.placed_line.PlacedLine.{PlacedLine}
 use Rattle.setups.specs.Wiring.{Wiring}
 
 -- the cards from the next one on; after the end there are none

@@ -7,8 +7,8 @@ use Rattle.net.specs.Nets.{IsNetOf}
 use Rattle.page_writer.specs.Added.{added_all, line_after, page_after}
 use Rattle.page_writer.specs.Outgoing.{Breaks, TakesUp}
 use Rattle.page_writer.specs.Writing.{Writing}
-use Rattle.placed_lines.specs.InOrder.{FollowInOrder}
-use Rattle.placed_lines.specs.declared.placed_line.PlacedLine.{PlacedLine}
+use Rattle.page_text.specs.PlacedLines.InOrder.{FollowInOrder}
+use Rattle.page_text.specs.declared.placed_lines.placed_line.PlacedLine.{PlacedLine}
 use Rattle.commands.specs.declared.replays.fault.ReplayCause.{ReplayCause}
 use Rattle.commands.specs.declared.replays.fault.ReplayCause.TheVariants as cause
 use Rattle.setups.specs.Wiring.{Wiring}

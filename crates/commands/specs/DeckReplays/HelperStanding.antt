@@ -9,7 +9,7 @@ use Rattle.page_writer.specs.Added.{line_after, page_after}
 use Rattle.page_writer.specs.Open.{Open}
 use Rattle.page_writer.specs.Outgoing.{Breaks, Outgoing, TakesUp}
 use Rattle.page_writer.specs.Writing.{Writing}
-use Rattle.placed_lines.specs.declared.placed_line.PlacedLine.{PlacedLine}
+use Rattle.page_text.specs.declared.placed_lines.placed_line.PlacedLine.{PlacedLine}
 use Rattle.commands.specs.declared.replays.fault.ReplayCause.{ReplayCause}
 use Rattle.commands.specs.declared.replays.fault.ReplayCause.TheVariants as cause
 use Rattle.setups.specs.Wiring.{Wiring}

@@ -5,7 +5,7 @@ use Rattle.card_code.specs.Lines.{lines_of}
 use Rattle.machine.specs.Runs.{MachineLines}
 use Rattle.commands.specs.UnitOrders.OrdersText.{SayOrders}
 use Rattle.page_text.specs.Pages.{Pages}
-use Rattle.placed_lines.specs.declared.placed_line.PlacedLine.{PlacedLine}
+use Rattle.page_text.specs.declared.placed_lines.placed_line.PlacedLine.{PlacedLine}
 use Rattle.served_runs.specs.Runs.{IsServedRun}
 use Rattle.served_runs.specs.declared.counts.Counts.{Counts}
 use Rattle.setups.specs.Wiring.{Wiring}

@@ -9,8 +9,8 @@ use crate::replays::fault::ReplayCause;
 use card_code::Card;
 use devices::Sink;
 use machine::Machine;
+use page_text::placed_lines::PlacedLine;
 use page_writer::PageWriter;
-use placed_lines::PlacedLine;
 
 // Feeds the machine the next card, or the end; the lines are then those of this feed.
 fn feed(

@@ -5,7 +5,7 @@ use Rattle.std.proofs.lemmas.Option.{get_or_from_slice_get, slice_get_cases, sli
 use Rattle.std.proofs.Math.Seq.{drop-cons}
 use Rattle.match_calls.specs.MatchDecks.Differing.{IsFirstDifference, StartApart, lower_place, place_of}
 use Rattle.match_calls.specs.declared.match_decks.lines.Place.{Place}
-use Rattle.placed_lines.specs.declared.placed_line.PlacedLine.{PlacedLine}
+use Rattle.page_text.specs.declared.placed_lines.placed_line.PlacedLine.{PlacedLine}
 
 -- a list ends where nothing stands
 pub ends : (ys : List PlacedLine) (i : ℕ) → slice_get ys i ≡ None → length ys ≤ i

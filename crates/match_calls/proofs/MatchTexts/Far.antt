@@ -11,11 +11,11 @@ use Rattle.match_calls.specs.declared.match_texts.counts.Counts.{Counts}
 use Rattle.matching.specs.declared.answer.Matching.{Matching}
 use Rattle.panel_plans.specs.Narrow.{IsNarrowOn}
 use Rattle.panel_plans.specs.declared.narrow.Narrow.{Narrow}
-use Rattle.panel_progress.specs.Counts.{AreCountsBefore}
-use Rattle.panel_progress.specs.ExtraLines.{AreToldLines}
-use Rattle.panel_progress.specs.Forms.{form_beside}
-use Rattle.panel_progress.specs.Standings.{counts_text, standings_text}
-use Rattle.panel_progress.specs.declared.counting.LineCount.{LineCount}
+use Rattle.differences.specs.PanelProgress.Counts.{AreCountsBefore}
+use Rattle.differences.specs.PanelProgress.ExtraLines.{AreToldLines}
+use Rattle.differences.specs.PanelProgress.Forms.{form_beside}
+use Rattle.differences.specs.PanelProgress.Standings.{counts_text, standings_text}
+use Rattle.differences.specs.declared.panel_progress.counting.LineCount.{LineCount}
 use Rattle.plans.specs.Plans.{Lists}
 use Rattle.setups.specs.Tapes.{CarriageTape}
 use Rattle.setups.specs.Wiring.{Wiring}

@@ -2,7 +2,7 @@
 use Rattle.std.proofs.Common.{◌≡◌, ℕ, List, [], ◌∷◌, ◌++◌, ap, ◌∙◌, subst, sym, refl, append-nil, append_assoc, codes, length}
 use Rattle.charts.specs.declared.chart.Line.{Line}
 use Rattle.differences.specs.Differences.{IsDifference}
-use Rattle.panel_progress.specs.Forms.{form_beside}
+use Rattle.differences.specs.PanelProgress.Forms.{form_beside}
 use Rattle.match_calls.specs.MatchTexts.Helper.{GainsMissing, GainsSurplus, IsSurplus}
 use Rattle.match_calls.specs.MatchTexts.MatchText.{TellsDifference}
 use Rattle.match_calls.specs.MatchTexts.Missing.{AreLacking, LacksOnLine, missing_form, under_heading}

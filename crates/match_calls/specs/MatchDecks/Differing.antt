@@ -1,7 +1,7 @@
 -- The first line in which two lists of printed lines differ.
 use Rattle.std.specs.Prelude.{◌≡◌, ◌≢◌, ℕ, ◌==◌, ◌&&◌, ◌||◌, nat_le, nat_lt, List, [], ◌∷◌, take, drop, if◌then◌else◌}
 use Rattle.match_calls.specs.declared.match_decks.lines.Place.{Place}
-use Rattle.placed_lines.specs.declared.placed_line.PlacedLine.{PlacedLine}
+use Rattle.page_text.specs.declared.placed_lines.placed_line.PlacedLine.{PlacedLine}
 
 -- the place of a line
 abbrev pub place_of : PlacedLine → Place

@@ -4,7 +4,7 @@ use Rattle.machine.specs.Runs.{MachineLines}
 use Rattle.match_calls.specs.MatchDecks.Differing.{IsFirstDifference}
 use Rattle.match_calls.specs.declared.match_decks.lines.Place.{Place}
 use Rattle.match_calls.specs.declared.match_decks.wheels.Difference.{Difference}
-use Rattle.placed_lines.specs.declared.placed_line.PlacedLine.{PlacedLine}
+use Rattle.page_text.specs.declared.placed_lines.placed_line.PlacedLine.{PlacedLine}
 use Rattle.setups.specs.Wiring.{Wiring}
 
 -- whether a line stands at a place

@@ -1,7 +1,7 @@
 -- How much is missing and too much, by what is found of a setup.
 use Rattle.std.specs.Prelude.{◌≡◌, ℕ, ◌+◌}
 use Rattle.differences.specs.Differences.{HasSize}
-use Rattle.panel_progress.specs.Forms.{forms}
+use Rattle.differences.specs.PanelProgress.Forms.{forms}
 use Rattle.match_calls.specs.declared.match_texts.counts.Counts.{Counts}
 use Rattle.matching.specs.declared.answer.Matching.{Matching}
 use Rattle.matching.specs.declared.answer.Matching.TheVariants.{Differs, Matched}

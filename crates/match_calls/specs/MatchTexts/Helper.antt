@@ -1,7 +1,7 @@
 -- A helper of the code: what a text gains of what is missing and too much.
 use Rattle.std.specs.Prelude.{◌≡◌, ℕ, List, ◌++◌, length}
 use Rattle.charts.specs.declared.chart.Line.{Line}
-use Rattle.panel_progress.specs.Forms.{form_beside}
+use Rattle.differences.specs.PanelProgress.Forms.{form_beside}
 use Rattle.match_calls.specs.MatchTexts.Missing.{AreLacking, IsLacking}
 use Rattle.plans.specs.Plans.{Lists}
 use Rattle.setups.specs.Tapes.{CarriageTape}

@@ -1,7 +1,7 @@
 -- What is told of a setup beside a chart.
 use Rattle.std.specs.Prelude.{◌≡◌, ℕ, List, ◌++◌, codes, length}
 use Rattle.charts.specs.declared.chart.Line.{Line}
-use Rattle.panel_progress.specs.Forms.{form_beside}
+use Rattle.differences.specs.PanelProgress.Forms.{form_beside}
 use Rattle.match_calls.specs.MatchTexts.Missing.{AreLacking, under_heading}
 use Rattle.match_calls.specs.MatchTexts.PlanText.{plan_text}
 use Rattle.matching.specs.declared.answer.Matching.{Matching}

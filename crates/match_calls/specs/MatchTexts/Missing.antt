@@ -5,7 +5,7 @@ use Rattle.charts.specs.declared.statement.Statement.{Statement}
 use Rattle.charts.specs.declared.statement.Statement.TheVariants as says
 use Rattle.differences.specs.Differences.{IsDifference}
 use Rattle.legend.specs.Rows.{row_of, sentence}
-use Rattle.panel_progress.specs.Forms.{form_beside}
+use Rattle.differences.specs.PanelProgress.Forms.{form_beside}
 use Rattle.plans.specs.Plans.{Lists}
 use Rattle.setups.specs.Tapes.{CarriageTape}
 use Rattle.setups.specs.Wiring.{Wiring}

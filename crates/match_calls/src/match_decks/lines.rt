@@ -3,7 +3,7 @@
 ghost use Rattle.std.specs.Prelude.{◌≡◌, ◌↔◌, IfNone, IfSome, IsTrue};
 ghost use Rattle.match_calls.specs.MatchDecks.Differing.{IsFirstDifference, lower_place, place_of};
 
-use placed_lines::PlacedLine;
+use page_text::placed_lines::PlacedLine;
 
 /// A place of a report.
 #[derive(Clone, Copy, Debug, PartialEq, Eq)]

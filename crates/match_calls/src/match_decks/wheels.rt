@@ -5,7 +5,7 @@ ghost use Rattle.match_calls.specs.MatchDecks.Differing.{IsFirstDifference};
 ghost use Rattle.match_calls.specs.MatchDecks.Wheels.{AreAlike, IsDifferenceOf, IsFirstApart, IsToldWheel, is_at, text_at};
 
 use crate::match_decks::lines::{Place, first_difference};
-use placed_lines::{LINE_WHEELS, PlacedLine};
+use page_text::placed_lines::{LINE_WHEELS, PlacedLine};
 
 /// Where two reports differ first.
 #[derive(Clone, Copy, Debug, PartialEq, Eq)]

@@ -2,9 +2,9 @@
 
 ghost use Rattle.match_calls.specs.MatchTexts.Counts.{AreCountsOf};
 
+use differences::panel_progress::forms;
 use differences::size;
 use matching::Matching;
-use panel_progress::forms;
 
 /// How much is missing and how much is too much: wires, jacks and stops, and the form, where it is another.
 #[derive(Clone, Copy, Debug, PartialEq, Eq)]

@@ -2,7 +2,7 @@
 
 ghost use Rattle.std.specs.Prelude.{◌≡◌, ◌++◌, Contains, IfOk, OnOk, length};
 ghost use Rattle.std.specs.String.{string_bytes};
-ghost use Rattle.panel_progress.specs.Forms.{form_beside};
+ghost use Rattle.differences.specs.PanelProgress.Forms.{form_beside};
 ghost use Rattle.match_calls.specs.MatchTexts.Helper.{GainsLacking, GainsMissing, GainsSurplus, IsSurplus};
 ghost use Rattle.match_calls.specs.MatchTexts.Missing.{AreLacking, LacksOnLine, line_heading, missing_form};
 ghost use Rattle.plans.specs.Plans.{ServesChart};
@@ -10,9 +10,9 @@ ghost use Rattle.plans.specs.Plans.{ServesChart};
 use chart_rules::Chart;
 use charts::{Line, Statement};
 use differences::difference;
+use differences::panel_progress::is_same_form;
 use legend::Row;
 use numerals::push_numbered;
-use panel_progress::is_same_form;
 use plans::Plan;
 use setups::{Setup, Tape};
 use std::alloc::{AllocError, Global};

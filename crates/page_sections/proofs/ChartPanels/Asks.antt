@@ -7,7 +7,7 @@ use Rattle.std.proofs.lemmas.List.Elements.{All-append, All-cons, All-nil}
 use Rattle.std.proofs.lemmas.Option.{same_Some, slice_get_within}
 use Rattle.charts.specs.declared.chart.Line.{Line}
 use Rattle.hubs.specs.declared.hub.Hub.{Hub}
-use Rattle.panel_drawing.specs.declared.drawing.PanelWire.{PanelWire}
+use Rattle.drawings.specs.declared.panel_drawing.drawing.PanelWire.{PanelWire}
 use Rattle.plans.specs.Plans.{Lists}
 use Rattle.setups.specs.Wiring.{Wiring, HasWire}
 use Rattle.wire_gen.specs.OfLine.{IsSetupOfLine}

@@ -7,7 +7,7 @@ use Rattle.std.specs.declared.alloc.Global.{Global}
 use Rattle.std.proofs.lemmas.Bool.{eqb-true, eq-eqb}
 use Rattle.std.proofs.lemmas.List.{map-append, take_all, take_more}
 use Rattle.std.proofs.lemmas.List.Elements.{All-append, All-cons, All-nil}
-use Rattle.placed_lines.specs.declared.placed_line.PlacedLine.{PlacedLine}
+use Rattle.page_text.specs.declared.placed_lines.placed_line.PlacedLine.{PlacedLine}
 use Rattle.setups.specs.Wiring.{Wiring}
 use Rattle.explanations.specs.Explanations.{ExplainsBy, character_on}
 use Rattle.explanations.specs.declared.explanation.Explanation.{Explanation}

@@ -2,8 +2,8 @@
 use Rattle.std.proofs.Common.{◌≡◌, refl, ℕ, ◌==◌, false, List, [], ◌∷◌, ◌++◌, length}
 use Rattle.markup.specs.Pieces.{numbered_words}
 use Rattle.markup.proofs.Pieces.{and_more}
-use Rattle.panel_drawing.specs.Helper.{GainsHubs}
-use Rattle.panel_drawing.specs.declared.drawing.PanelWire.{PanelWire}
+use Rattle.drawings.specs.PanelDrawing.Helper.{GainsHubs}
+use Rattle.drawings.specs.declared.panel_drawing.drawing.PanelWire.{PanelWire}
 use Rattle.page_sections.specs.declared.wheel_sections.told.ToldWheel.{ToldWheel}
 use Rattle.page_sections.specs.WireSections.Helper.{GainsWireSections}
 use Rattle.page_sections.specs.WireSections.Sections.{hub_section, some_text, through_text, wire_sections_text}

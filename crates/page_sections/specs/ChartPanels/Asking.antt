@@ -2,7 +2,7 @@
 use Rattle.std.specs.Prelude.{◌≡◌, ◌⊎◌, ℕ, ◌<◌, List, All, Some, map, slice_get}
 use Rattle.charts.specs.declared.chart.Line.{Line}
 use Rattle.hubs.specs.declared.hub.Hub.{Hub}
-use Rattle.panel_drawing.specs.declared.drawing.PanelWire.{PanelWire}
+use Rattle.drawings.specs.declared.panel_drawing.drawing.PanelWire.{PanelWire}
 use Rattle.plans.specs.Plans.{Lists}
 use Rattle.setups.specs.Wires.{AreWiresOf}
 use Rattle.setups.specs.Wiring.{Wiring}

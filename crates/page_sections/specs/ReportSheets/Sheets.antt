@@ -10,7 +10,7 @@ use Rattle.net.specs.declared.cycle.Cycle.TheVariants.{RunIn, Card, Prog, Head}
 use Rattle.page_links.specs.Links.{card_word}
 use Rattle.page_links.specs.declared.shown.Shown.{Shown}
 use Rattle.page_text.specs.Pages.{last_page, text_at, without_trailing_blanks}
-use Rattle.placed_lines.specs.declared.placed_line.PlacedLine.{PlacedLine}
+use Rattle.page_text.specs.declared.placed_lines.placed_line.PlacedLine.{PlacedLine}
 
 -- the name of a row, and that of a wheel of it
 abbrev pub row_name : (page line : ℕ) → List ℕ

@@ -6,11 +6,11 @@ use Rattle.std.specs.String.{string_bytes}
 use Rattle.std.specs.declared.alloc.Global.{Global}
 use Rattle.explanations.specs.declared.explanation.Explanation.{Explanation}
 use Rattle.hubs.specs.declared.hub.Hub.{Hub}
-use Rattle.panel_drawing.specs.Drawing.{picture_open, way_curve}
+use Rattle.drawings.specs.PanelDrawing.Drawing.{picture_open, way_curve}
 use Rattle.page_links.specs.Links.{card_link, is_shown}
 use Rattle.page_links.specs.declared.shown.Shown.{Shown}
-use Rattle.sum_places.specs.Places.{sum_behind, sum_link}
-use Rattle.sum_places.specs.declared.places.SumPlace.{SumPlace}
+use Rattle.page_links.specs.SumPlaces.Places.{sum_behind, sum_link}
+use Rattle.page_links.specs.declared.sum_places.places.SumPlace.{SumPlace}
 use Rattle.wheel_ledgers.specs.declared.chart_totals.TitledAccount.{TitledAccount}
 use Rattle.page_sections.specs.ReportSheets.Sheets.{row_name, wheel_name}
 use Rattle.page_sections.specs.WheelSections.Words.{linked}

@@ -6,9 +6,9 @@ use Rattle.std.specs.List.{flat_map}
 use Rattle.hubs.specs.declared.hub.Hub.{Hub}
 use Rattle.markup.specs.Escapes.{escaped}
 use Rattle.markup.specs.Pieces.{numbered_words}
-use Rattle.panel_drawing.specs.Drawing.{AreHubs, ends_at, has_wire_at, picture_open, way_curve, wire_name}
+use Rattle.drawings.specs.PanelDrawing.Drawing.{AreHubs, ends_at, has_wire_at, picture_open, way_curve, wire_name}
 use Rattle.hubs.specs.HubText.{hub_text}
-use Rattle.panel_drawing.specs.declared.drawing.PanelWire.{PanelWire}
+use Rattle.drawings.specs.declared.panel_drawing.drawing.PanelWire.{PanelWire}
 use Rattle.page_sections.specs.ReportSheets.Sheets.{link_text}
 use Rattle.page_sections.specs.WheelSections.Sections.{section_close}
 use Rattle.page_sections.specs.declared.wheel_sections.told.ToldWheel.{ToldWheel}

@@ -5,8 +5,8 @@ ghost use Rattle.plans.specs.Plans.{ServesChart};
 ghost use Rattle.page_sections.specs.ChartPanels.Asking.{AreAsked, AreChartWires, IsAsked, IsLineOf};
 
 use chart_rules::Chart;
+use drawings::panel_drawing::PanelWire;
 use hubs::Hub;
-use panel_drawing::PanelWire;
 use plans::Plan;
 use setups::Setup;
 use std::alloc::{AllocError, Global};

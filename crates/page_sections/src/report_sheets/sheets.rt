@@ -11,8 +11,8 @@ use markup::push_escaped;
 use net::Cycle;
 use numerals::{push_between, push_numbered};
 use page_links::{Shown, write_card_word};
+use page_text::placed_lines::PlacedLine;
 use page_text::{last_page, without_trailing_blanks};
-use placed_lines::PlacedLine;
 use std::alloc::AllocError;
 
 /// Writes the name of a row: as `p1l2`. Fails only where no memory is left.

@@ -9,12 +9,12 @@ ghost use Rattle.page_sections.specs.WheelSections.Sections.{back_text, card_tex
 use crate::report_sheets::{write_row_name, write_wheel_name};
 use crate::wheel_sections::told::ToldWheel;
 use crate::wheel_sections::words::write_linked;
+use drawings::panel_drawing::{write_picture_open, write_way};
 use explanations::Explanation;
 use hubs::Hub;
+use page_links::sum_places::{SumPlace, sum_behind, write_sum_link};
 use page_links::{Shown, write_card_link};
-use panel_drawing::{write_picture_open, write_way};
 use std::alloc::AllocError;
-use sum_places::{SumPlace, sum_behind, write_sum_link};
 use wheel_ledgers::TitledAccount;
 
 #[tactic(auto, unfolding(crate::specs::WheelSections::Sections::way_text))]

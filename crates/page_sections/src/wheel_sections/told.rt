@@ -9,7 +9,7 @@ ghost use Rattle.page_sections.specs.WheelSections.Told.{AreTold, printed_by, pr
 use card_code::Card;
 use explanation_text::wheel_text;
 use explanations::{Explanation, FoundLine, LineWays};
-use placed_lines::PlacedLine;
+use page_text::placed_lines::PlacedLine;
 use setups::Setup;
 use std::alloc::{AllocError, Global};
 

@@ -4,7 +4,7 @@ ghost use Rattle.std.specs.Prelude.{◌≡◌, ◌++◌, OnOk};
 ghost use Rattle.std.specs.List.{flat_map};
 ghost use Rattle.std.specs.String.{string_bytes};
 ghost use Rattle.markup.specs.Pieces.{numbered_words};
-ghost use Rattle.panel_drawing.specs.Helper.{GainsHubs};
+ghost use Rattle.drawings.specs.PanelDrawing.Helper.{GainsHubs};
 ghost use Rattle.page_sections.specs.WireSections.Helper.{GainsWireSections};
 ghost use Rattle.page_sections.specs.WireSections.Sections.{hub_element, hub_head, hub_open, hub_section, link_at, path_at, wire_link, wire_link_open};
 
@@ -12,9 +12,11 @@ use crate::wheel_sections::{ToldWheel, write_section_close};
 use crate::wire_sections::passing::Part;
 use crate::wire_sections::through::write_through;
 use crate::wire_sections::wire_sections::{write_all, write_asking, write_path};
+use drawings::panel_drawing::{
+    PanelWire, ends_at, has_wire_at, write_picture_open, write_wire_name,
+};
 use hubs::{Hub, write_hub};
 use numerals::push_between;
-use panel_drawing::{PanelWire, ends_at, has_wire_at, write_picture_open, write_wire_name};
 use std::alloc::{AllocError, Global};
 
 // The front of a link to a wire.
@@ -139,7 +141,7 @@ fn write_hub_section(
     write_element(alloc, text, wires, told, number, hub)
 }
 
-#[tactic(auto, using(panel_drawing::proofs::Written::hubs_none, panel_drawing::proofs::Written::some_hub))]
+#[tactic(auto, using(drawings::proofs::PanelDrawing::Written::hubs_none, drawings::proofs::PanelDrawing::Written::some_hub))]
 // The elements of all hubs at which a wire has an end.
 fn write_hubs(
     alloc: Global,

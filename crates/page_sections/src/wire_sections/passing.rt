@@ -6,8 +6,8 @@ ghost use Rattle.net.specs.HubSets.{is_hub};
 ghost use Rattle.page_sections.specs.WireSections.Passing.{came_through, goes_along, has_passed, leads_on, leads_through, visits};
 
 use crate::wheel_sections::ToldWheel;
+use drawings::panel_drawing::{PanelWire, has_number};
 use hubs::Hub;
-use panel_drawing::{PanelWire, has_number};
 
 /// A part of the panel through which impulses come.
 #[derive(Clone, Copy, Debug)]

@@ -7,8 +7,8 @@ ghost use Rattle.page_sections.specs.WireSections.Sections.{asking_text, line_li
 use crate::wheel_sections::{ToldWheel, write_section_close};
 use crate::wire_sections::passing::Part;
 use crate::wire_sections::through::write_through;
+use drawings::panel_drawing::{PanelWire, write_picture_open, write_way, write_wire_name};
 use numerals::push_between;
-use panel_drawing::{PanelWire, write_picture_open, write_way, write_wire_name};
 use std::alloc::{AllocError, Global};
 
 // The front of the link to a line of the chart.

@@ -1,19 +1,19 @@
 -- What it is for a setup to print a chart's reports, and to begin them.
 use Rattle.std.specs.Prelude.{◌≡◌, ℕ, ◌≤◌, List, ◌∷◌, ◌++◌, length, All}
-use Rattle.decks.specs.Below.card_code.MostCards.{most_cards}
-use Rattle.decks.specs.Below.placed_lines.declared.placed_line.PlacedLine.{PlacedLine}
-use Rattle.decks.specs.Below.chart_rules.ValidCard.{IsValidCard}
-use Rattle.decks.specs.Below.charts.Chart.{Chart}
-use Rattle.decks.specs.FitBefore.{FitBefore}
-use Rattle.decks.specs.Stands.{report_before}
+use Rattle.report.specs.Below.card_code.MostCards.{most_cards}
+use Rattle.report.specs.Below.page_text.declared.placed_lines.placed_line.PlacedLine.{PlacedLine}
+use Rattle.report.specs.Below.chart_rules.ValidCard.{IsValidCard}
+use Rattle.report.specs.Below.charts.Chart.{Chart}
+use Rattle.report.specs.FollowedDecks.FitBefore.{FitBefore}
+use Rattle.report.specs.FollowedDecks.Stands.{report_before}
 use Rattle.machine.specs.Below.setups.Wiring.{Wiring}
 use Rattle.machine.specs.Feeds.{FedLines}
 use Rattle.machine.specs.Machine.{MachineState, machine_at_start}
 use Rattle.machine.specs.Runs.{MachineLines}
-use Rattle.decks.specs.Below.page_text.Pages.{Pages}
-use Rattle.decks.specs.Below.report.ChartForm.{form_of}
-use Rattle.decks.specs.Below.report.Report.{Report}
-use Rattle.decks.specs.Below.report.Totals.{Fits}
+use Rattle.report.specs.Below.page_text.Pages.{Pages}
+use Rattle.report.specs.ChartForm.{form_of}
+use Rattle.report.specs.Report.{Report}
+use Rattle.report.specs.Totals.{Fits}
 
 -- a valid deck: its cards are valid for the chart, at most 999,999 of them
 pub record IsDeck (chart : Chart) (cards : List (List ℕ)) : Type 0 where

@@ -2,7 +2,7 @@ use Rattle.std.proofs.Common.{sym, subst, rules}
 use Rattle.page_writer.proofs.Texts.{from_first}
 use Rattle.page_writer.proofs.WholePages.{whole_pages}
 use Rattle.page_writer.proofs.writer.write_pages.Goals as goal
-use Rattle.placed_lines.specs.InOrder.{FollowInOrder}
+use Rattle.page_text.specs.PlacedLines.InOrder.{FollowInOrder}
 
 pub add_all-requires : goal.add_all-requires
 add_all-requires g c =

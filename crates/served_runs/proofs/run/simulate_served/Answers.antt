@@ -3,7 +3,7 @@ use Rattle.machine.proofs.FewCycles.{IsSupplied, ahead}
 use Rattle.machine.proofs.Order.{MachineLines-in_order}
 use Rattle.machine.specs.Machine.{MachineState}
 use Rattle.machine.specs.Runs.{InRun, cards_moved, run_at_start}
-use Rattle.placed_lines.specs.declared.placed_line.PlacedLine.{PlacedLine}
+use Rattle.page_text.specs.declared.placed_lines.placed_line.PlacedLine.{PlacedLine}
 use Rattle.served_runs.specs.Course.{IsPanelOf}
 use Rattle.served_runs.specs.Runs.{no_counts}
 use Rattle.served_runs.proofs.Running.{RunSoFar, goes_on, run_all, run_none, run_step, served_lines, start_ahead, start_supplied}

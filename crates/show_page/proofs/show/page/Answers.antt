@@ -4,11 +4,11 @@ use Rattle.std.specs.String.{string_bytes}
 use Rattle.explanations.specs.Pages.{AreFoundLines}
 use Rattle.explanations.specs.declared.found.FoundLine.{FoundLine}
 use Rattle.page_links.specs.declared.shown.ShownRun.{ShownRun}
-use Rattle.placed_lines.specs.declared.placed_line.PlacedLine.{PlacedLine}
+use Rattle.page_text.specs.declared.placed_lines.placed_line.PlacedLine.{PlacedLine}
 use Rattle.setups.specs.Tapes.{CarriageTape}
 use Rattle.page_sections.specs.WheelSections.Told.{AreTold, printed_places}
 use Rattle.page_sections.specs.declared.wheel_sections.told.ToldWheel.{ToldWheel}
-use Rattle.sum_places.specs.declared.places.SumPlace.{SumPlace}
+use Rattle.page_links.specs.declared.sum_places.places.SumPlace.{SumPlace}
 use Rattle.sum_sections.specs.Sums.{AreSums, IsExplained, place_of}
 use Rattle.sum_sections.specs.declared.sums.PageSum.{PageSum}
 use Rattle.traces.specs.Parts.{IsTracePart}

@@ -1,6 +1,6 @@
 use Rattle.std.proofs.Common.{◌≡◌, ◌∙◌, ap, ℕ, List, ◌++◌, codes}
 use Rattle.std.specs.String.{string_bytes}
-use Rattle.ledger_text.specs.Entries.{gap_line}
+use Rattle.ledgers.specs.LedgerText.Entries.{gap_line}
 use Rattle.markup.specs.Escapes.{escaped}
 use Rattle.markup.proofs.Pieces.{pushed, where_ok}
 use Rattle.sum_sections.proofs.Framed.{three}

@@ -2,7 +2,7 @@ use Rattle.std.proofs.Common.{◌≡◌, ◌++◌, codes}
 use Rattle.std.specs.String.{string_bytes}
 use Rattle.markup.proofs.Pieces.{pushed, where_ok}
 use Rattle.sum_sections.proofs.Framed.{three}
-use Rattle.sum_places.specs.Places.{sum_name}
+use Rattle.page_links.specs.SumPlaces.Places.{sum_name}
 use Rattle.sum_sections.specs.Sections.{open_text}
 use Rattle.sum_sections.proofs.sections.write_open.Goals as goal
 

@@ -1,7 +1,7 @@
 use Rattle.std.proofs.Common.{◌≡◌, ◌∙◌, sym, ap, subst, ℕ, List, [], ◌∷◌, ◌++◌, Bool}
 use Rattle.std.specs.Prelude.{map}
-use Rattle.sum_places.specs.Places.{has_sum, sum_at}
-use Rattle.sum_places.specs.declared.places.SumPlace.{SumPlace}
+use Rattle.page_links.specs.SumPlaces.Places.{has_sum, sum_at}
+use Rattle.page_links.specs.declared.sum_places.places.SumPlace.{SumPlace}
 use Rattle.sum_sections.specs.Sums.{TakesSum, place_of}
 use Rattle.sum_sections.specs.Sums.TakesSum.{none as none-taken, known as known-taken, new as new-taken}
 use Rattle.sum_sections.specs.declared.sums.PageSum.{PageSum}

@@ -1,4 +1,4 @@
-use Rattle.wiring_reader.proofs.Answered.{one_setup, no_fault, one_fault}
+use Rattle.wiring_text.proofs.WiringReader.Answered.{one_setup, no_fault, one_fault}
 use Rattle.wire_chart.proofs.OneText.{one_text, one_text_in}
 use Rattle.wire_chart.proofs.ReadBack.{read_back}
 use Rattle.wire_chart.proofs.laws.wiring_texts_and_setups_are_one_to_one.Goals as goal

@@ -1,5 +1,5 @@
 use Rattle.hub_table.specs.HubTable.{entry_kinds, exit_kinds}
-use Rattle.wiring_reader.specs.Reading.{letters_spelled}
+use Rattle.wiring_text.specs.WiringReader.Reading.{letters_spelled}
 use Rattle.wiring_slips.proofs.hub.letters_of.Goals as goal
 
 pub returns : goal.returns

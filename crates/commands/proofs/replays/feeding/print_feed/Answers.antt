@@ -2,8 +2,8 @@ use Rattle.std.proofs.Common.{◌∙◌, sym, subst, refl, List}
 use Rattle.std.proofs.lemmas.Result.{err_from_is_err_and}
 use Rattle.page_writer.specs.Added.{added_all}
 use Rattle.page_writer.specs.Outgoing.{Breaks}
-use Rattle.placed_lines.specs.InOrder.{FollowInOrder}
-use Rattle.placed_lines.specs.declared.placed_line.PlacedLine.{PlacedLine}
+use Rattle.page_text.specs.PlacedLines.InOrder.{FollowInOrder}
+use Rattle.page_text.specs.declared.placed_lines.placed_line.PlacedLine.{PlacedLine}
 use Rattle.commands.specs.DeckReplays.HelperFeeding.{StopsInFeed, broken, refused}
 use Rattle.commands.specs.declared.replays.fault.ReplayCause.{ReplayCause}
 use Rattle.commands.proofs.replays.feeding.print_feed.Goals as goal

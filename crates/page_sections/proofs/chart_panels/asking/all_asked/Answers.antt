@@ -1,7 +1,7 @@
 use Rattle.std.proofs.Common.{List, [], subst, sym}
 use Rattle.hubs.specs.declared.hub.Hub.{Hub}
 use Rattle.hubs.specs.declared.hub.Hub.TheVariants.{FR}
-use Rattle.panel_drawing.specs.declared.drawing.PanelWire.{PanelWire}
+use Rattle.drawings.specs.declared.panel_drawing.drawing.PanelWire.{PanelWire}
 use Rattle.page_sections.specs.ChartPanels.Asking.{AreAsked}
 use Rattle.page_sections.proofs.ChartPanels.Asks.{asked_all, asked_item, asked_none}
 use Rattle.page_sections.proofs.chart_panels.asking.all_asked.Goals as goal

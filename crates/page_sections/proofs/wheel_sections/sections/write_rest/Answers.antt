@@ -2,7 +2,7 @@ use Rattle.std.proofs.Common.{◌≡◌, ◌++◌}
 use Rattle.std.specs.List.{flat_map}
 use Rattle.std.specs.String.{string_bytes}
 use Rattle.markup.proofs.Pieces.{and_more, where_ok}
-use Rattle.panel_drawing.specs.Drawing.{picture_open}
+use Rattle.drawings.specs.PanelDrawing.Drawing.{picture_open}
 use Rattle.page_sections.specs.WheelSections.Sections.{rest_text, section_close, way_text, words_text}
 use Rattle.page_sections.proofs.wheel_sections.sections.write_rest.Goals as goal
 

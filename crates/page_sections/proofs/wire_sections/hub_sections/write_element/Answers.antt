@@ -3,7 +3,7 @@ use Rattle.std.specs.List.{flat_map}
 use Rattle.std.specs.String.{string_bytes}
 use Rattle.markup.specs.Pieces.{numbered_words}
 use Rattle.markup.proofs.Pieces.{and_more, where_ok}
-use Rattle.panel_drawing.specs.Drawing.{picture_open}
+use Rattle.drawings.specs.PanelDrawing.Drawing.{picture_open}
 use Rattle.page_sections.specs.WheelSections.Sections.{section_close}
 use Rattle.page_sections.specs.WireSections.Sections.{hub_element, hub_head, link_at, path_at, through_links, through_text}
 use Rattle.page_sections.specs.declared.wire_sections.passing.Part.TheVariants as part

@@ -1,5 +1,5 @@
 use Rattle.std.specs.String.{string_bytes}
-use Rattle.panel_drawing.proofs.Written.{hubs_more}
+use Rattle.drawings.proofs.PanelDrawing.Written.{hubs_more}
 use Rattle.page_sections.specs.WireSections.Sections.{hub_section}
 use Rattle.page_sections.proofs.wire_sections.hub_sections.write_hubs.Goals as goal
 

@@ -1,5 +1,5 @@
 use Rattle.std.specs.String.{string_bytes}
-use Rattle.panel_drawing.specs.Helper.{GainsHubs}
+use Rattle.drawings.specs.PanelDrawing.Helper.{GainsHubs}
 use Rattle.page_sections.specs.WireSections.Sections.{hub_section}
 use Rattle.page_sections.proofs.wire_sections.hub_sections.write_hubs.Given as goal
 

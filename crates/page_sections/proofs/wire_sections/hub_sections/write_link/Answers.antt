@@ -2,7 +2,7 @@ use Rattle.std.proofs.Common.{◌≡◌, ◌++◌}
 use Rattle.std.specs.Prelude.{codes}
 use Rattle.std.specs.String.{string_bytes}
 use Rattle.markup.proofs.Pieces.{and_more, pushed, where_ok}
-use Rattle.panel_drawing.specs.Drawing.{wire_name}
+use Rattle.drawings.specs.PanelDrawing.Drawing.{wire_name}
 use Rattle.page_sections.specs.WireSections.Sections.{asking_text, wire_link, wire_link_open}
 use Rattle.page_sections.proofs.wire_sections.hub_sections.write_link.Goals as goal
 

@@ -4,7 +4,7 @@ use Rattle.page_writer.proofs.Sending.{total_after}
 use Rattle.page_writer.proofs.writer.PageWriter.add.Goals as goal
 use Rattle.page_writer.specs.Added.{added}
 use Rattle.page_writer.specs.Writing.{Writing}
-use Rattle.placed_lines.specs.InOrder.{IsAfter, IsOnForm}
+use Rattle.page_text.specs.PlacedLines.InOrder.{IsAfter, IsOnForm}
 
 pub add_line-requires-clause-fits : goal.add_line-requires-clause-fits
 add_line-requires-clause-fits g c =

@@ -1,6 +1,0 @@
-use Rattle.allocate.specs.Exceeded.{in_order}
-use Rattle.capacity_faults.proofs.faults.capacity_faults.Goals as goal
-
-pub returns : goal.returns
-unfolding in_order
-returns c = c.faults_among.ensures

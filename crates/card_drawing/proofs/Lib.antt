@@ -1,2 +1,0 @@
-mod Punched
-pub mod Written

@@ -1,8 +1,0 @@
-use Rattle.card_drawing.proofs.Punched.{all_punched, punched_all}
-use Rattle.card_drawing.proofs.laws.holes_are_punches.Goals as goal
-
-pub returns-clause-holes : goal.returns-clause-holes
-returns-clause-holes c = all_punched
-
-pub returns-clause-punches : goal.returns-clause-punches
-returns-clause-punches c = punched_all

@@ -1,3 +1,0 @@
-mod Finding
-mod Refusing
-mod Telling

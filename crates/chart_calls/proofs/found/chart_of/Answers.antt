@@ -1,8 +1,0 @@
-use Rattle.std.proofs.lemmas.Result.{err_from_is_err_and}
-use Rattle.chart_calls.proofs.Refusing.{text_refused}
-use Rattle.chart_calls.proofs.found.chart_of.Goals as goal
-
-pub returns-in_err-nearest_chart-clause-refused : goal.returns-in_err-nearest_chart-clause-refused
-returns-in_err-nearest_chart-clause-refused c =
-    let exit = err_from_is_err_and c.from_residual.result c.from_residual.ensures.1 in
-    rw exit.1 (text_refused c.in_err-nearest_chart.field-0.0 exit.0 c.in_err-nearest_chart.ensures.refused exit.2)

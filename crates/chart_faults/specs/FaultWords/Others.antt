@@ -1,0 +1,73 @@
+-- The other line that a line meets by the rule that it breaks, and what is said of items and their wheels.
+use Rattle.std.specs.Prelude.{ℕ, ◌-◌, Bool, false, List, [], ◌∷◌, ◌++◌, Option, Some, None, codes, decimal, find}
+use Rattle.charts.specs.Name.{is_same_name, name_text}
+use Rattle.charts.specs.declared.chart.Line.{Line}
+use Rattle.charts.specs.declared.statement.Field.{Field}
+use Rattle.charts.specs.declared.statement.Statement.{Statement}
+use Rattle.charts.specs.declared.statement.Statement.TheVariants as says
+use Rattle.line_rules.specs.FieldRules.Repeats.{breaks_line_twice}
+use Rattle.line_rules.specs.FieldRules.Shrink.{breaks_digits_shrink}
+use Rattle.line_slips.specs.Near.{is_near}
+use Rattle.line_rules.specs.PrintRules.Items.{item_of}
+use Rattle.line_rules.specs.PrintRules.Wheels.{breaks_wheel_overlap, breaks_wheel_clash}
+use Rattle.line_rules.specs.declared.print_rules.items.Item.{Item}
+use Rattle.chart_rules.specs.declared.rule.Rule.{Rule}
+use Rattle.chart_rules.specs.declared.rule.Rule.TheVariants as rule
+use Rattle.chart_faults.specs.FaultWords.Parts.{name_on}
+
+-- whether a line describes a name
+abbrev pub describes : Option (List ℕ) → Statement → Bool
+describes (Some name) (says.Field field) = is_same_name field.name name
+describes name other = false
+
+-- whether a line describes a name that is a letter away from another
+abbrev pub describes_near : Option (List ℕ) → Statement → Bool
+describes_near (Some name) (says.Field field) = is_near (name_text name) (name_text field.name)
+describes_near name other = false
+
+-- whether another line is one that a line meets by a rule: with that line alone it would break the rule too; by an unknown name it meets the
+-- line of a name that may be meant
+abbrev pub meets : Rule → List Field → Statement → Line → Bool
+meets rule.NameTwice fields statement other = describes (name_on statement) other.statement
+meets rule.UnknownName fields statement other = describes_near (name_on statement) other.statement
+meets rule.LineTwice fields statement other = breaks_line_twice (other ∷ []) statement
+meets rule.DigitsShrink fields statement other = breaks_digits_shrink (other ∷ []) statement
+meets rule.WheelOverlap fields statement other = breaks_wheel_overlap fields (other ∷ []) statement
+meets rule.WheelClash fields statement other = breaks_wheel_clash fields (other ∷ []) statement
+meets each fields statement other = false
+
+-- the first of some lines that a line meets
+unfoldable pub met : Rule → List Field → List Line → Statement → Option Line
+met each fields among statement = find (meets each fields statement) among
+
+-- a line that is met, by its number
+unfoldable pub number_words : Option Line → List ℕ
+number_words None = codes "another line"
+number_words (Some line) = codes "line " ++ decimal line.number
+
+-- what a line is about: a name, or a literal
+abbrev pub named_words : Option (List ℕ) → List ℕ
+named_words None = codes "the literal"
+named_words (Some name) = name_text name
+
+unfoldable pub subject : Statement → List ℕ
+subject statement = named_words (name_on statement)
+
+-- numbers from one to another, behind words
+unfoldable pub range_text : List ℕ → ℕ → ℕ → List ℕ
+range_text before first last = (before ++ decimal first) ++ (codes " to " ++ decimal last)
+
+-- the wheels of an item
+unfoldable pub wheel_words : Option Item → List ℕ
+wheel_words None = []
+wheel_words (Some item) = range_text (codes " takes wheels ") item.first (item.end - 1)
+
+-- an item with its wheels
+unfoldable pub taken_words : List Field → Statement → List ℕ
+taken_words fields statement = subject statement ++ wheel_words (item_of fields statement)
+
+-- the item that is met, with its line and its wheels
+unfoldable pub meeting_words : List Field → Option Line → List ℕ
+meeting_words fields None = []
+meeting_words fields (Some line) =
+    codes ", and " ++ subject line.statement ++ codes " of line " ++ decimal line.number ++ wheel_words (item_of fields line.statement)

@@ -1,0 +1,226 @@
+-- What is wrong, in the words of the line that breaks a rule, and what helps.
+use Rattle.std.specs.Prelude.{ℕ, ◌&&◌, Bool, true, false, List, [], ◌++◌, Option, Some, None, codes, decimal, nat_le, if◌then◌else◌}
+use Rattle.charts.specs.Field.{columns_of, decimals_of, sign_column}
+use Rattle.charts.specs.Levels.{control_number, level_number}
+use Rattle.charts.specs.Name.{name_text}
+use Rattle.charts.specs.declared.chart.Line.{Line}
+use Rattle.charts.specs.declared.level.ControlLevel.{ControlLevel}
+use Rattle.charts.specs.declared.statement.After.TheVariants as after
+use Rattle.charts.specs.declared.statement.Field.{Field}
+use Rattle.charts.specs.declared.statement.Printing.TheVariants as print
+use Rattle.charts.specs.declared.statement.Statement.{Statement}
+use Rattle.charts.specs.declared.statement.Statement.TheVariants as says
+use Rattle.line_rules.specs.FieldRules.Control.{level_needed}
+use Rattle.line_rules.specs.FieldRules.Coupled.{has_sign, needs_two, positions_of}
+use Rattle.line_rules.specs.FieldRules.Fields.{first_named}
+use Rattle.line_rules.specs.FieldRules.Names.{names_amount}
+use Rattle.chart_rules.specs.declared.rule.Rule.{Rule}
+use Rattle.chart_rules.specs.declared.rule.Rule.TheVariants as rule
+use Rattle.chart_faults.specs.FaultWords.FormWords.{form_words}
+use Rattle.chart_faults.specs.FaultWords.Parts.{name_on}
+use Rattle.chart_faults.specs.FaultWords.Others.{meeting_words, met, number_words, range_text, subject, taken_words}
+
+-- the field that a line is about, if its name has one
+abbrev pub field_on : List Field → Option (List ℕ) → Option Field
+field_on fields (Some name) = first_named fields name
+field_on fields None = None
+
+-- the sign column of a field
+unfoldable pub sign_words : Option ℕ → List ℕ
+sign_words None = []
+sign_words (Some column) = codes " and its sign in column " ++ decimal column
+
+-- the columns of a name
+unfoldable pub columns_text : List ℕ → ℕ → ℕ → List ℕ
+columns_text name first last = name_text name ++ range_text (codes " has columns ") first last
+
+-- the columns of a field
+unfoldable pub column_words : Statement → List ℕ
+column_words (says.Field field) = columns_text field.name field.first field.last ++ sign_words (sign_column field.kind)
+column_words other = []
+
+-- the digits and decimals of a name
+unfoldable pub size_text : List ℕ → ℕ → ℕ → List ℕ
+size_text name digits decimals = name_text name ++ codes " has " ++ decimal digits ++ codes " digits and " ++ decimal decimals ++ codes " decimals"
+
+-- the size of an amount
+unfoldable pub size_words : Statement → List ℕ
+size_words (says.Field field) = size_text field.name (columns_of field) (decimals_of field.kind)
+size_words other = []
+
+-- of an amount in the place of a text: on a total line it wants its digits
+abbrev pub amount_words : Statement → List ℕ
+amount_words (says.TotalText level wheel name) = codes " is an amount, and the digits of its total are missing"
+amount_words other = codes " is an amount, and a text belongs here"
+
+-- which kind of field a name stands for on a line
+unfoldable pub kind_words : Statement → Bool → List ℕ
+kind_words statement true = amount_words statement
+kind_words statement false = codes " is a text, and an amount belongs here"
+
+-- the word before the level that is wanted
+abbrev pub level_word : Statement → List ℕ
+level_word (says.DetailField wheel name shown) = codes "INDICATE "
+level_word other = codes "TOTAL "
+
+-- a level that wants a CONTROL line, behind the word that asks for it
+unfoldable pub control_text : List ℕ → ℕ → List ℕ
+control_text word level = (word ++ decimal level) ++ (codes " wants a CONTROL " ++ decimal level ++ codes " line")
+
+-- the level that has no CONTROL line
+unfoldable pub uncontrolled_words : Statement → Option ControlLevel → List ℕ
+uncontrolled_words statement None = []
+uncontrolled_words statement (Some level) = control_text (level_word statement) (control_number level)
+
+-- the level of a text on a total line
+unfoldable pub total_level_words : Statement → List ℕ
+total_level_words (says.TotalText level wheel name) = decimal (level_number level)
+total_level_words other = []
+
+-- the digits of a total
+abbrev pub digits_of : Statement → ℕ
+digits_of (says.TotalAmount total) = total.digits
+digits_of other = 0
+
+-- the columns of a field that is there
+abbrev pub columns_on : Option Field → ℕ
+columns_on None = 0
+columns_on (Some field) = columns_of field
+
+-- columns, and the digits of a total
+unfoldable pub digits_text : ℕ → ℕ → List ℕ
+digits_text columns digits = codes " has " ++ decimal columns ++ codes " columns, and its total " ++ decimal digits ++ codes " digits"
+
+-- the digits of a total, and the columns of its field
+unfoldable pub digit_words : Option Field → Statement → List ℕ
+digit_words field statement = subject statement ++ digits_text (columns_on field) (digits_of statement)
+
+-- a sign column without a mark, or the reverse
+unfoldable pub mark_words : Bool → List ℕ
+mark_words true = codes " has a sign column, and here no MARK"
+mark_words false = codes " has no sign column, and here a MARK"
+
+-- what doesn't go with what is printed
+unfoldable pub print_words : Statement → List ℕ
+print_words (says.Print print.Detail) = codes "no DETAIL line puts anything on the line of a card"
+print_words (says.Print print.Group) = codes "no TOTAL line puts anything on a total line"
+print_words (says.Space line spacing) = codes "no line puts anything on this kind of line"
+print_words (says.After line action) = codes "no line puts anything on this kind of line"
+print_words other = codes "PRINT GROUP prints totals alone"
+
+-- a channel without a TAPE line
+unfoldable pub no_tape : ℕ → List ℕ
+no_tape channel = codes "channel " ++ decimal channel ++ codes " has no TAPE line"
+
+-- a skip to a channel that no TAPE line is of, or that can't have one
+unfoldable pub skip_words : ℕ → List ℕ
+skip_words channel =
+    if nat_le 2 channel && nat_le channel 11 then no_tape channel else codes "a skip goes to a channel from 2 to 11"
+
+-- a channel without a TAPE line, or with stops that the form doesn't have
+unfoldable pub tape_words : Statement → List ℕ
+tape_words (says.After line (after.Skip channel)) = skip_words channel
+tape_words other = codes "these are no rising stops of a channel 2 to 11 on the form"
+
+-- how many counter groups a total takes
+unfoldable pub group_words : Bool → List ℕ
+group_words true = codes ": it takes two counter groups, and the word COUPLED is missing"
+group_words false = codes ": one counter group is enough, without the word COUPLED"
+
+-- the positions of a total
+unfoldable pub need_text : ℕ → List ℕ
+need_text need = codes "the total needs " ++ decimal need ++ codes " positions"
+
+unfoldable pub coupled_words : ℕ → List ℕ
+coupled_words need = need_text need ++ group_words (needs_two need)
+
+-- a name that another line describes
+unfoldable pub described_words : Statement → Option Line → List ℕ
+described_words line other = subject line ++ codes " is described already, on " ++ number_words other
+
+-- a name that no line describes
+unfoldable pub undescribed_words : Statement → List ℕ
+undescribed_words line = codes "no FIELD line describes " ++ subject line
+
+-- a question for a name that a line describes
+unfoldable pub asked_words : Statement → List ℕ
+asked_words line = codes "; did you mean " ++ subject line
+
+-- the name that a line describes, if it may be meant
+unfoldable pub meant_words : Option Line → List ℕ
+meant_words None = []
+meant_words (Some line) = asked_words line.statement ++ codes "?"
+
+unfoldable pub unknown_words : Statement → Option Line → List ℕ
+unknown_words line other = undescribed_words line ++ meant_words other
+
+-- a name of the wrong kind of field
+unfoldable pub wrong_kind_words : Statement → Bool → List ℕ
+wrong_kind_words line is_amount = subject line ++ kind_words line is_amount
+
+-- a line of which a chart has one
+unfoldable pub said_words : Option Line → List ℕ
+said_words other = number_words other ++ codes " is such a line already"
+
+-- a text on a total line that is no control field
+unfoldable pub not_control_words : Statement → List ℕ
+not_control_words line = subject line ++ codes " is no control field of level " ++ total_level_words line ++ codes " or a higher one"
+
+-- a total that has fewer digits than a lower one
+unfoldable pub shrink_words : Statement → Option Line → List ℕ
+shrink_words line other = number_words other ++ codes " has a lower total of " ++ subject line ++ codes " in more digits"
+
+-- an amount whose mark doesn't match its sign column
+unfoldable pub mismatch_words : Statement → Bool → List ℕ
+mismatch_words line is_signed = subject line ++ mark_words is_signed
+
+-- an item, and the one whose wheels it takes
+unfoldable pub wheels_met : List Field → Statement → Option Line → List ℕ
+wheels_met fields line other = taken_words fields line ++ meeting_words fields other
+
+-- what is wrong with a line by the rule that it breaks: the fields and the lines of the chart, the lines before this one, and what it says
+abbrev pub words : Rule → List Field → List Line → List Line → Statement → List ℕ
+words rule.NameTwice fields chart earlier line = described_words line (met rule.NameTwice fields earlier line)
+words rule.Columns fields chart earlier line = column_words line
+words rule.AmountSize fields chart earlier line = size_words line
+words rule.UnknownName fields chart earlier line = unknown_words line (met rule.UnknownName fields chart line)
+words rule.WrongKind fields chart earlier line = wrong_kind_words line (names_amount (field_on fields (name_on line)))
+words rule.LineTwice fields chart earlier line = said_words (met rule.LineTwice fields earlier line)
+words rule.NoControl fields chart earlier line = uncontrolled_words line (level_needed line)
+words rule.TotalTextNotControl fields chart earlier line = not_control_words line
+words rule.DigitsRange fields chart earlier line = digit_words (field_on fields (name_on line)) line
+words rule.DigitsShrink fields chart earlier line = shrink_words line (met rule.DigitsShrink fields chart line)
+words rule.MarkMismatch fields chart earlier line = mismatch_words line (has_sign (field_on fields (name_on line)))
+words rule.WheelRange fields chart earlier line = taken_words fields line
+words rule.WheelOverlap fields chart earlier line = wheels_met fields line (met rule.WheelOverlap fields earlier line)
+words rule.WheelClash fields chart earlier line = wheels_met fields line (met rule.WheelClash fields earlier line)
+words rule.PrintKind fields chart earlier line = print_words line
+words rule.Form fields chart earlier line = form_words chart line
+words rule.Tape fields chart earlier line = tape_words line
+words rule.CoupledMark fields chart earlier line = coupled_words (positions_of (field_on fields (name_on line)) (digits_of line))
+
+-- what is wrong at END: the line that is missing
+abbrev pub end_words : Rule → List ℕ
+end_words rule.PrintKind = codes "there is no PRINT line"
+end_words other = codes "there is no FORM line"
+
+-- what helps
+abbrev pub cure : Rule → List ℕ
+cure rule.NameTwice = codes "give it another name"
+cure rule.Columns = codes "a card has columns 1 to 80, the first column first"
+cure rule.AmountSize = codes "an amount has 8 digits and 3 decimals at most, and no more decimals than digits: divide the field"
+cure rule.UnknownName = codes "write the FIELD line, or correct the name"
+cure rule.WrongKind = codes "a total needs its digits, and only amounts have marks; CONTROL and INDICATE take texts"
+cure rule.LineTwice = codes "take one of them out"
+cure rule.NoControl = codes "name the control field of the level"
+cure rule.TotalTextNotControl = codes "on a total line only what is the same on all cards of the group can stand"
+cure rule.DigitsRange = codes "a total has as many digits as its field or more, 16 at most, and 15 with a sign column"
+cure rule.DigitsShrink = codes "a higher total needs at least as many digits"
+cure rule.MarkMismatch = codes "every amount with a sign column is printed with a mark, CR or -, and no other"
+cure rule.WheelRange = codes "the machine has wheels 1 to 120: move the item"
+cure rule.WheelOverlap = codes "move one of them"
+cure rule.WheelClash = codes "an amount shares wheels only with amounts of the same last wheel, decimals and mark: move one of them"
+cure rule.PrintKind = codes "add what is missing, or take the line out"
+cure rule.Form = codes "FORM P T O: T is 1 or more, the headings from T on end above O, O is P - 2 at most, and P is 144 at most"
+cure rule.Tape = codes "write a TAPE line of a channel 2 to 11, its stops in rising order on the form"
+cure rule.CoupledMark = codes "write COUPLED where a total needs more than 8 positions, and only there"

@@ -1,0 +1,611 @@
+//! What is wrong, in the words of the line that breaks a rule, and what helps.
+
+ghost use Rattle.std.specs.Prelude.{◌≡◌, ◌+◌, ◌^◌, ◌≤◌, OnOk, option_map};
+ghost use Rattle.std.specs.Io.KnownBytes.{Appends};
+ghost use Rattle.line_rules.specs.FieldRules.Coupled as coupled;
+ghost use Rattle.line_rules.specs.FieldRules.Control as control;
+ghost use Rattle.line_rules.specs.FieldRules.Names as names;
+ghost use Rattle.chart_faults.specs.FaultWords.Others as others;
+ghost use Rattle.chart_faults.specs.FaultWords.Parts as parts;
+ghost use Rattle.chart_faults.specs.FaultWords.Words as law;
+
+use crate::fault_words::form_words::write_form;
+use crate::fault_words::others::{
+    met, write_meeting, write_other, write_range, write_subject, write_taken,
+};
+use crate::fault_words::parts::name_on;
+use chart_rules::Rule;
+use charts::{After, ControlLevel, DetailOption, Field, Line, Name, Printing, Statement};
+use line_rules::field_rules::{Fields, first_named};
+use numerals::{write_between, write_number, write_numbered};
+use std::io;
+use std::io::Write;
+
+/// What stands around a line that breaks a rule.
+#[derive(Drop)]
+pub(crate) struct Around<'a> {
+    /// The fields of the chart, with their index.
+    pub(crate) index: &'a Fields,
+    /// The same fields.
+    pub(crate) fields: &'a [Field],
+    /// The lines of the chart.
+    pub(crate) lines: &'a [Line],
+    /// Those before the line.
+    pub(crate) earlier: &'a [Line],
+}
+
+/// The field that a line is about, if its name has one.
+fn field_on(fields: &[Field], name: Option<Name>) -> Option<Field>
+    ensures { result ≡ law.field_on fields.now name }
+{
+    match name {
+        Some(name) => first_named(fields, name),
+        None => None,
+    }
+}
+
+/// Writes the sign column of a field.
+#[tactic(auto, unfolding(crate::specs::FaultWords::Words::sign_words))]
+fn write_sign<W: Write>(out: &mut W, column: Option<u16>) -> io::Result<()>
+    ensures { OnOk result (Appends (W.contents out.old) (W.contents out.new) (law.sign_words column)) }
+{
+    match column {
+        Some(column) => write_numbered(out, " and its sign in column ", column),
+        None => Ok(()),
+    }
+}
+
+/// Writes the columns of a name.
+#[tactic(auto, unfolding(crate::specs::FaultWords::Words::columns_text))]
+fn write_columns_text<W: Write>(out: &mut W, name: Name, first: u16, last: u16) -> io::Result<()>
+    ensures { OnOk result (Appends (W.contents out.old) (W.contents out.new) (law.columns_text name first last)) }
+{
+    out.write_all(name.as_bytes())?;
+    write_range(out, " has columns ", u64::from(first), u64::from(last))
+}
+
+/// Writes the columns of a field.
+#[tactic(auto, unfolding(crate::specs::FaultWords::Words::column_words))]
+fn write_columns<W: Write>(out: &mut W, statement: &Statement) -> io::Result<()>
+    ensures { OnOk result (Appends (W.contents out.old) (W.contents out.new) (law.column_words statement.now)) }
+{
+    match statement {
+        Statement::Field(field) => {
+            write_columns_text(out, field.name, field.first, field.last)?;
+            write_sign(out, field.kind.sign_column())
+        }
+        _ => Ok(()),
+    }
+}
+
+/// Writes the digits and decimals of a name.
+#[tactic(auto, unfolding(crate::specs::FaultWords::Words::size_text))]
+fn write_size_text<W: Write>(out: &mut W, name: Name, digits: u32, decimals: u16) -> io::Result<()>
+    ensures { OnOk result (Appends (W.contents out.old) (W.contents out.new) (law.size_text name digits decimals)) }
+{
+    out.write_all(name.as_bytes())?;
+    write_numbered(out, " has ", digits)?;
+    write_between(out, " digits and ", decimals, " decimals")
+}
+
+/// Writes the size of an amount.
+#[tactic(auto, unfolding(crate::specs::FaultWords::Words::size_words))]
+fn write_size<W: Write>(out: &mut W, statement: &Statement) -> io::Result<()>
+    ensures { OnOk result (Appends (W.contents out.old) (W.contents out.new) (law.size_words statement.now)) }
+{
+    match statement {
+        Statement::Field(field) => {
+            write_size_text(out, field.name, field.columns(), field.kind.decimals())
+        }
+        _ => Ok(()),
+    }
+}
+
+/// Whether a name stands for an amount.
+fn names_amount(field: Option<Field>) -> bool
+    ensures { result ≡ names.names_amount field }
+{
+    match field {
+        Some(field) => field.kind.is_amount(),
+        None => false,
+    }
+}
+
+/// What is told of an amount in the place of a text.
+fn amount_words(statement: &Statement) -> &'static str
+    ensures { result.now ≡ law.amount_words statement.now }
+{
+    match statement {
+        Statement::TotalText { .. } => " is an amount, and the digits of its total are missing",
+        _ => " is an amount, and a text belongs here",
+    }
+}
+
+/// Writes which kind of field a line's name stands for.
+#[tactic(auto, unfolding(crate::specs::FaultWords::Words::kind_words))]
+fn write_kind<W: Write>(out: &mut W, statement: &Statement, is_amount: bool) -> io::Result<()>
+    ensures { OnOk result (Appends (W.contents out.old) (W.contents out.new) (law.kind_words statement.now is_amount)) }
+{
+    if is_amount {
+        out.write_all(amount_words(statement).as_bytes())
+    } else {
+        out.write_all(b" is a text, and an amount belongs here")
+    }
+}
+
+/// The level that a line needs to be controlled, if it needs one.
+fn level_needed(statement: &Statement) -> Option<ControlLevel>
+    ensures { result ≡ control.level_needed statement.now }
+{
+    match statement {
+        Statement::DetailField {
+            shown: DetailOption::Indicated(level),
+            ..
+        } => Some(*level),
+        Statement::TotalLiteral { level, .. } | Statement::TotalText { level, .. } => {
+            level.control()
+        }
+        Statement::TotalAmount(total) => total.level.control(),
+        _ => None,
+    }
+}
+
+/// The word before the level that is wanted.
+fn level_word(statement: &Statement) -> &'static str
+    ensures { result.now ≡ law.level_word statement.now }
+{
+    match statement {
+        Statement::DetailField { .. } => "INDICATE ",
+        _ => "TOTAL ",
+    }
+}
+
+/// Writes a level that wants a CONTROL line, behind the word that asks for it.
+#[tactic(auto, unfolding(crate::specs::FaultWords::Words::control_text))]
+fn write_control_text<W: Write>(out: &mut W, word: &str, level: u8) -> io::Result<()>
+    ensures { OnOk result (Appends (W.contents out.old) (W.contents out.new) (law.control_text word.now level)) }
+{
+    write_numbered(out, word, level)?;
+    write_between(out, " wants a CONTROL ", level, " line")
+}
+
+/// Writes the level that has no CONTROL line.
+#[tactic(auto, unfolding(crate::specs::FaultWords::Words::uncontrolled_words))]
+fn write_uncontrolled<W: Write>(
+    out: &mut W,
+    statement: &Statement,
+    level: Option<ControlLevel>,
+) -> io::Result<()>
+    ensures { OnOk result (Appends (W.contents out.old) (W.contents out.new) (law.uncontrolled_words statement.now level)) }
+{
+    match level {
+        Some(level) => write_control_text(out, level_word(statement), level.number()),
+        None => Ok(()),
+    }
+}
+
+/// Writes the level of a text on a total line.
+#[tactic(auto, unfolding(crate::specs::FaultWords::Words::total_level_words))]
+fn write_total_level<W: Write>(out: &mut W, statement: &Statement) -> io::Result<()>
+    ensures { OnOk result (Appends (W.contents out.old) (W.contents out.new) (law.total_level_words statement.now)) }
+{
+    match statement {
+        Statement::TotalText { level, .. } => write_number(out, level.number()),
+        _ => Ok(()),
+    }
+}
+
+/// The digits of a total.
+fn digits_of(statement: &Statement) -> u16
+    ensures { result ≡ law.digits_of statement.now }
+{
+    match statement {
+        Statement::TotalAmount(total) => total.digits,
+        _ => 0,
+    }
+}
+
+/// The columns of a field that is there.
+fn columns_on(field: Option<Field>) -> u32
+    ensures { result ≡ law.columns_on field }
+{
+    match field {
+        Some(field) => field.columns(),
+        None => 0,
+    }
+}
+
+/// Writes columns, and the digits of a total.
+#[tactic(auto, unfolding(crate::specs::FaultWords::Words::digits_text))]
+fn write_digits_text<W: Write>(out: &mut W, columns: u32, digits: u16) -> io::Result<()>
+    ensures { OnOk result (Appends (W.contents out.old) (W.contents out.new) (law.digits_text columns digits)) }
+{
+    write_numbered(out, " has ", columns)?;
+    write_between(out, " columns, and its total ", digits, " digits")
+}
+
+/// Writes the digits of a total, and the columns of its field.
+#[tactic(auto, unfolding(crate::specs::FaultWords::Words::digit_words))]
+fn write_digits<W: Write>(
+    out: &mut W,
+    field: Option<Field>,
+    statement: &Statement,
+) -> io::Result<()>
+    ensures { OnOk result (Appends (W.contents out.old) (W.contents out.new) (law.digit_words field statement.now)) }
+{
+    write_subject(out, statement)?;
+    write_digits_text(out, columns_on(field), digits_of(statement))
+}
+
+/// Whether a field is there and has a sign rule.
+fn has_sign(field: Option<Field>) -> bool
+    ensures { result ≡ coupled.has_sign field }
+{
+    match field {
+        Some(field) => field.kind.sign_column().is_some(),
+        None => false,
+    }
+}
+
+/// Writes that a sign column has no mark, or a mark no sign column.
+#[tactic(auto, unfolding(crate::specs::FaultWords::Words::mark_words))]
+fn write_mismatch<W: Write>(out: &mut W, has_sign: bool) -> io::Result<()>
+    ensures { OnOk result (Appends (W.contents out.old) (W.contents out.new) (law.mark_words has_sign)) }
+{
+    if has_sign {
+        out.write_all(b" has a sign column, and here no MARK")
+    } else {
+        out.write_all(b" has no sign column, and here a MARK")
+    }
+}
+
+/// What doesn't go with what is printed.
+#[tactic(auto, unfolding(crate::specs::FaultWords::Words::print_words))]
+fn print_words(statement: &Statement) -> &'static str
+    ensures { result.now ≡ law.print_words statement.now }
+{
+    match statement {
+        Statement::Print(Printing::Detail) => "no DETAIL line puts anything on the line of a card",
+        Statement::Print(Printing::Group) => "no TOTAL line puts anything on a total line",
+        Statement::Space { .. } | Statement::After { .. } => {
+            "no line puts anything on this kind of line"
+        }
+        _ => "PRINT GROUP prints totals alone",
+    }
+}
+
+/// Writes that a channel has no TAPE line.
+#[tactic(auto, unfolding(crate::specs::FaultWords::Words::no_tape))]
+fn write_no_tape<W: Write>(out: &mut W, channel: u16) -> io::Result<()>
+    ensures { OnOk result (Appends (W.contents out.old) (W.contents out.new) (law.no_tape channel)) }
+{
+    write_between(out, "channel ", channel, " has no TAPE line")
+}
+
+/// Writes that no TAPE line is of the channel of a skip, or can be.
+#[tactic(auto, unfolding(crate::specs::FaultWords::Words::skip_words))]
+fn write_skip<W: Write>(out: &mut W, channel: u16) -> io::Result<()>
+    ensures { OnOk result (Appends (W.contents out.old) (W.contents out.new) (law.skip_words channel)) }
+{
+    if 2 <= channel && channel <= 11 {
+        write_no_tape(out, channel)
+    } else {
+        out.write_all(b"a skip goes to a channel from 2 to 11")
+    }
+}
+
+/// Writes that a channel has no TAPE line, or stops that the form doesn't have.
+#[tactic(auto, unfolding(crate::specs::FaultWords::Words::tape_words))]
+fn write_tape<W: Write>(out: &mut W, statement: &Statement) -> io::Result<()>
+    ensures { OnOk result (Appends (W.contents out.old) (W.contents out.new) (law.tape_words statement.now)) }
+{
+    match statement {
+        Statement::After {
+            action: After::Skip(channel),
+            ..
+        } => write_skip(out, *channel),
+        _ => out.write_all(b"these are no rising stops of a channel 2 to 11 on the form"),
+    }
+}
+
+/// How many counter groups a total takes.
+#[tactic(auto, unfolding(crate::specs::FaultWords::Words::group_words))]
+fn group_words(needs_two: bool) -> &'static str
+    ensures { result.now ≡ law.group_words needs_two }
+{
+    if needs_two {
+        ": it takes two counter groups, and the word COUPLED is missing"
+    } else {
+        ": one counter group is enough, without the word COUPLED"
+    }
+}
+
+/// The positions that a total of a field needs.
+fn positions_of(field: Option<Field>, digits: u16) -> u32
+    ensures { result ≡ coupled.positions_of field digits }
+{
+    let sign = if has_sign(field) { 1 } else { 0 };
+    u32::from(digits) + sign
+}
+
+/// Whether so many positions take two counter groups.
+fn needs_two(need: u32) -> bool
+    ensures { result ≡ coupled.needs_two need }
+{
+    need > 8
+}
+
+/// Writes how many counter groups a total takes.
+fn write_groups<W: Write>(out: &mut W, needs_two: bool) -> io::Result<()>
+    ensures { OnOk result (Appends (W.contents out.old) (W.contents out.new) (law.group_words needs_two)) }
+{
+    out.write_all(group_words(needs_two).as_bytes())
+}
+
+/// Writes how many positions a total needs.
+#[tactic(auto, unfolding(crate::specs::FaultWords::Words::need_text))]
+fn write_need<W: Write>(out: &mut W, need: u32) -> io::Result<()>
+    ensures { OnOk result (Appends (W.contents out.old) (W.contents out.new) (law.need_text need)) }
+{
+    write_between(out, "the total needs ", need, " positions")
+}
+
+/// Writes that, and how many counter groups it takes.
+#[tactic(auto, unfolding(crate::specs::FaultWords::Words::coupled_words))]
+fn write_coupled<W: Write>(out: &mut W, need: u32) -> io::Result<()>
+    ensures { OnOk result (Appends (W.contents out.old) (W.contents out.new) (law.coupled_words need)) }
+{
+    write_need(out, need)?;
+    write_groups(out, needs_two(need))
+}
+
+/// Writes a name that another line describes.
+#[tactic(auto, unfolding(crate::specs::FaultWords::Words::described_words))]
+fn write_described<W: Write>(
+    out: &mut W,
+    statement: &Statement,
+    other: Option<&Line>,
+) -> io::Result<()>
+    ensures { OnOk result (Appends (W.contents out.old) (W.contents out.new) (law.described_words statement.now (option_map (λ line. line.now) other.entry))) }
+{
+    write_subject(out, statement)?;
+    out.write_all(b" is described already, on ")?;
+    write_other(out, other)
+}
+
+/// Writes a name that no line describes.
+#[tactic(auto, unfolding(crate::specs::FaultWords::Words::undescribed_words))]
+fn write_undescribed<W: Write>(out: &mut W, statement: &Statement) -> io::Result<()>
+    ensures { OnOk result (Appends (W.contents out.old) (W.contents out.new) (law.undescribed_words statement.now)) }
+{
+    out.write_all(b"no FIELD line describes ")?;
+    write_subject(out, statement)
+}
+
+/// Asks for a name that a line describes.
+#[tactic(auto, unfolding(crate::specs::FaultWords::Words::asked_words))]
+fn write_asked<W: Write>(out: &mut W, statement: &Statement) -> io::Result<()>
+    ensures { OnOk result (Appends (W.contents out.old) (W.contents out.new) (law.asked_words statement.now)) }
+{
+    out.write_all(b"; did you mean ")?;
+    write_subject(out, statement)
+}
+
+/// Asks for the name that a line describes, if it may be meant.
+#[tactic(auto, unfolding(crate::specs::FaultWords::Words::meant_words))]
+fn write_meant<W: Write>(out: &mut W, other: Option<&Line>) -> io::Result<()>
+    ensures { OnOk result (Appends (W.contents out.old) (W.contents out.new) (law.meant_words (option_map (λ line. line.now) other.entry))) }
+{
+    match other {
+        Some(line) => {
+            write_asked(out, &line.statement)?;
+            out.write_all(b"?")
+        }
+        None => Ok(()),
+    }
+}
+
+/// Writes a name that no line describes, and the one that may be meant.
+#[tactic(auto, unfolding(crate::specs::FaultWords::Words::unknown_words))]
+fn write_unknown<W: Write>(
+    out: &mut W,
+    statement: &Statement,
+    other: Option<&Line>,
+) -> io::Result<()>
+    ensures { OnOk result (Appends (W.contents out.old) (W.contents out.new) (law.unknown_words statement.now (option_map (λ line. line.now) other.entry))) }
+{
+    write_undescribed(out, statement)?;
+    write_meant(out, other)
+}
+
+/// Writes a name of the wrong kind of field.
+#[tactic(auto, unfolding(crate::specs::FaultWords::Words::wrong_kind_words))]
+fn write_wrong_kind<W: Write>(out: &mut W, statement: &Statement, is_amount: bool) -> io::Result<()>
+    ensures { OnOk result (Appends (W.contents out.old) (W.contents out.new) (law.wrong_kind_words statement.now is_amount)) }
+{
+    write_subject(out, statement)?;
+    write_kind(out, statement, is_amount)
+}
+
+/// Writes the line of which a chart has one.
+#[tactic(auto, unfolding(crate::specs::FaultWords::Words::said_words))]
+fn write_said<W: Write>(out: &mut W, other: Option<&Line>) -> io::Result<()>
+    ensures { OnOk result (Appends (W.contents out.old) (W.contents out.new) (law.said_words (option_map (λ line. line.now) other.entry))) }
+{
+    write_other(out, other)?;
+    out.write_all(b" is such a line already")
+}
+
+/// Writes a text on a total line that is no control field.
+#[tactic(auto, unfolding(crate::specs::FaultWords::Words::not_control_words))]
+fn write_not_control<W: Write>(out: &mut W, statement: &Statement) -> io::Result<()>
+    ensures { OnOk result (Appends (W.contents out.old) (W.contents out.new) (law.not_control_words statement.now)) }
+{
+    write_subject(out, statement)?;
+    out.write_all(b" is no control field of level ")?;
+    write_total_level(out, statement)?;
+    out.write_all(b" or a higher one")
+}
+
+/// Writes a total that has fewer digits than a lower one.
+#[tactic(auto, unfolding(crate::specs::FaultWords::Words::shrink_words))]
+fn write_shrink<W: Write>(
+    out: &mut W,
+    statement: &Statement,
+    other: Option<&Line>,
+) -> io::Result<()>
+    ensures { OnOk result (Appends (W.contents out.old) (W.contents out.new) (law.shrink_words statement.now (option_map (λ line. line.now) other.entry))) }
+{
+    write_other(out, other)?;
+    out.write_all(b" has a lower total of ")?;
+    write_subject(out, statement)?;
+    out.write_all(b" in more digits")
+}
+
+/// Writes an amount whose mark doesn't match its sign column.
+#[tactic(auto, unfolding(crate::specs::FaultWords::Words::mismatch_words))]
+fn write_unmatched<W: Write>(out: &mut W, statement: &Statement, is_signed: bool) -> io::Result<()>
+    ensures { OnOk result (Appends (W.contents out.old) (W.contents out.new) (law.mismatch_words statement.now is_signed)) }
+{
+    write_subject(out, statement)?;
+    write_mismatch(out, is_signed)
+}
+
+/// Writes an item, and the one whose wheels it takes.
+#[tactic(auto, unfolding(crate::specs::FaultWords::Words::wheels_met))]
+fn write_wheels_met<W: Write>(
+    out: &mut W,
+    fields: &[Field],
+    statement: &Statement,
+    other: Option<&Line>,
+) -> io::Result<()>
+    ensures { OnOk result (Appends (W.contents out.old) (W.contents out.new) (law.wheels_met fields.now statement.now (option_map (λ line. line.now) other.entry))) }
+{
+    write_taken(out, fields, statement)?;
+    write_meeting(out, fields, other)
+}
+
+impl<'a> Around<'a> {
+    /// The first line before the line that it meets by a rule.
+    fn met_earlier(&self, rule: Rule, statement: &Statement) -> Option<&'a Line>
+        requires { self.now.index.now ≡ self.now.fields.now }
+        ensures { option_map (λ line. line.now) result ≡ others.met rule self.now.fields.now self.now.earlier.now statement.now }
+    {
+        met(rule, self.index, self.earlier, statement)
+    }
+
+    /// The first line of the chart that it meets.
+    fn met_anywhere(&self, rule: Rule, statement: &Statement) -> Option<&'a Line>
+        requires { self.now.index.now ≡ self.now.fields.now }
+        ensures { option_map (λ line. line.now) result ≡ others.met rule self.now.fields.now self.now.lines.now statement.now }
+    {
+        met(rule, self.index, self.lines, statement)
+    }
+
+    /// The field that the line is about.
+    fn field_of(&self, statement: &Statement) -> Option<Field>
+        ensures { result ≡ law.field_on self.now.fields.now (parts.name_on statement.now) }
+    {
+        field_on(self.fields, name_on(statement))
+    }
+}
+
+/// Writes what is wrong with a line by the rule that it breaks.
+pub(crate) fn write_words<W: Write>(
+    out: &mut W,
+    rule: Rule,
+    around: &Around,
+    statement: &Statement,
+) -> io::Result<()>
+    requires { around.now.index.now ≡ around.now.fields.now }
+    ensures { OnOk result (Appends (W.contents out.old) (W.contents out.new)
+        (law.words rule around.now.fields.now around.now.lines.now around.now.earlier.now statement.now)) }
+{
+    match rule {
+        Rule::NameTwice => {
+            let other = around.met_earlier(Rule::NameTwice, statement);
+            write_described(out, statement, other)
+        }
+        Rule::Columns => write_columns(out, statement),
+        Rule::AmountSize => write_size(out, statement),
+        Rule::UnknownName => {
+            let other = around.met_anywhere(Rule::UnknownName, statement);
+            write_unknown(out, statement, other)
+        }
+        Rule::WrongKind => {
+            write_wrong_kind(out, statement, names_amount(around.field_of(statement)))
+        }
+        Rule::LineTwice => write_said(out, around.met_earlier(Rule::LineTwice, statement)),
+        Rule::NoControl => write_uncontrolled(out, statement, level_needed(statement)),
+        Rule::TotalTextNotControl => write_not_control(out, statement),
+        Rule::DigitsRange => write_digits(out, around.field_of(statement), statement),
+        Rule::DigitsShrink => {
+            let other = around.met_anywhere(Rule::DigitsShrink, statement);
+            write_shrink(out, statement, other)
+        }
+        Rule::MarkMismatch => {
+            write_unmatched(out, statement, has_sign(around.field_of(statement)))
+        }
+        Rule::WheelRange => write_taken(out, around.fields, statement),
+        Rule::WheelOverlap => {
+            let other = around.met_earlier(Rule::WheelOverlap, statement);
+            write_wheels_met(out, around.fields, statement, other)
+        }
+        Rule::WheelClash => {
+            let other = around.met_earlier(Rule::WheelClash, statement);
+            write_wheels_met(out, around.fields, statement, other)
+        }
+        Rule::PrintKind => out.write_all(print_words(statement).as_bytes()),
+        Rule::Form => write_form(out, around.lines, statement),
+        Rule::Tape => write_tape(out, statement),
+        Rule::CoupledMark => {
+            let need = positions_of(around.field_of(statement), digits_of(statement));
+            write_coupled(out, need)
+        }
+    }
+}
+
+/// What is wrong at END.
+pub(crate) fn end_words(rule: Rule) -> &'static str
+    ensures { result.now ≡ law.end_words rule }
+{
+    match rule {
+        Rule::PrintKind => "there is no PRINT line",
+        _ => "there is no FORM line",
+    }
+}
+
+/// What helps.
+pub(crate) fn cure(rule: Rule) -> &'static str
+    ensures { result.now ≡ law.cure rule }
+{
+    match rule {
+        Rule::NameTwice => "give it another name",
+        Rule::Columns => "a card has columns 1 to 80, the first column first",
+        Rule::AmountSize =>
+            "an amount has 8 digits and 3 decimals at most, and no more decimals than digits: divide the field",
+        Rule::UnknownName => "write the FIELD line, or correct the name",
+        Rule::WrongKind =>
+            "a total needs its digits, and only amounts have marks; CONTROL and INDICATE take texts",
+        Rule::LineTwice => "take one of them out",
+        Rule::NoControl => "name the control field of the level",
+        Rule::TotalTextNotControl =>
+            "on a total line only what is the same on all cards of the group can stand",
+        Rule::DigitsRange =>
+            "a total has as many digits as its field or more, 16 at most, and 15 with a sign column",
+        Rule::DigitsShrink => "a higher total needs at least as many digits",
+        Rule::MarkMismatch =>
+            "every amount with a sign column is printed with a mark, CR or -, and no other",
+        Rule::WheelRange => "the machine has wheels 1 to 120: move the item",
+        Rule::WheelOverlap => "move one of them",
+        Rule::WheelClash =>
+            "an amount shares wheels only with amounts of the same last wheel, decimals and mark: move one of them",
+        Rule::PrintKind => "add what is missing, or take the line out",
+        Rule::Form =>
+            "FORM P T O: T is 1 or more, the headings from T on end above O, O is P - 2 at most, and P is 144 at most",
+        Rule::Tape =>
+            "write a TAPE line of a channel 2 to 11, its stops in rising order on the form",
+        Rule::CoupledMark =>
+            "write COUPLED where a total needs more than 8 positions, and only there",
+    }
+}

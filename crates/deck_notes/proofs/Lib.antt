@@ -1,0 +1,2 @@
+pub mod KeyReturns
+pub mod MisfitTotals

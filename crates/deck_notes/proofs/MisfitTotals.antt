@@ -1,0 +1,4 @@
+pub mod Good
+pub mod Grouped
+pub mod Pieces
+pub mod Summed

@@ -1,0 +1,2 @@
+pub mod Punched
+pub mod Written

@@ -1,0 +1,11 @@
+use Rattle.std.proofs.Common.{◌++◌}
+use Rattle.std.specs.String.{string_bytes}
+use Rattle.markup.proofs.Pieces.{pushed}
+use Rattle.drawings.specs.PanelDrawing.Drawing.{drawing_between}
+use Rattle.drawings.proofs.panel_drawing.drawing.write_between.Goals as goal
+
+pub returns : goal.returns
+unfolding drawing_between
+returns c =
+    let old = string_bytes c.args.text.now in
+    pushed c.push_str.result (string_bytes c.push_str.new.self) (old ++ drawing_between) old c.push_str.ensures.bytes

@@ -1,0 +1,2 @@
+pub mod CardDrawing
+pub mod PanelDrawing

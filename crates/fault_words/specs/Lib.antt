@@ -1,6 +1,0 @@
-pub mod Below
-pub mod Parts
-pub mod Others
-pub mod FormWords
-pub mod Words
-pub mod Entries

@@ -1,2 +1,0 @@
-mod LongLines
-mod Refusing

@@ -1,0 +1,2 @@
+pub mod LongLines
+pub mod Refusing

@@ -1,4 +1,0 @@
-mod Kept
-mod Levels
-mod SameKeys
-mod Walked

@@ -1,0 +1,17 @@
+-- A rule on the digits of a total.
+use Rattle.std.specs.Prelude.{ℕ, Bool, false, List, Option, Some, None, is_some, ◌&&◌, ◌||◌, nat_lt}
+use Rattle.charts.specs.declared.statement.Field.{Field}
+use Rattle.charts.specs.declared.statement.Statement.{Statement}
+use Rattle.charts.specs.declared.statement.Statement.TheVariants as says
+use Rattle.line_rules.specs.FieldRules.Fields.{first_named}
+use Rattle.charts.specs.Field.{sign_column, columns_of}
+
+-- whether a total of a field has fewer digits than the field, more than 16, or more than 15 with a sign column
+abbrev pub is_out_of_digits : Option Field → ℕ → Bool
+is_out_of_digits (Some field) digits = nat_lt digits (columns_of field) || nat_lt 16 digits || (is_some (sign_column field.kind) && nat_lt 15 digits)
+is_out_of_digits None digits = false
+
+-- Digits range: a total in fewer digits than its field, in more than 16, or in more than 15 with a sign column.
+abbrev pub breaks_digits_range : List Field → Statement → Bool
+breaks_digits_range fields (says.TotalAmount total) = is_out_of_digits (first_named fields total.name) total.digits
+breaks_digits_range fields other = false

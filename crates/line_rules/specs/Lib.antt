@@ -1,0 +1,2 @@
+pub mod FieldRules
+pub mod PrintRules

@@ -1,4 +1,0 @@
-mod Good
-mod Grouped
-mod Pieces
-mod Summed

@@ -1,0 +1,7 @@
+use Rattle.wheel_ledgers.proofs.Accounts.{is_account_told}
+use Rattle.page_links.proofs.sum_places.places.sum_at.Goals as goal
+
+pub units_group-group-requires : goal.units_group-group-requires
+units_group-group-requires c =
+    is_account_told c.find_total-total.result c.args.place c.account_told.result c.account_told.ensures c.find_total-total.ensures.account
+    c.requires.place

@@ -1,0 +1,147 @@
+//! Places of sums.
+
+ghost use Rattle.std.specs.Prelude.{◌≡◌, ◌<◌, ◌++◌, codes, OnOk};
+ghost use Rattle.std.specs.String.{string_bytes};
+ghost use Rattle.ledgers.specs.Accounts.{IsAccount};
+ghost use Rattle.wheel_ledgers.specs.Totals.{AreAccounts};
+ghost use Rattle.page_links.specs.SumPlaces.Places.{group_name, has_sum, is_same_sum, row_name, sum_at, sum_behind, sum_link, sum_name, sum_open, units_group};
+
+use counters::group_of_unit;
+use explanations::Explanation;
+use hubs::Group;
+use ledgers::Account;
+use numerals::push_numbered;
+use std::alloc::AllocError;
+use wheel_ledgers::{TitledAccount, account_told, find_total, place_printed};
+
+/// The sum behind a figure of a printed line.
+#[derive(Clone, Copy, Debug)]
+pub struct SumPlace {
+    /// The page of the line.
+    pub page: u64,
+    /// The line of the page.
+    pub line: u32,
+    /// A wheel of the figure.
+    pub wheel: u8,
+    /// The counter group that the figure is printed of: of two groups that stand for one number that with the units.
+    pub group: Group,
+}
+
+// The group of an account that has the units.
+fn units_group(account: Account) -> Group
+    requires { IsAccount account }
+    ensures { result ≡ units_group account }
+{
+    match account {
+        Account::One { place } => group_of_unit(3 + place as u8),
+        Account::Coupled { upper: _, lower } => group_of_unit(3 + lower as u8),
+    }
+}
+
+/// The sum behind the character of a wheel that is printed of the group of a place, by its explanation and the totals that are known: that
+/// of the total which this group serves, or else of the one group.
+pub fn sum_at(totals: &[TitledAccount], why: &Explanation, place: usize) -> SumPlace
+    requires accounts { AreAccounts totals.now }
+    requires place { place < 32 }
+    ensures { result ≡ sum_at totals.now why.now place }
+{
+    let total = find_total(totals, place);
+    let group = units_group(account_told(&total, place));
+    SumPlace {
+        page: why.line.page,
+        line: why.line.line,
+        wheel: why.wheel,
+        group,
+    }
+}
+
+/// The sum behind the character that a wheel printed, by its explanation and the totals that are known: that of the counter group at whose
+/// exit a way to the wheel begins, or of both groups of the total that this group serves. None if no way begins at a counter group.
+pub fn sum_behind(totals: &[TitledAccount], why: &Explanation) -> Option<SumPlace>
+    requires { AreAccounts totals.now }
+    ensures { result ≡ sum_behind totals.now why.now }
+{
+    match place_printed(why) {
+        Some(place) => Some(sum_at(totals, why, place)),
+        None => None,
+    }
+}
+
+// Whether two figures have the same sum behind them.
+fn is_same_sum(one: SumPlace, other: SumPlace) -> bool
+    ensures { result ≡ is_same_sum one other }
+{
+    one.page == other.page
+        && one.line == other.line
+        && one.group.width == other.group.width
+        && one.group.number == other.group.number
+}
+
+/// Whether the sum behind a figure is one of some sums.
+pub fn has_sum(sums: &[SumPlace], sum: SumPlace) -> bool
+    ensures { result ≡ has_sum sums.now sum }
+{
+    for one in sums {
+        if is_same_sum(*one, sum) {
+            return true;
+        }
+    }
+    false
+}
+
+#[tactic(auto, unfolding(crate::specs::SumPlaces::Places::row_name))]
+// The name of the row of a figure.
+fn write_row_name(text: &mut String, sum: SumPlace) -> Result<(), AllocError>
+    ensures { OnOk result (string_bytes text.new ≡ string_bytes text.old ++ row_name sum) }
+{
+    push_numbered(text, "p", sum.page)?;
+    push_numbered(text, "l", sum.line)
+}
+
+#[tactic(auto, unfolding(crate::specs::SumPlaces::Places::group_name))]
+// The name of a counter group in that of a sum.
+fn write_group_name(text: &mut String, group: Group) -> Result<(), AllocError>
+    ensures { OnOk result (string_bytes text.new ≡ string_bytes text.old ++ group_name group) }
+{
+    push_numbered(text, "g", group.width)?;
+    push_numbered(text, "-", group.number)
+}
+
+#[tactic(auto, unfolding(crate::specs::SumPlaces::Places::sum_name))]
+/// Writes the name of the element of a sum: its page, its line, and its counter group, as `p1l5g8-1`. Fails only if no memory is left; a
+/// front of it may then have been written.
+pub fn write_sum_name(text: &mut String, sum: SumPlace) -> Result<(), AllocError>
+    ensures { OnOk result (string_bytes text.new ≡ string_bytes text.old ++ sum_name sum) }
+{
+    write_row_name(text, sum)?;
+    write_group_name(text, sum.group)
+}
+
+#[tactic(auto, unfolding(crate::specs::SumPlaces::Places::sum_open))]
+/// Writes a link to the element of a sum, up to its words. Fails only if no memory is left; a front of it may then have been written.
+pub fn write_sum_open(text: &mut String, sum: SumPlace) -> Result<(), AllocError>
+    ensures { OnOk result (string_bytes text.new ≡ string_bytes text.old ++ sum_open sum) }
+{
+    text.push_str("<a href=\"#")?;
+    write_sum_name(text, sum)?;
+    text.push_str("\">")
+}
+
+/// Writes a link to the sum behind a figure, if there is one and it is one of those that have an element. Fails only if no memory is left; a
+/// front of it may then have been written.
+pub fn write_sum_link(
+    text: &mut String,
+    sums: &[SumPlace],
+    sum: Option<SumPlace>,
+) -> Result<(), AllocError>
+    ensures { OnOk result (string_bytes text.new ≡ string_bytes text.old ++ sum_link sums.now sum) }
+{
+    match sum {
+        Some(sum) if has_sum(sums, sum) => {
+            text.push_str(" ")?;
+            write_sum_open(text, sum)?;
+            text.push_str("the sum behind it</a>")
+        }
+        _ => Ok(()),
+    }
+}

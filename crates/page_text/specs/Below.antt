@@ -1,1 +1,0 @@
-pub use Rattle.placed_lines.specs as placed_lines

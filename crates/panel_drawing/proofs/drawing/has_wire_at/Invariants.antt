@@ -1,7 +1,0 @@
-use Rattle.std.specs.Prelude.{◌≡◌, drop}
-use Rattle.panel_drawing.specs.Drawing.{has_wire_at}
-use Rattle.panel_drawing.proofs.drawing.has_wire_at.Given as goal
-
--- the wires that are left decide
-abbrev pub invariant-loop-wire : goal.invariant-loop-wire
-invariant-loop-wire l = has_wire_at l.number (drop l.wire-index l.wires) ≡ has_wire_at l.number l.wires

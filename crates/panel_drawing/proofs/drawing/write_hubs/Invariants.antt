@@ -1,8 +1,0 @@
-use Rattle.std.specs.String.{string_bytes}
-use Rattle.panel_drawing.specs.Drawing.{hub_dot}
-use Rattle.panel_drawing.specs.Helper.{GainsHubs}
-use Rattle.panel_drawing.proofs.drawing.write_hubs.Given as goal
-
--- the hubs so far are written
-abbrev pub invariant-loop-passed : goal.invariant-loop-passed
-invariant-loop-passed l = GainsHubs (hub_dot l.wires) l.passed (string_bytes l.initial.text) (string_bytes l.text)

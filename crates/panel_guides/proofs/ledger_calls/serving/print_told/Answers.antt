@@ -1,0 +1,25 @@
+use Rattle.std.proofs.Common.{Some, refl}
+use Rattle.std.proofs.lemmas.Result.{err_from_is_err_and}
+use Rattle.panel_guides.proofs.Stopping.{nothing_explained}
+use Rattle.program_io.proofs.StoppingWith.{output_stops_with}
+use Rattle.panel_guides.proofs.ledger_calls.serving.print_told.Goals as goal
+
+pub returns-in_err-answer-clause-stopped : goal.returns-in_err-answer-clause-stopped
+returns-in_err-answer-clause-stopped g c =
+    let exit = err_from_is_err_and c.from_residual.result c.from_residual.ensures.1 in
+    rw exit.1 (λ unreadable. nothing_explained c.args.text.now (Some c.args.deck.now) c.args.deck.now refl c.args.place exit.0 unreadable _
+    (rw exit.2 c.in_err-answer.ensures.refused) refl)
+
+pub returns-in_err-put-clause-stopped : goal.returns-in_err-put-clause-stopped
+returns-in_err-put-clause-stopped g c =
+    let exit = err_from_is_err_and c.from_residual-in_err-put.result c.from_residual-in_err-put.ensures.1 in
+    rw exit.1 (λ unreadable. output_stops_with c.in_err-put.field-0.0 c.in_err-put.ensures.told exit.2)
+
+pub returns-clause-printed : goal.returns-clause-printed
+returns-clause-printed g c = record {
+  read = c.args.deck.now;
+  is_deck = refl;
+  answer = c.in_ok-answer.answer.items;
+  told = c.in_ok-answer.ensures.told;
+  written = rw (← c.as_slice.ensures.value) c.in_ok-put.ensures.written;
+}

@@ -1,6 +1,0 @@
-use Rattle.std.specs.Prelude.{◌≡◌, ◌++◌, map, take}
-use Rattle.panel_slips.specs.declared.toggles.Toggle.TheVariants as changes
-use Rattle.panel_slips.proofs.toggles.push_out.Given as goal
-
-abbrev pub invariant-loop-wire : goal.invariant-loop-wire
-invariant-loop-wire l = l.toggles.items ≡ l.initial.toggles.items ++ map changes.Out (take l.wire-index l.wires)

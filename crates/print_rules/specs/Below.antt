@@ -1,1 +1,0 @@
-pub use Rattle.field_rules.specs as field_rules

@@ -1,0 +1,10 @@
+pub mod Numbered
+pub mod Misfits
+pub mod FirstMisfits
+pub mod Places
+pub mod Pages
+pub mod Alike
+pub mod FitBefore
+pub mod FitSoFar
+pub mod Begins
+pub mod Running

@@ -1,6 +1,0 @@
-use Rattle.sheet_calls.proofs.Reading.{rule_refuses}
-use Rattle.sheet_calls.proofs.charts_read.checked.Goals as goal
-
-pub returns-in-Err-clause-refused : goal.returns-in-Err-clause-refused
-returns-in-Err-clause-refused c =
-    rule_refuses c.args.raw c.in-Err.cause c.rule_told.result c.in-Err.ensures.refused c.rule_told.ensures

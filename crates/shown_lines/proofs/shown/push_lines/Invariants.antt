@@ -1,9 +1,0 @@
-use Rattle.std.specs.Prelude.{map, take}
-use Rattle.explanations.specs.Pages.{found_of}
-use Rattle.shown_lines.specs.Helper.{GainsLines}
-use Rattle.shown_lines.proofs.shown.push_lines.Given as goal
-
--- the lines so far are added
-abbrev pub invariant-loop-line : goal.invariant-loop-line
-invariant-loop-line l =
-    GainsLines (map found_of (take l.line-index l.ways)) l.initial.lines.items l.lines.items l.initial.found.items l.found.items

@@ -1,0 +1,29 @@
+-- From which counter groups the number of an account can come in a cycle.
+use Rattle.std.specs.Prelude.{ℕ, zero, suc, ◌&&◌, ◌||◌, Bool, false}
+use Rattle.counters.specs.Counters.{Counter}
+use Rattle.hubs.specs.declared.hub.Group.{Group}
+use Rattle.hubs.specs.declared.hub.Hub.TheVariants.{GX}
+use Rattle.ledgers.specs.Accounts.{positions_of}
+use Rattle.ledgers.specs.declared.account.Account.{Account}
+use Rattle.setups.specs.Wiring.{Wiring, is_wired}
+use Rattle.wheel_ledgers.specs.LedgerHoles.Positions.{entry_at, position_in}
+
+-- a wire leads from the exit of a position of a group to the entry of a position of an account
+unfoldable pub leads : Wiring → Group → (own : ℕ) → Account → (position : ℕ) → Bool
+leads wiring group own account position = is_wired wiring (GX group own) (entry_at (position_in account position))
+
+-- one leads there from one of so many positions of the group
+unfoldable pub leads_from : Wiring → Group → (owns : ℕ) → Account → (position : ℕ) → Bool
+leads_from wiring group zero account position = false
+leads_from wiring group (suc own) account position =
+    leads wiring group (suc own) account position || leads_from wiring group own account position
+
+-- one leads from the group to one of so many positions of the account
+unfoldable pub leads_to : Wiring → Group → Account → (positions : ℕ) → Bool
+leads_to wiring group account zero = false
+leads_to wiring group account (suc position) =
+    leads_from wiring group group.width account (suc position) || leads_to wiring group account position
+
+-- The number of a group comes to an account: it is read out, and a wire leads from one of its exits to an entry of the account.
+abbrev pub feeds : Wiring → Counter → Account → Bool
+feeds wiring group account = group.controls.read_out && leads_to wiring group.name account (positions_of account)

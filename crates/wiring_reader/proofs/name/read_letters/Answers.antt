@@ -1,7 +1,0 @@
-use Rattle.std.proofs.Common.{sym}
-use Rattle.wiring_reader.proofs.LetterReading.{letters_answered}
-use Rattle.wiring_reader.proofs.name.read_letters.Goals as goal
-
-pub returns : goal.returns
-returns c =
-    sym (letters_answered c.args.spelled.now c.of_spelled.result c.of_spelled.ensures.spelled c.of_spelled.ensures.none)

@@ -1,1 +1,0 @@
-pub use Rattle.wiring_text.specs as wiring_text

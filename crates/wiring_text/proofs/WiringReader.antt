@@ -1,0 +1,17 @@
+pub mod Agreeing
+pub mod LetterReading
+pub mod NamePieces
+pub mod NameGrammar
+pub mod StatementGrammar
+pub mod LineGrammar
+pub mod SameStatement
+pub mod SetupSteps
+pub mod LineSteps
+pub mod Takings
+pub mod NewSetup
+pub mod LinesGrammar
+pub mod LinePlaces
+pub mod LineOutcomes
+pub mod LowestFaults
+pub mod WiringGrammar
+pub mod Answered
