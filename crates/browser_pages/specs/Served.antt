@@ -3,8 +3,12 @@
 use Rattle.std.specs.Prelude.{◌≡◌, ℕ, List, Option, IfSome}
 use Rattle.std.specs.Io.KnownBytes.{Appends}
 use Rattle.faults.specs.declared.fault.Fault.{Fault}
-use Rattle.panel_guides.specs.Explained.{RefusesTexts}
-use Rattle.browser_pages.specs.Shown.{IsShown}
+use Rattle.panel_guides.specs.Panels.{HasPanel}
+use Rattle.panel_guides.specs.Unexplained.{unexplained_status}
+use Rattle.panel_guides.specs.declared.unexplained.Unexplained.{Unexplained}
+use Rattle.panel_guides.specs.declared.unexplained.Unexplained.TheVariants as why
+use Rattle.program_io.specs.Stops.{StopsWith}
+use Rattle.browser_pages.specs.Shown.{IsShown, IsUnshown}
 
 -- the page of a text and a deck, around a page of the report or none, was written after what was there
 pub record PrintsPageOf (text deck : List ℕ) (around : Option ℕ) (old new : Option (List ℕ)) : Type 0 where
@@ -18,8 +22,15 @@ pub record PrintsPage (text : List ℕ) (deck : Option (List ℕ)) (around : Opt
   pub is_deck : IfSome deck (λ known. read ≡ known)
   pub prints : PrintsPageOf text read around old new
 
--- the text or the deck that was read is refused, and this is told of them
-pub record IsRefused (text : List ℕ) (deck : Option (List ℕ)) (told : Fault) : Type 0 where
+-- with the deck that was read there is no page, and this is told
+pub record LeavesUnshown (text : List ℕ) (deck : Option (List ℕ)) (around : Option ℕ) (told : Unexplained) : Type 0 where
   pub read : List ℕ
   pub is_deck : IfSome deck (λ known. read ≡ known)
-  pub refuses : RefusesTexts text read told
+  pub unshown : IsUnshown text read around told
+
+-- Why no page was written: the texts are refused or there is no such page of the report, or the deck can't be read, and nothing was written;
+-- or the output can't be written, or memory ran out, and a part of the page may have been written.
+abbrev pub StopsShow : (text : List ℕ) (deck : Option (List ℕ)) (around : Option ℕ) (told : Unexplained) (unreadable : Fault)
+    (Unprinted : Type 0) → Type 0
+StopsShow text deck around told unreadable Unprinted =
+    StopsWith unexplained_status why.Failed told unreadable (LeavesUnshown text deck around told) (HasPanel text) Unprinted

@@ -1,11 +1,15 @@
--- The page for a browser of a text and a deck, from the bytes of both.
+-- The page for a browser of a text and a deck, from the bytes of both; or why there is none.
 use Rattle.std.specs.Prelude.{◌≡◌, ◌↔◌, ℕ, true, false, List, Option}
 use Rattle.card_code.specs.Deck.{Deck}
 use Rattle.commands.specs.Answers.{CompilesAs}
 use Rattle.compile407.specs.Compilation.{Compilation}
 use Rattle.compile407.specs.Runnable.{IsRunnable}
+use Rattle.faults.specs.declared.fault.Fault.{Fault}
 use Rattle.panel_charts.specs.PanelChart.{IsWiredChart}
-use Rattle.panel_guides.specs.Panels.{is_wiring_text}
+use Rattle.panel_guides.specs.Explained.{RefusesTexts}
+use Rattle.panel_guides.specs.Panels.{IsRunOf, is_wiring_text}
+use Rattle.panel_guides.specs.declared.unexplained.Unexplained.{Unexplained}
+use Rattle.panel_guides.specs.declared.unexplained.Unexplained.TheVariants as why
 use Rattle.plans.specs.Plans.{Lists}
 use Rattle.setups.specs.Wiring.{Wiring}
 use Rattle.show_page.specs.Page.{ShowsChart, ShowsPanel}
@@ -14,6 +18,7 @@ use Rattle.wire_chart.specs.WrittenText.{JoinsGroups}
 use Rattle.wiring_text.specs.WiringText.{ReadsAs}
 use Rattle.wiring_text.specs.declared.statement.Version.{Version}
 use Rattle.wiring_text.specs.declared.statement.Version.TheVariants.{Second}
+use Rattle.browser_pages.specs.Asked.{IsThere, LacksAsked}
 
 -- the page of a compiled chart, its legend in the version in which `wire` prints the chart's setup: the second where it joins groups, else
 -- the first
@@ -39,10 +44,16 @@ pub data ShowsWired (wiring : Wiring) (text : List ℕ) (cards : List (List ℕ)
   unread : ShowsPanel wiring text cards around page → ShowsWired wiring text cards around page
 
 -- A wiring chart is shown with the pages of the deck on its panel, whatever is on the cards; a planning chart, by its own plan and setup,
--- with its report of the deck, whose cards it can be run with. Either is shown around a page of the report, or around none.
+-- with its report of the deck, whose cards it can be run with. Either is shown around a page of the report, which is there, or around none.
 pub data IsShown (text deck : List ℕ) (around : Option ℕ) (page : List ℕ) : Type 0 where
   wired : is_wiring_text text ≡ true → (wiring : Wiring) → ReadsAs text wiring → (cards : List (List ℕ)) → Deck deck cards
-      → ShowsWired wiring text cards around page → IsShown text deck around page
+      → IsThere wiring cards around → ShowsWired wiring text cards around page → IsShown text deck around page
   planned : is_wiring_text text ≡ false → (compiled : Compilation) → CompilesAs text compiled → (cards : List (List ℕ))
-      → Deck deck cards → IsRunnable compiled.chart cards
+      → Deck deck cards → IsRunnable compiled.chart cards → IsThere compiled.setup cards around
       → ShowsCompiled compiled text cards around page → IsShown text deck around page
+
+-- Why there is no page: the fault of the text or of the deck; else their run ends before the page around which pages are to be shown.
+pub data IsUnshown (text deck : List ℕ) (around : Option ℕ) (told : Unexplained) : Type 0 where
+  texts : (fault : Fault) → RefusesTexts text deck fault → told ≡ why.Failed fault → IsUnshown text deck around told
+  no_such_page : (wiring : Wiring) (cards : List (List ℕ)) → IsRunOf text deck cards wiring → LacksAsked wiring cards around told
+      → IsUnshown text deck around told

@@ -4,6 +4,7 @@
 //! is told on one line. What stands on the page is told in `show_page`.
 #![tactic(auto)]
 
+mod asked;
 mod pages;
 mod serving;
 

@@ -3,16 +3,18 @@
 ghost use Rattle.std.specs.Prelude.{◌≡◌, ◌≢◌, ◌≤◌, false, length, true, IfErr, IfOk};
 ghost use Rattle.std.specs.String.{string_bytes};
 ghost use Rattle.card_code.specs.MostCards.{most_cards};
-ghost use Rattle.panel_guides.specs.Explained.{RefusesTexts};
+ghost use Rattle.faults.specs.declared.fault.Fault.TheVariants.{Memory};
 ghost use Rattle.panel_guides.specs.Panels.{is_wiring_text};
+ghost use Rattle.panel_guides.specs.declared.unexplained.Unexplained.TheVariants.{Failed};
 ghost use Rattle.show_page.specs.Page.{ShowsPanel};
-ghost use Rattle.browser_pages.specs.Shown.{IsShown, ShowsCompiled, ShowsWired};
+ghost use Rattle.browser_pages.specs.Shown.{IsShown, IsUnshown, ShowsCompiled, ShowsWired};
 
+use crate::asked::check_asked;
 use card_code::Card;
 use compile407::Compiled;
 use faults::Fault;
 use panel_charts::wired_chart;
-use panel_guides::{is_wiring_text, planned_run, wired_run};
+use panel_guides::{Unexplained, is_wiring_text, planned_run, wired_run};
 use setups::Setup;
 use show_page::{show_chart, show_panel, show_read};
 use std::alloc::Global;
@@ -94,13 +96,16 @@ fn page_by_wiring<'a>(
     wiring: &[u8],
     deck: &[u8],
     around: Option<u32>,
-) -> Result<String, Fault<'a>>
+) -> Result<String, Unexplained<'a>>
     requires { is_wiring_text wiring.now ≡ true }
     ensures shown { IfOk result (λ page. IsShown wiring.now deck.now around (string_bytes page)) }
-    ensures refused { IfErr result (λ told. told ≢ Fault.Memory → RefusesTexts wiring.now deck.now told) }
+    ensures refused { IfErr result (λ told. told ≢ Failed Memory → IsUnshown wiring.now deck.now around told) }
 {
     let wired = wired_run(alloc, wiring, deck)?;
-    wired_page(alloc, &wired.setup, wiring, wired.cards.as_slice(), around)
+    let cards = wired.cards.as_slice();
+    check_asked(alloc, &wired.setup, cards, around)?;
+    let page = wired_page(alloc, &wired.setup, wiring, cards, around)?;
+    Ok(page)
 }
 
 // The page of a chart and a deck.
@@ -109,19 +114,16 @@ fn page_by_chart<'a>(
     chart: &[u8],
     deck: &[u8],
     around: Option<u32>,
-) -> Result<String, Fault<'a>>
+) -> Result<String, Unexplained<'a>>
     requires { is_wiring_text chart.now ≡ false }
     ensures shown { IfOk result (λ page. IsShown chart.now deck.now around (string_bytes page)) }
-    ensures refused { IfErr result (λ told. told ≢ Fault.Memory → RefusesTexts chart.now deck.now told) }
+    ensures refused { IfErr result (λ told. told ≢ Failed Memory → IsUnshown chart.now deck.now around told) }
 {
     let planned = planned_run(alloc, chart, deck)?;
-    chart_page(
-        alloc,
-        &planned.compiled,
-        chart,
-        planned.cards.as_slice(),
-        around,
-    )
+    let cards = planned.cards.as_slice();
+    check_asked(alloc, planned.compiled.setup(), cards, around)?;
+    let page = chart_page(alloc, &planned.compiled, chart, cards, around)?;
+    Ok(page)
 }
 
 /// The page for a browser of a text and a deck, a file of XHTML: of a planning chart and its report of the deck, or of a panel wired by a
@@ -135,15 +137,16 @@ fn page_by_chart<'a>(
 /// # Errors
 ///
 /// As `explain` refuses texts: the fault of the chart, else of the deck's text, else of its cards for the chart, or the fault of the wiring
-/// chart, else of the deck's text. `Memory` where a growth was refused.
+/// chart, else of the deck's text; else `NoSuchLine` with the page of `around` and line 1 where the report ends before that page. `Memory`
+/// where a growth was refused.
 pub fn page_of<'a>(
     alloc: Global,
     text: &[u8],
     deck: &[u8],
     around: Option<u32>,
-) -> Result<String, Fault<'a>>
+) -> Result<String, Unexplained<'a>>
     ensures shown { IfOk result (λ page. IsShown text.now deck.now around (string_bytes page)) }
-    ensures refused { IfErr result (λ told. told ≢ Fault.Memory → RefusesTexts text.now deck.now told) }
+    ensures refused { IfErr result (λ told. told ≢ Failed Memory → IsUnshown text.now deck.now around told) }
 {
     if is_wiring_text(text) {
         page_by_wiring(alloc, text, deck, around)

@@ -1,16 +1,14 @@
 //! The command that writes the page, over any reader and writers.
 
-ghost use Rattle.std.specs.Prelude.{◌≡◌, ◌≢◌, ◌≤◌, ◌⊎◌, IfErr, OnOk};
+ghost use Rattle.std.specs.Prelude.{◌≡◌, ◌≤◌, ◌⊎◌, IfErr, OnOk, Some};
 ghost use Rattle.faults.specs.Lines.{IsTold};
-ghost use Rattle.faults.specs.Status.{status_of};
-ghost use Rattle.panel_guides.specs.Explained.{RefusesTexts};
 ghost use Rattle.panel_guides.specs.Panels.{HasPanel};
-ghost use Rattle.program_io.specs.Stops.{Stops};
-ghost use Rattle.browser_pages.specs.Served.{IsRefused, PrintsPage, PrintsPageOf};
+ghost use Rattle.panel_guides.specs.Unexplained.{IsToldUnexplained};
+ghost use Rattle.browser_pages.specs.Served.{LeavesUnshown, PrintsPage, PrintsPageOf, StopsShow};
 
 use crate::pages::page_of;
-use faults::{Ending, Fault, tell};
-use panel_guides::check_panel;
+use faults::{Ending, Fault};
+use panel_guides::{Unexplained, check_panel, tell_unexplained};
 use program_io::{put, read_whole};
 use std::alloc::Global;
 use std::io::{Read, Write};
@@ -22,10 +20,10 @@ fn print_shown<'a, W: Write>(
     deck: &[u8],
     around: Option<u32>,
     out: &mut W,
-) -> Result<(), Fault<'a>>
+) -> Result<(), Unexplained<'a>>
     ensures printed { OnOk result (PrintsPageOf text.now deck.now around (W.contents out.old) (W.contents out.new)) }
-    ensures refused { IfErr result (λ told. status_of told ≡ 3 → RefusesTexts text.now deck.now told × (out.new ≡ out.old)) }
-    ensures stopped { IfErr result (λ told. (unreadable : Fault) → Stops told unreadable (out.new ≡ out.old)) }
+    ensures stopped { IfErr result (λ told. (unreadable : Fault)
+        → StopsShow text.now (Some deck.now) around told unreadable (out.new ≡ out.old)) }
 {
     let page = page_of(alloc, text, deck, around)?;
     put(out, page.as_bytes())?;
@@ -46,17 +44,16 @@ pub fn print_page<'a, R: Read + Drop, W: Write>(
     deck: R,
     around: Option<u32>,
     out: &mut W,
-) -> Result<(), Fault<'a>>
+) -> Result<(), Unexplained<'a>>
     ensures printed { OnOk result (PrintsPage text.now (R.remaining deck) around (W.contents out.old) (W.contents out.new)) }
-    ensures refused { IfErr result (λ told. status_of told ≡ 3 → IsRefused text.now (R.remaining deck) told × (out.new ≡ out.old)) }
-    ensures unread { IfErr result (λ told. told ≡ Fault.File path.entry → HasPanel text.now) }
-    ensures stopped { IfErr result (λ told. Stops told (Fault.File path.entry) (out.new ≡ out.old)) }
+    ensures stopped { IfErr result (λ told.
+        StopsShow text.now (R.remaining deck) around told (Fault.File path.entry) (out.new ≡ out.old)) }
 {
     match read_whole(alloc, deck, path) {
         Ok(bytes) => print_shown(alloc, text, bytes.as_slice(), around, out),
         Err(unread) => {
             check_panel(alloc, text)?;
-            Err(unread)
+            Err(Unexplained::Failed { fault: unread })
         }
     }
 }
@@ -64,9 +61,9 @@ pub fn print_page<'a, R: Read + Drop, W: Write>(
 /// Writes the page for a browser of a text and a deck, and tells on one line of `faults` why there is none.
 ///
 /// The text is a planning chart, whose report of the deck is shown, or a wiring chart, whose pages of the deck are, around a page or none, as
-/// [`page_of`] tells. `path` names the deck in what is told of one that can't be read, after a fault of the text. The statuses are 0 done, and then nothing is told, 3 refused
-/// input, 4 file fault, 5 memory. Nothing is written by status 3, nor where the deck can't be read. Where the output can't be written or
-/// memory runs out, a part of the page may have been.
+/// [`page_of`] tells. `path` names the deck in what is told of one that can't be read, after a fault of the text. The statuses are 0 done,
+/// and then nothing is told, 3 refused input, a page that the report doesn't have among it, 4 file fault, 5 memory. Nothing is written by
+/// status 3, nor where the deck can't be read. Where the output can't be written or memory runs out, a part of the page may have been.
 pub fn show_to_end<R: Read + Drop, W: Write, V: Write>(
     alloc: Global,
     text: &[u8],
@@ -78,8 +75,8 @@ pub fn show_to_end<R: Read + Drop, W: Write, V: Write>(
 ) -> Ending
     ensures done { result.status ≡ 0 → PrintsPage text.now (R.remaining deck) around (W.contents out.old) (W.contents out.new)
         × (faults.new ≡ faults.old) }
-    ensures refused { result.status ≡ 3 → (told : Fault) × IsRefused text.now (R.remaining deck) told × (out.new ≡ out.old)
-        × IsTold told result.is_told (V.contents faults.old) (V.contents faults.new) }
+    ensures refused { result.status ≡ 3 → (told : Unexplained) × LeavesUnshown text.now (R.remaining deck) around told
+        × (out.new ≡ out.old) × IsToldUnexplained told result.is_told (V.contents faults.old) (V.contents faults.new) }
     ensures device { result.status ≡ 4 → ((out.new ≡ out.old) × HasPanel text.now
         × IsTold (Fault.File path.entry) result.is_told (V.contents faults.old) (V.contents faults.new))
         ⊎ IsTold Fault.Write result.is_told (V.contents faults.old) (V.contents faults.new) }
@@ -91,6 +88,6 @@ pub fn show_to_end<R: Read + Drop, W: Write, V: Write>(
             status: 0,
             is_told: true,
         },
-        Err(fault) => tell(&fault, faults),
+        Err(told) => tell_unexplained(&told, faults),
     }
 }

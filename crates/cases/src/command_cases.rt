@@ -10,9 +10,9 @@
 //! `explain`, `explain --whole`, `ledger` and `ledger --all` the page, the line and the wheel.
 //! A `check deck` checks the deck too, where `check` leaves it alone, a `check groups` also tells the control keys that come back, a `check all`
 //! tells every fault of the chart, and a `check all deck` shows the bad cards of the deck if there is none.
-//! Behind `run pages` stand the first and the last page that are printed.
+//! Behind `run pages` stand the first and the last page that are printed, or `all`.
 //! A `run decks` has its decks in a row, divided by `~`, and `fold` its character behind it, or nothing for a blank.
-//! The rows of `show` are refused; its pages stand in `shown_cases`.
+//! Behind `show page` stands the page around which pages are shown. The rows of `show` are refused; its pages stand in `shown_cases`.
 //! Of a million cards the number of bytes printed stands in place of these.
 
 ghost use Rattle.std.specs.Prelude.{IfSome, IsSome};
@@ -187,8 +187,11 @@ fn by_orders<R: Read + Drop>(
     Ok(Served::by_orders(rt.alloc(), wiring, orders.as_slice(), deck))
 }
 
-// The pages from one number to another.
+// The pages from one number to another, or all.
 fn pages_of(words: &str) -> Option<PageRange> {
+    if words == "all" {
+        return Some(PageRange::all());
+    }
     let Some((first, last)) = words.split_once(' ') else {
         return None;
     };
@@ -230,6 +233,9 @@ fn worded<R: Read + Drop>(rt: &HostRuntime, command: &str, text: &[u8], deck: R)
     }
     if let Some(pages) = command.strip_prefix("run pages ").and_then(pages_of) {
         return Ok(Served::run_pages(alloc, text, deck, pages));
+    }
+    if let Some(page) = command.strip_prefix("show page ") {
+        return Ok(Served::show(alloc, text, deck, Some(page.parse()?)));
     }
     if let Some(card) = command.strip_prefix("fields ") {
         return Ok(Served::fields(alloc, text, deck, card.parse()?));

@@ -6,7 +6,7 @@ use std::alloc::{AllocError, Global};
 
 /// What stands behind the commands of the program's help.
 const AFTER_HELP: &str =
-    "Status: 0 done, 2 words that can't be obeyed, 3 a text that is refused, a line or wheel that isn't there, or a panel that isn't wired for its chart, 4 a file that can't be read or an output that can't be written, 5 no memory. Why is told on one line of standard error. A file that is read may be -, standard input; one of them at most.\n\nDocuments, in the folder docs: CHART.md the planning chart, DECKS.md decks, REPORT.md what a report is, GALLERY.md whole charts with their pages, WIRING.md wiring charts, MACHINE.md the machine, EXPLAIN.md explanations, SHOW.md the page for a browser, FAULTS.md every fault.";
+    "Status: 0 done, 2 words that can't be obeyed, 3 a text that is refused, a page, line or wheel that isn't there, or a panel that isn't wired for its chart, 4 a file that can't be read or an output that can't be written, 5 no memory. Why is told on one line of standard error. A file that is read may be -, standard input; one of them at most.\n\nDocuments, in the folder docs: CHART.md the planning chart, DECKS.md decks, REPORT.md what a report is, GALLERY.md whole charts with their pages, WIRING.md wiring charts, MACHINE.md the machine, EXPLAIN.md explanations, SHOW.md the page for a browser, FAULTS.md every fault.";
 
 /// How large a number may be: as large as the type has it.
 #[derive(Clone, Copy)]

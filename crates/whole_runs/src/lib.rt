@@ -1,11 +1,12 @@
 //! Runs whose pages are printed only once the whole deck has run: all of them, or some.
 //!
-//! [`run_whole_to_end`] does the whole command. The report is held until then, so a deck of which a card is refused leaves nothing printed.
-//! [`chosen_pages`] answers the pages of a text that a [`PageRange`] names.
+//! [`run_whole_to_end`] does the whole command. The report is held until then, so a deck of which a card is refused leaves nothing printed, nor
+//! does a report without the first of the pages. [`chosen_pages`] answers the pages of a text that a [`PageRange`] names, [`has_page`] whether a
+//! text has a page, and [`no_page`] what is told of one that isn't there.
 #![tactic(auto)]
 
 mod pages;
 mod serving;
 
-pub use pages::{PageRange, chosen_pages};
-pub use serving::{print_whole_run, run_whole_to_end};
+pub use pages::{PageRange, chosen_pages, has_page};
+pub use serving::{no_page, print_whole_run, run_whole_to_end};

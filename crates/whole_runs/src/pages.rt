@@ -1,7 +1,7 @@
 //! Pages of a text.
 
 ghost use Rattle.std.specs.Prelude.{◌≡◌, ◌≢◌, ◌≤◌, ◌-◌, ◌==◌, drop, if◌then◌else◌, length, take};
-ghost use Rattle.whole_runs.specs.Pages.{chosen_pages, first_pages, pages_behind};
+ghost use Rattle.whole_runs.specs.Pages.{chosen_pages, first_pages, has_page, pages_behind};
 
 /// The byte that ends a page.
 const FORM_FEED: u8 = 12;
@@ -9,7 +9,7 @@ const FORM_FEED: u8 = 12;
 /// Pages from one to another, both among them. Numbers are from 1; there are none if the last comes before the first.
 #[derive(Clone, Copy, Debug, PartialEq, Eq)]
 pub struct PageRange {
-    /// The number of the first page.
+    /// The number of the first page, which has to be there; 0 if none has to.
     pub first: u64,
     /// The number of the last page.
     pub last: u64,
@@ -18,12 +18,12 @@ pub struct PageRange {
 impl PageRange {
     ghost use Rattle.std.specs.Prelude.{◌≡◌, ◌-◌, ◌^◌};
 
-    /// All pages.
+    /// All pages, of which there may be none.
     pub fn all() -> PageRange
-        ensures { result ≡ record { first = 1; last = 2 ^ 64 - 1 } }
+        ensures { result ≡ record { first = 0; last = 2 ^ 64 - 1 } }
     {
         PageRange {
-            first: 1,
+            first: 0,
             last: u64::MAX,
         }
     }
@@ -55,12 +55,27 @@ fn place_behind(text: &[u8], count: u64) -> usize
     place
 }
 
-/// The pages of a text that are in a range. A form feed ends a page; behind the last one stands the beginning of a page, if anything does.
+// What stands behind so many pages.
+fn pages_behind(text: &[u8], count: u64) -> &[u8]
+    ensures { result.now ≡ pages_behind count text.now }
+{
+    &text[place_behind(text, count)..]
+}
+
+/// Whether a text has a page with this number. A form feed ends a page; behind the last one stands the beginning of a page, if anything does.
+/// Page 0, before the first one, is always there.
+pub fn has_page(text: &[u8], number: u64) -> bool
+    ensures { result ≡ has_page number text.now }
+{
+    number == 0 || !pages_behind(text, number - 1).is_empty()
+}
+
+/// The pages of a text that are in a range, as [`has_page`] counts them.
 pub fn chosen_pages(text: &[u8], pages: PageRange) -> &[u8]
     ensures { result.now ≡ chosen_pages pages.first pages.last text.now }
 {
     let skipped = pages.first.saturating_sub(1);
-    let behind = &text[place_behind(text, skipped)..];
+    let behind = pages_behind(text, skipped);
     let wanted = pages.last.saturating_sub(skipped);
     &behind[..place_behind(behind, wanted)]
 }

@@ -1,35 +1,20 @@
-use Rattle.std.proofs.Common.{◌≡◌, refl, []}
+use Rattle.std.proofs.Common.{refl}
 use Rattle.std.proofs.lemmas.Result.{err_from_is_err_and}
-use Rattle.browser_pages.proofs.Stopping.{refused_for_any}
-use Rattle.panel_guides.proofs.RefusedTexts.{texts_status}
-use Rattle.panel_guides.specs.Explained.{RefusesTexts}
-use Rattle.program_io.proofs.Stopping.{no_file, no_file_stops, refusal_stops, stops_for_deck}
+use Rattle.browser_pages.proofs.Stopping.{refused_unread, stops_for}
+use Rattle.program_io.proofs.StoppingWith.{deck_stops_with}
 use Rattle.browser_pages.proofs.serving.print_page.Goals as goal
 
-pub returns-in_err-check_panel-in-Err-clause-refused : goal.returns-in_err-check_panel-in-Err-clause-refused
-returns-in_err-check_panel-in-Err-clause-refused g c =
-    let exit = err_from_is_err_and c.from_residual.result c.from_residual.ensures.1 in
-    rw exit.1 (λ three. (
-      refused_for_any c.args.text.now (g.R.Read.remaining c.args.deck) c.in_err-check_panel-in-Err.field-0.0 exit.0
-          c.in_err-check_panel-in-Err.ensures.refused exit.2 three,
-      refl,
-    ))
+pub returns-in-Ok-clause-stopped : goal.returns-in-Ok-clause-stopped
+returns-in-Ok-clause-stopped g c =
+    stops_for c.print_shown.result c.args.text.now c.as_slice.result.now c.in-Ok.bytes.items (g.R.Read.remaining c.args.deck)
+    c.args.around _ _ c.as_slice.ensures.value c.in-Ok.ensures.whole c.print_shown.ensures.stopped
 
 pub returns-in_err-check_panel-in-Err-clause-stopped : goal.returns-in_err-check_panel-in-Err-clause-stopped
 returns-in_err-check_panel-in-Err-clause-stopped g c =
     let exit = err_from_is_err_and c.from_residual.result c.from_residual.ensures.1 in
-    rw exit.1 (refusal_stops (RefusesTexts c.args.text.now []) (texts_status c.args.text.now []) c.in_err-check_panel-in-Err.field-0.0 exit.0
-    (λ not_memory. c.in_err-check_panel-in-Err.ensures.refused not_memory []) exit.2 _ _ refl)
+    rw exit.1 (refused_unread c.args.text.now (g.R.Read.remaining c.args.deck) c.args.around c.in_err-check_panel-in-Err.field-0.0 exit.0 _ _
+    c.in_err-check_panel-in-Err.ensures.refused exit.2 refl)
 
-pub returns-in-Ok-clause-stopped : goal.returns-in-Ok-clause-stopped
-returns-in-Ok-clause-stopped g c = stops_for_deck c.print_shown.result _ _ c.print_shown.ensures.stopped
-
-pub returns-in_err-check_panel-in-Err-clause-unread : goal.returns-in_err-check_panel-in-Err-clause-unread
-returns-in_err-check_panel-in-Err-clause-unread g c =
-    let exit = err_from_is_err_and c.from_residual.result c.from_residual.ensures.1 in
-    rw exit.1 (λ is. absurd (no_file_stops exit.0 (c.args.out.now ≡ c.args.out.now)
-    (refusal_stops (RefusesTexts c.args.text.now []) (texts_status c.args.text.now []) c.in_err-check_panel-in-Err.field-0.0 exit.0
-    (λ not_memory. c.in_err-check_panel-in-Err.ensures.refused not_memory []) exit.2 _ _ refl) is))
-
-pub returns-in-Ok-clause-unread : goal.returns-in-Ok-clause-unread
-returns-in-Ok-clause-unread g c = no_file c.print_shown.result _ _ _ c.print_shown.ensures.stopped
+pub returns-in_ok-check_panel-in-Err-clause-stopped : goal.returns-in_ok-check_panel-in-Err-clause-stopped
+returns-in_ok-check_panel-in-Err-clause-stopped g c =
+    deck_stops_with c.in-Err.unread c.in-Err.ensures.told refl c.in_ok-check_panel-in-Err.ensures.good refl
