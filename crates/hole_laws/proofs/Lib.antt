@@ -1,1 +1,2 @@
 mod Impulses
+mod Asks

@@ -1,1 +1,2 @@
 pub mod Impulses
+pub mod Asks

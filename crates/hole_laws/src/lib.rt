@@ -3,4 +3,4 @@
 
 mod law;
 
-pub use law::holes_impulse_entries;
+pub use law::{cycles_impulse_entries, holes_impulse_entries};

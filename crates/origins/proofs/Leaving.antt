@@ -11,7 +11,6 @@ use Rattle.card_code.specs.declared.row.Row.TheVariants.{Zero, One, Two, Three, 
 use Rattle.hub_table.specs.Ranges.{is_within}
 use Rattle.hubs.specs.declared.hub.Hub.{Hub}
 use Rattle.setups.specs.Wiring.{Wiring}
-use Rattle.net.specs.HubSets.{is_bit}
 use Rattle.net.specs.declared.cycle.Cycle.{Cycle}
 use Rattle.net.specs.declared.cycle.Cycle.TheVariants.{RunIn, Card, Prog, Head}
 use Rattle.net.specs.declared.cycle.Point.{Point}
@@ -24,7 +23,6 @@ use Rattle.storage_units.specs.Storage.{StorageState, blank, holds, storage_at_s
 use Rattle.storage_units.specs.Words.{has_column}
 use Rattle.ledgers.specs.Entries.{same}
 use Rattle.ledgers.specs.Ledgers.{Along, ComesTo, Goes, group_at, ready}
-use Rattle.ledgers.specs.Running.{HasCycle}
 use Rattle.ledgers.proofs.Places.{goes-one, places-one}
 use Rattle.ledgers.proofs.Whole.{holds as groups-hold, in-cycle, start-group}
 use Rattle.origins.specs.Changes.{IsLast, LatchesAreTested, LeftBy, PilotsArePickedUp, StorageIsKept, begun, last_with, latch_left, more, moves, passed_cycle, storage_at, text_held, text_left}

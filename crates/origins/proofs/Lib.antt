@@ -1,5 +1,6 @@
 pub mod Keeping
 pub mod Storing
+pub mod Printing
 pub mod Texts
 mod Leaving
 pub mod Standing

@@ -1,16 +1,15 @@
 -- The cards in the machine along a run.
-use Rattle.std.proofs.Common.{zero, suc, ◌≡◌, ◌∙◌, sym, ap, subst, refl, ℕ, ◌+◌, List, [], ◌∷◌, Option, arith, drop}
+use Rattle.std.proofs.Common.{zero, suc, ◌≡◌, ◌∙◌, ap, subst, refl, ℕ, List, [], ◌∷◌, arith, drop}
 use Rattle.std.specs.Prelude.{slice_get}
 use Rattle.setups.specs.Wiring.{Wiring}
 use Rattle.net.specs.declared.cycle.Cycle.{Cycle}
 use Rattle.net.specs.declared.cycle.Cycle.TheVariants.{RunIn, Card, Prog, Head}
 use Rattle.machine.specs.Cycles.{Reached}
-use Rattle.machine.specs.Machine.{MachineState, machine_at_start}
+use Rattle.machine.specs.Machine.{MachineState}
 use Rattle.machine.specs.Runs.{InRun, cards_moved, made_ready, run_at_start}
 use Rattle.ledgers.specs.Ledgers.{Along, ComesTo, Goes, at_start, card_in, on, ready}
 use Rattle.stations.specs.Stations.{StationCards}
-use Rattle.ledgers.specs.Running.{HasCycle}
-use Rattle.origins.specs.Cards.{CardsAreNumbered, CardsStand, card_numbered}
+use Rattle.origins.specs.Cards.{CardsAreNumbered, CardsStand}
 
 -- a run in which so many cards were read: the cards at the stations, and the rest of the deck in the hopper
 record Feeding (deck : List (List ℕ)) (card : ℕ) (run : InRun) : Type 0 where

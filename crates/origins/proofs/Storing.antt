@@ -1,13 +1,11 @@
 -- The storage units of a machine in a run, and what they hold.
-use Rattle.std.proofs.Common.{zero, suc, ◌≡◌, ◌∙◌, sym, ap, subst, refl, ℕ, List, [], ◌∷◌, length, map}
+use Rattle.std.proofs.Common.{zero, suc, ◌≡◌, ◌∙◌, ap, refl, ℕ, List, [], ◌∷◌, length}
 use Rattle.std.proofs.lemmas.List.{length-map}
-use Rattle.hubs.specs.declared.hub.Hub.{Hub}
 use Rattle.setups.specs.Wiring.{Wiring}
 use Rattle.net.specs.declared.cycle.Cycle.{Cycle}
 use Rattle.net.specs.declared.cycle.Cycle.TheVariants.{RunIn, Card, Prog, Head}
-use Rattle.net.specs.declared.cycle.Point.{Point}
 use Rattle.machine.specs.Cycles.{Reached, point_at}
-use Rattle.machine.specs.Machine.{MachineState, ended, machine_at_start, sensed}
+use Rattle.machine.specs.Machine.{MachineState, machine_at_start}
 use Rattle.machine.specs.Runs.{cards_moved, run_at_start}
 use Rattle.storage_units.specs.Storage.{StorageState, storage_ended, storage_sensed}
 use Rattle.ledgers.specs.Ledgers.{Along, ComesTo, Goes, at_start, on, ready}

@@ -6,6 +6,7 @@ use Rattle.std.specs.List.{flat_map, range_with_len}
 use Rattle.std.specs.Prelude.{Err, IfSome, Ok, OnOk, Result, Vec, codes}
 use Rattle.std.specs.declared.alloc.Global.{Global}
 use Rattle.hubs.specs.declared.hub.Hub.{Hub}
+use Rattle.hubs.specs.declared.hub.Hub.TheVariants.{RS}
 use Rattle.hubs.specs.Hubs.{number_of}
 use Rattle.setups.specs.Wiring.{HasWire, Wiring, is_listed, is_wired, row_at}
 use Rattle.setups.proofs.WiredLemmas.{HasWire-is_wired}
@@ -22,7 +23,9 @@ use Rattle.origins.specs.Levels.{called_by_holes, called_text, is_led_from, othe
 use Rattle.origins.specs.declared.holes.Hole.{Hole}
 use Rattle.origins.specs.declared.holes.Station.{Station}
 use Rattle.origins.specs.Holders.{holder_at}
+use Rattle.origins.specs.Asks.{asks, page_words, wire_words}
 use Rattle.origins.specs.Latches.{test_line}
+use Rattle.origins.specs.Placing.{first_words}
 use Rattle.origins.specs.Storage.{led_text, line_at, lines_of}
 use Rattle.origins.specs.Told.{AreTexts, IsHolderText, more}
 use Rattle.origins.specs.declared.holders.Holder.{Holder}
@@ -173,3 +176,24 @@ tested-line (Ok x) place tested width told since old one two three four five six
     joined old six new
     (codes "balance latch of " ++ place_text place ++ codes " set by " ++ cycle_text since.cycle since.card ++ codes ": it tested "
     ++ digits_text (width_of (3 + place)) tested) (codes "\n") digits last
+
+-- how far a line is from the first line, by what the tape tells
+pub begun-line : {X E : Type 0} (result : Result X E) (first told line : ℕ) (old mid new spacing : List ℕ) → told ≡ first
+    → mid ≡ old ++ first_words told line → OnOk result (new ≡ mid ++ spacing)
+    → OnOk result (new ≡ old ++ (first_words first line ++ spacing))
+begun-line (Err e) first told line old mid new spacing same begun ended = tt
+begun-line (Ok x) first told line old mid new spacing same begun ended =
+    ended
+    ∙ ap (λ (l : List ℕ). l ++ spacing) (begun ∙ ap (λ (n : ℕ). old ++ first_words n line) same)
+    ∙ append_assoc old (first_words first line) spacing
+
+-- the new page that a cycle asks for
+pub page-line : {X E : Type 0} (result : Result X E) (wiring : Wiring) (cycle : Cycle) (asked : Bool) (old mid new : List ℕ)
+    → asked ≡ asks wiring cycle RS → asked ≡ true → mid ≡ old ++ codes ", a new page"
+    → OnOk result (new ≡ mid ++ wire_words cycle (codes "RS")) → OnOk result (new ≡ old ++ page_words wiring cycle)
+page-line (Err e) wiring cycle asked old mid new told is begun ended = tt
+page-line (Ok x) wiring cycle asked old mid new told is begun ended =
+    ended
+    ∙ ap (λ (l : List ℕ). l ++ wire_words cycle (codes "RS")) begun
+    ∙ append_assoc old (codes ", a new page") (wire_words cycle (codes "RS"))
+    ∙ ap (λ (b : Bool). old ++ (if b then codes ", a new page" ++ wire_words cycle (codes "RS") else [])) (sym is ∙ told)

@@ -7,4 +7,6 @@ pub mod Pilots
 pub mod Latches
 pub mod Storage
 pub mod Levels
+pub mod Asks
+pub mod Placing
 pub mod Told

@@ -9,6 +9,7 @@ use Rattle.origins.specs.Holders.{holder_at, is_told}
 use Rattle.origins.specs.Latches.{IsLatchText}
 use Rattle.origins.specs.Levels.{called_by}
 use Rattle.origins.specs.Pilots.{pilot_text}
+use Rattle.origins.specs.Placing.{IsPlacing}
 use Rattle.origins.specs.Storage.{storage_text}
 use Rattle.origins.specs.declared.changes.PassedCycle.{PassedCycle}
 use Rattle.origins.specs.declared.holders.Holder.{Holder}
@@ -36,10 +37,10 @@ pub data AreTexts (wiring : Wiring) (cards : List (List ℕ)) (passed : ℕ) (wa
       → IsHolderText wiring cards passed ways (holder_at place) text → AreTexts wiring cards passed ways (place + 1) (texts ++ text)
 
 -- Before a cycle that placed a line, by the ways to the wheel at the rows of the cycle: the text tells of each storage unit at whose exits
--- one of the ways begins, of each pilot and each balance latch through whose transferred contacts one leads, and behind that, why the
--- cycle runs.
+-- one of the ways begins, of each pilot and each balance latch through whose transferred contacts one leads, then why the cycle
+-- runs, and last why its line stands where it stands.
 pub record AreOrigins (wiring : Wiring) (cards : List (List ℕ)) (found : FoundCycle) (ways : List (Option (Vec Hub Global)))
     (answer : List ℕ) : Type 0 where
   pub holders : List ℕ
   pub are : AreTexts wiring cards found.passed ways 52 holders
-  pub whole : answer ≡ holders ++ called_by wiring cards found.card found.cycle
+  pub placed : IsPlacing wiring cards found (holders ++ called_by wiring cards found.card found.cycle) answer

@@ -1,11 +1,12 @@
 //! From where comes what a wheel is printed of, beside the numbers of counter groups: the texts that storage units hold, the pilots that
-//! stand transferred, the balance latches that are set, and the program cycle.
+//! stand transferred, the balance latches that are set, the program cycle, and the place of the line.
 //!
 //! [`origins_of`] answers the text for a wheel of a line: since which cycle a storage unit holds its text, a pilot is transferred or a
-//! balance latch is set, and by which holes of a card or which number; and why the program cycle ran that printed the line, as
-//! [`called_by`] tells it alone.
+//! balance latch is set, and by which holes of a card or which number; why the program cycle ran that printed the line, as
+//! [`called_by`] tells it alone; and why the line stands where it stands.
 #![tactic(auto)]
 
+mod asks;
 mod changes;
 mod holders;
 mod holding;
@@ -14,6 +15,7 @@ mod latches;
 pub mod laws;
 mod levels;
 mod pilots;
+mod placing;
 mod storage;
 mod telling;
 

@@ -13,6 +13,7 @@ use crate::holders::{HOLDERS, Holder, holder_at, is_told};
 use crate::latches::latch_text;
 use crate::levels::add_called_by;
 use crate::pilots::write_pilot;
+use crate::placing::add_placing;
 use crate::storage::write_storage;
 use card_code::Card;
 use hubs::Hub;
@@ -148,7 +149,7 @@ fn holder_texts(
 /// panel, by the ways to the wheel at the twelve rows of the cycle. Of each storage unit at whose exits one of the ways begins it tells
 /// since which cycle the unit holds its text, and for each row by which hole of a card; of each pilot that a way passes transferred, which
 /// cycle picked it up and by which hole; of each balance latch that a way passes set, which cycle tested it and which number; of a program
-/// cycle, why it runs. It is empty if there is nothing of this kind. Fails only if no memory is left.
+/// cycle, why it runs; and last why the line stands where it stands. Fails only if no memory is left.
 pub fn origins_of(
     alloc: Global,
     setup: &Setup,
@@ -163,5 +164,6 @@ pub fn origins_of(
 {
     let mut text = holder_texts(alloc, setup, cards, found.passed, ways)?;
     add_called_by(alloc, &mut text, setup, cards, found.card, found.cycle)?;
+    add_placing(alloc, &mut text, setup, cards, found)?;
     Ok(text)
 }

@@ -45,13 +45,16 @@ is_place_text wiring cards ends found total known place account words summary ol
 
 -- with the figure that was printed
 pub is_figure_text : (wiring : Wiring) (cards : List (List ℕ)) (ends : ℕ) (found : FoundCycle) (wheel : ℕ)
-    (total : Option TitledAccount) (place : ℕ) (line ledger new : List ℕ) → line ≡ found.line.text
-    → IsPlaceText wiring cards ends found total place ledger → new ≡ ledger ++ printed_text line wheel
-    → IsFigureText wiring cards ends found wheel total place new
-is_figure_text wiring cards ends found wheel total place line ledger new same is written = record {
+    (total known : Option TitledAccount) (place : ℕ) (account : Account) (ledger new : List ℕ) → known ≡ total
+    → account ≡ account_told known place → IsPlaceText wiring cards ends found total place ledger
+    → new ≡ ledger ++ printed_text wiring account found.line.text wheel → IsFigureText wiring cards ends found wheel total place new
+is_figure_text wiring cards ends found wheel total known place account ledger new same told is written = record {
   ledger = ledger;
   is = is;
-  text = written ∙ ap (λ (any : List ℕ). ledger ++ printed_text any wheel) same;
+  text =
+      written
+      ∙ ap (λ (any : Account). ledger ++ printed_text wiring any found.line.text wheel)
+      (told ∙ ap (λ (one : Option TitledAccount). account_told one place) same);
 }
 
 -- the text for a wheel that is explained, of the line that was found

@@ -4,3 +4,4 @@ mod Lists
 mod Asked
 mod Down
 pub mod LedgerHoles
+mod Wires

@@ -38,7 +38,7 @@ pub record IsFigureText (wiring : Wiring) (cards : List (List ℕ)) (ends : ℕ)
     (total : Option TitledAccount) (place : ℕ) (answer : List ℕ) : Type 0 where
   pub ledger : List ℕ
   pub is : IsPlaceText wiring cards ends found total place ledger
-  pub text : answer ≡ ledger ++ printed_text found.line.text wheel
+  pub text : answer ≡ ledger ++ printed_text wiring (account_told total place) found.line.text wheel
 
 -- The text for what is printed on a wheel: the ledger of the place of a counter group, or that there is none.
 abbrev pub IsTextFor : Wiring → List (List ℕ) → (ends : ℕ) → FoundCycle → ℕ → List TitledAccount → Option ℕ → List ℕ → Type 0

@@ -21,6 +21,7 @@ mod texts;
 mod whole;
 
 pub use chart_totals::{TitledAccount, find_total, totals_of};
+pub use figures::figure_on;
 pub use lower::AskedLedger;
 pub use printed::place_printed;
 pub use resting::tell_basis;

@@ -148,7 +148,7 @@ fn basis_of(
 
 /// The text of all that a wheel of a line is printed of. First come the ledgers of all counter groups at one of whose exits a way to the
 /// wheel begins, in the order of the groups on the panel, as [`tell_ledger`] tells them, without the figure that was printed; then the
-/// origins, as [`origins_of`] tells them. The text is empty if there is nothing of all this.
+/// origins, as [`origins_of`] tells them.
 ///
 /// Refused with `NoSuchWheel` if the wheel isn't one of 1 to 120, else with `NoSuchLine` if no line stands there, and with `Memory` if
 /// no memory is left.

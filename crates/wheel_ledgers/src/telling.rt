@@ -88,7 +88,8 @@ fn figure_text(
         IsFigureText setup.now cards.now ends found wheel (find_total totals.now place) place text.items) }
 {
     let mut text = place_text(alloc, setup, totals, cards, found, place, ends)?;
-    match write_printed(&mut text, &found.line.text, wheel as usize) {
+    let account = account_told(&find_total(totals, place), place);
+    match write_printed(&mut text, setup, account, &found.line.text, wheel) {
         Ok(()) => Ok(text),
         Err(_) => Err(AllocError),
     }

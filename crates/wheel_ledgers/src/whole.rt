@@ -300,8 +300,7 @@ fn whole_of(
 
 /// The text of all that a wheel of a line is printed of, down to the holes. First come the ledgers of all counter groups at one of whose
 /// exits a way to the wheel begins, then those of the groups whose numbers came to these, and so on, each once; below each entry of a card cycle
-/// stands by which hole each digit came in. Then come the origins, as [`origins_of`] tells them. The text is empty if there is nothing of
-/// all this.
+/// stands by which hole each digit came in. Then come the origins, as [`origins_of`] tells them.
 ///
 /// Refused with `NoSuchWheel` if the wheel isn't one of 1 to 120, else with `NoSuchLine` if no line stands there, and with `Memory` if
 /// no memory is left.

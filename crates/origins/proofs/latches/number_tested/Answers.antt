@@ -1,4 +1,4 @@
-use Rattle.std.proofs.Common.{◌≡◌, ◌∙◌, ◌<◌, ap, arith, get_or, length}
+use Rattle.std.proofs.Common.{◌≡◌, ◌∙◌, ap, arith, get_or}
 use Rattle.ledgers.proofs.Keeping.{groups-many}
 use Rattle.machine.specs.Machine.{MachineState}
 use Rattle.origins.proofs.Texts.{tested-at}

@@ -1,4 +1,4 @@
-use Rattle.std.proofs.Common.{◌≡◌, ◌∙◌, sym, ap, None, Some, Option, is_some}
+use Rattle.std.proofs.Common.{◌∙◌, sym, ap, is_some}
 use Rattle.std.proofs.lemmas.Bool.{false≢true}
 use Rattle.hubs.proofs.HubLemmas.{hub_numbered}
 use Rattle.origins.proofs.Texts.{led-from}

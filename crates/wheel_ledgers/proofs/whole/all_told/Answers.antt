@@ -1,4 +1,4 @@
-use Rattle.std.proofs.Common.{◌≡◌, ◌∙◌, sym, ap, arith, List, Some, None}
+use Rattle.std.proofs.Common.{◌∙◌, sym, ap, arith, List}
 use Rattle.std.specs.Prelude.{slice_get}
 use Rattle.wheel_ledgers.specs.declared.lower.AskedLedger.{AskedLedger}
 use Rattle.wheel_ledgers.proofs.Down.{in-can, in-none, told-all, told-more, told-none}
