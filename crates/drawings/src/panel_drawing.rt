@@ -11,8 +11,8 @@ mod laws;
 
 pub use blocks::{Block, Place, hub_place};
 pub use drawing::{
-    PanelWire, ends_at, has_number, has_wire_at, write_drawing, write_picture_open, write_way,
-    write_wire_name,
+    PanelWire, ends_at, has_number, has_wire_at, write_block_name, write_drawing,
+    write_picture_open, write_way, write_wire_name,
 };
 pub use laws::{
     blocks_have_all_hubs, exits_stand_above_entries, hubs_have_places_of_their_own,

@@ -6,5 +6,6 @@
 mod places;
 
 pub use places::{
-    SumPlace, has_sum, sum_at, sum_behind, write_sum_link, write_sum_name, write_sum_open,
+    SumPlace, has_sum, sum_at, sum_behind, write_counter_name, write_sum_link, write_sum_name,
+    write_sum_open,
 };

@@ -1,3 +1,4 @@
+pub mod Held
 pub mod Passing
 pub mod Sections
 pub mod Helper

@@ -34,7 +34,7 @@ use Rattle.show_page.specs.Cycles.{shown_cycles}
 use Rattle.show_page.specs.Frame.{document_close, stage_open}
 use Rattle.show_page.specs.Helper.{GainsBody, GainsHead}
 use Rattle.show_page.specs.Page.{IsPage, cards_part, counts_of, lines_shown, page_text, sheets_part, unasked}
-use Rattle.show_page.specs.Shown.{cards_shown, first_card, shown_cards, shown_run}
+use Rattle.show_page.specs.Shown.{cards_shown, shown_cards, shown_run}
 use Rattle.show_page.specs.Titles.{head_text, heading_of}
 
 -- one wire more that no line asks for
@@ -58,7 +58,7 @@ pub body_whole : (wiring : Wiring) (found : List FoundLine) (chart : List Line) 
     → GainsDrawing wires old one → two ≡ one ++ legend → three ≡ two ++ stage_open
     → four ≡ three ++ begin_text told sums run.cards.first cards wires part
     → five ≡ four ++ told_sections run.cards places totals told → six ≡ five ++ sum_sections_text run.cards sums
-    → seven ≡ six ++ sections_text chart run part.text.items sums cards → GainsWireSections wires told seven eight
+    → seven ≡ six ++ sections_text chart run part.text.items sums cards → GainsWireSections wires told places seven eight
     → nine ≡ eight ++ shown_cycles part → ten ≡ nine ++ links_text found → GainsEach (IsStepSection wiring wires) found ten eleven
     → new ≡ eleven ++ document_close → GainsBody wiring found chart run cards part wires legend totals told sums places old new
 body_whole wiring found chart run cards part wires totals told sums places legend old one two three four five six seven eight nine ten eleven
@@ -93,7 +93,7 @@ pub page_whole : (wiring : Wiring) (asked : List (String Global × Wiring)) (tot
     → GainsHead (heading_of chart) (record { cards = length deck; lines = part.lines; wires = length wires }) none one
     → two ≡ one ++ sheets_part (cards_shown (cycles_shown around (length deck) found) (length deck)) around (length deck) placed found
     wiring.tape.lines
-    → three ≡ two ++ cards_part chart (first_card (cycles_shown around (length deck) found))
+    → three ≡ two ++ cards_part chart (cards_shown (cycles_shown around (length deck) found) (length deck))
     (shown_cards (cycles_shown around (length deck) found) deck)
     → GainsBody wiring found chart (shown_run (cycles_shown around (length deck) found) (length deck) part)
     (shown_cards (cycles_shown around (length deck) found) deck) part wires legend totals told sums (map place_of sums) three new
@@ -137,7 +137,7 @@ page_whole wiring asked totals deck chart around placed found part wires told su
           ++ told_sections run.cards (map place_of sums) totals told ++ sum_sections_text run.cards sums
           ++ sections_text chart run part.text.items sums (shown_cards choice deck) ++ body.ways ++ shown_cycles part ++ links_text found
           ++ body.steps ++ document_close)
-          (cards_are ∙ ap (λ (l : List ℕ). l ++ cards_part chart run.cards.first (shown_cards choice deck))
+          (cards_are ∙ ap (λ (l : List ℕ). l ++ cards_part chart run.cards (shown_cards choice deck))
           (sheets_are ∙ ap (λ (l : List ℕ). l ++ sheets_text) (head.gained ∙ ap (λ (l : List ℕ). l ++ of_head) empty))) body.gained;
     }
 

@@ -15,7 +15,7 @@ unfoldable pub begin_open : List ℕ
 begin_open = codes "<div class=\"begin\"><h2>Begin here</h2>\n<ul>\n"
 
 unfoldable pub begin_close : List ℕ
-begin_close = codes "</ul>\n<p>Or choose anything that is printed, punched or wired: with the pointer, or with the tabulator and Enter.</p></div>\n"
+begin_close = codes "</ul>\n<p>Or choose anything that is printed, punched or wired: with the pointer, or with the Tab key and Enter.</p></div>\n"
 
 -- the link to a printed character
 unfoldable pub character_words : List ℕ

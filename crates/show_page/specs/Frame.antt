@@ -28,21 +28,32 @@ cut_words = codes "<p class=\"cut\">The deck has more than 200 cards: its first 
 
 -- what is said where the pages around one are shown
 unfoldable pub around_words : (page : ℕ) → List ℕ
-around_words page = codes "<p class=\"cut\">Shown are page " ++ decimal page ++ codes " of the report, the pages before and behind it, if there are such, and the cards and cycles from the card of their first line to that of their last one: at most 200 cards and 1000 cycles.</p>\n"
+around_words page = codes "<p class=\"cut\">This is page " ++ decimal page ++ codes " of the report with its neighbours, and the cards and cycles from the card of the first line to the card of the last: 200 cards and 1000 cycles at most.</p>\n"
 
--- what stands before the sheets, up to how many characters the widest line has
+-- what stands before the sheets: a link to the report, one to the cards, where some are shown, and the others, up to how many characters the
+-- widest line has
+unfoldable pub nav_open : List ℕ
+nav_open = codes "</header>\n<main>\n<nav><a href=\"#report\">Report</a> "
+
+unfoldable pub cards_link : List ℕ
+cards_link = codes "<a href=\"#cards\">Cards</a> "
+
 unfoldable pub main_open : List ℕ
-main_open = codes "</header>\n<main>\n<nav><a href=\"#report\">Report</a> <a href=\"#cards\">Cards</a> <a href=\"#panel\">Panel</a> <a href=\"#chart\">Chart</a></nav>\n<h2 id=\"report\">The report</h2>\n<p>Each printed character is a link. The word at the left of a line tells which cycle printed it: that of a card, or the total of a level. The total of the whole deck is the final one.</p>\n<div class=\"sheets\" style=\"--n:"
+main_open = codes "<a href=\"#panel\">Panel</a> <a href=\"#chart\">Chart</a></nav>\n<h2 id=\"report\">The report</h2>\n<p>Each printed character is a link. The word at the left of a line tells which cycle printed it: that of a card, or the total of a level. The total of the whole deck is the final one.</p>\n<div class=\"sheets\" style=\"--n:"
 
 -- what stands behind that
 unfoldable pub sheets_open : List ℕ
 sheets_open = codes "\">\n"
 
--- what stands between the sheets and the deck
-unfoldable pub cards_open : List ℕ
-cards_open = codes "</div>\n<h2 id=\"cards\">The cards</h2>\n<p>The deck as it was read, card 1 at the top. A hole in row 3 is a 3. With one in row 12, 11 or 0 above it, it is a letter. A card is a link.</p>\n"
+-- the end of the sheets
+unfoldable pub sheets_close : List ℕ
+sheets_close = codes "</div>\n"
 
--- what stands between the deck and the drawing
+-- what stands before the cards that are shown
+unfoldable pub cards_open : List ℕ
+cards_open = codes "<h2 id=\"cards\">The cards</h2>\n<p>The cards as they were read, the first one at the top. A hole in row 3 is a 3. With one in row 12, 11 or 0 above it, it is a letter. A card is a link.</p>\n"
+
+-- what stands before the drawing
 unfoldable pub panel_open : List ℕ
 panel_open = codes "<h2>The panel</h2>\n<p>Impulses leave the machine at the hubs above, and come back to it at those below. A wire has the colour of the line that asks for it. The drawing is our own schematic, not the real layout of the machine.</p>\n<div class=\"board\">\n"
 

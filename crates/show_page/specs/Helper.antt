@@ -36,7 +36,7 @@ pub record GainsBody (wiring : Wiring) (found : List FoundLine) (chart : List Li
   pub drawing : List ℕ
   pub drawn : IsDrawing wires drawing
   pub ways : List ℕ
-  pub are_ways : AreWireSections wires told ways
+  pub are_ways : AreWireSections wires told places ways
   pub steps : List ℕ
   pub are_steps : AreStepSections wiring wires found steps
   pub gained : new

@@ -1,6 +1,6 @@
 -- The page of a setup and a deck: the printed pages, the drawing of the panel, the legend, an explanation of each printed character, and
 -- what came through each wire, and the cycles of the run.
-use Rattle.std.specs.Prelude.{◌≡◌, ℕ, List, [], ◌∷◌, ◌++◌, decimal, Option, None, Some, String, if◌then◌else◌, length, map, nat_le}
+use Rattle.std.specs.Prelude.{◌≡◌, ℕ, Bool, List, [], ◌∷◌, ◌++◌, decimal, Option, None, Some, String, if◌then◌else◌, length, map, nat_le}
 use Rattle.std.specs.declared.alloc.Global.{Global}
 use Rattle.drawings.specs.CardDrawing.Drawings.{shapes_text}
 use Rattle.card_sections.specs.Decks.{deck_text}
@@ -16,6 +16,7 @@ use Rattle.legend.specs.LineSetups.{AreLineSetups}
 use Rattle.machine.specs.Runs.{MachineLines}
 use Rattle.markup.specs.Escapes.{escaped}
 use Rattle.markup.specs.Pieces.{EachText}
+use Rattle.page_links.specs.Links.{is_shown}
 use Rattle.page_links.specs.declared.shown.Shown.{Shown}
 use Rattle.page_links.specs.declared.shown.ShownRun.{ShownRun}
 use Rattle.drawings.specs.PanelDrawing.Drawing.{IsDrawing}
@@ -41,7 +42,7 @@ use Rattle.wiring_text.specs.declared.statement.Version.{Version}
 use Rattle.show_page.specs.Begin.{begin_text}
 use Rattle.show_page.specs.Choice.{cycles_shown, first_shown, pages_shown}
 use Rattle.show_page.specs.Cycles.{shown_cycles}
-use Rattle.show_page.specs.Frame.{IsStyle, around_words, cards_open, cut_words, document_close, legend_open, main_open, panel_open, sheets_open, stage_open, wiring_close, wiring_open}
+use Rattle.show_page.specs.Frame.{IsStyle, around_words, cards_link, cards_open, cut_words, document_close, legend_open, main_open, nav_open, panel_open, sheets_close, sheets_open, stage_open, wiring_close, wiring_open}
 use Rattle.show_page.specs.Shown.{shown_cards, shown_run}
 use Rattle.show_page.specs.Titles.{head_text, heading_of}
 use Rattle.show_page.specs.declared.head.RunCounts.{RunCounts}
@@ -51,17 +52,34 @@ abbrev pub cut_text : (around : Option ℕ) → (cards : ℕ) → List ℕ
 cut_text None cards = if nat_le cards 200 then [] else cut_words
 cut_text (Some page) cards = around_words page
 
+-- whether some cards are shown: then the first of them is
+abbrev pub is_any_shown : Shown → Bool
+is_any_shown cards = is_shown cards cards.first
+
+-- the links to the parts of the page
+abbrev pub link_if : Bool → List ℕ
+link_if are_cards = if are_cards then cards_link else []
+
+unfoldable pub nav_text : Shown → List ℕ
+nav_text linked = nav_open ++ link_if (is_any_shown linked)
+
 -- the sheets, behind the head of the page
-unfoldable pub sheets_front : (around : Option ℕ) → (cards wide : ℕ) → List ℕ
-sheets_front around cards wide = cut_text around cards ++ main_open ++ decimal wide ++ sheets_open
+unfoldable pub sheets_front : Shown → (around : Option ℕ) → (cards wide : ℕ) → List ℕ
+sheets_front linked around cards wide = cut_text around cards ++ nav_text linked ++ main_open ++ decimal wide ++ sheets_open
 
 unfoldable pub sheets_part : Shown → (around : Option ℕ) → (cards : ℕ) → List PlacedLine → List FoundLine → (long : ℕ) → List ℕ
 sheets_part linked around cards lines found long =
-    sheets_front around cards (widest lines) ++ sheets_text linked lines found long (first_shown around)
+    sheets_front linked around cards (widest lines) ++ sheets_text linked lines found long (first_shown around)
 
--- the cards that are shown, up to the drawing, with the fields of a chart; the first of them has this number
-unfoldable pub cards_part : (chart : List Line) → (first : ℕ) → (cards : List (List ℕ)) → List ℕ
-cards_part chart first cards = cards_open ++ shapes_text chart first cards ++ deck_text first cards ++ panel_open
+-- the cards that are shown, where there are such, with the fields of a chart; and what stands before the drawing
+unfoldable pub cards_text : (chart : List Line) → (first : ℕ) → (cards : List (List ℕ)) → List ℕ
+cards_text chart first cards = cards_open ++ shapes_text chart first cards ++ deck_text first cards
+
+abbrev pub shown_cards_text : (chart : List Line) → Shown → (cards : List (List ℕ)) → List ℕ
+shown_cards_text chart linked cards = if is_any_shown linked then cards_text chart linked.first cards else []
+
+unfoldable pub cards_part : (chart : List Line) → Shown → (cards : List (List ℕ)) → List ℕ
+cards_part chart linked cards = sheets_close ++ shown_cards_text chart linked cards ++ panel_open
 
 -- the page, by its parts
 unfoldable pub page_text : (style : List ℕ) → (chart : List Line) → (around : Option ℕ) → ShownRun → (cards : List (List ℕ)) → RunCounts
@@ -70,7 +88,7 @@ unfoldable pub page_text : (style : List ℕ) → (chart : List Line) → (aroun
 page_text style chart around run cards counts part lines found long wires drawing legend totals told sums ways steps =
     head_text style (heading_of chart) counts
     ++ sheets_part run.cards around counts.cards lines found long
-    ++ cards_part chart run.cards.first cards
+    ++ cards_part chart run.cards cards
     ++ drawing
     ++ legend
     ++ stage_open
@@ -95,7 +113,8 @@ counts_of deck lines wires = record { cards = length deck; lines = length lines;
 -- The page of a setup and a deck, with the heading and the fields of a chart, around a page of the report or none: of the lines that the
 -- machine prints those that are shown, each with the cycle that printed it, each card that is shown is drawn, and each wire of the list is
 -- drawn once; each printed character that is shown is told of, where it is known who asks for wires, and has its element, and so have the
--- sums behind them, by the totals that are known, each card that is shown, and each wire, with what came through it; the cycles are those of
+-- sums behind them, by the totals that are known, each card that is shown, and each wire, with what came through it and the sums that its
+-- counter held; the cycles are those of
 -- the run that are shown; and each line that is shown has the points of the cycle that printed it.
 pub record IsPage (wiring : Wiring) (asked : List (String Global × Wiring)) (totals : List TitledAccount) (deck : List (List ℕ))
     (chart : List Line) (wires : List PanelWire) (legend : List ℕ) (around : Option ℕ) (text : List ℕ) : Type 0 where
@@ -112,7 +131,7 @@ pub record IsPage (wiring : Wiring) (asked : List (String Global × Wiring)) (to
   pub drawing : List ℕ
   pub drawn : IsDrawing wires drawing
   pub ways : List ℕ
-  pub are_ways : AreWireSections wires told ways
+  pub are_ways : AreWireSections wires told (map place_of sums) ways
   pub steps : List ℕ
   pub are_steps : AreStepSections wiring wires found steps
   pub part : TracePart

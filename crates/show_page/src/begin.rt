@@ -29,7 +29,7 @@ fn write_begin_close(text: &mut String) -> Result<(), AllocError>
     ensures { OnOk result (string_bytes text.new ≡ string_bytes text.old ++ begin_close) }
 {
     text.push_str(
-        "</ul>\n<p>Or choose anything that is printed, punched or wired: with the pointer, or with the tabulator and Enter.</p></div>\n",
+        "</ul>\n<p>Or choose anything that is printed, punched or wired: with the pointer, or with the Tab key and Enter.</p></div>\n",
     )
 }
 

@@ -3,7 +3,7 @@
 ghost use Rattle.std.specs.Prelude.{◌≡◌, ◌++◌, OnOk};
 ghost use Rattle.std.specs.String.{string_bytes};
 ghost use Rattle.markup.specs.Pieces.{GainsOne};
-ghost use Rattle.show_page.specs.Frame.{IsStyle, around_words, cards_open, cut_words, document_close, document_open, header_open, legend_open, main_open, panel_open, sheets_open, stage_open, style_open, wiring_close, wiring_open};
+ghost use Rattle.show_page.specs.Frame.{IsStyle, around_words, cards_link, cards_open, cut_words, document_close, document_open, header_open, legend_open, main_open, nav_open, panel_open, sheets_close, sheets_open, stage_open, style_open, wiring_close, wiring_open};
 
 use numerals::push_between;
 use std::alloc::AllocError;
@@ -102,19 +102,35 @@ pub(crate) fn write_around_words(text: &mut String, page: u32) -> Result<(), All
 {
     push_between(
         text,
-        "<p class=\"cut\">Shown are page ",
+        "<p class=\"cut\">This is page ",
         page,
-        " of the report, the pages before and behind it, if there are such, and the cards and cycles from the card of their first line to that of their last one: at most 200 cards and 1000 cycles.</p>\n",
+        " of the report with its neighbours, and the cards and cycles from the card of the first line to the card of the last: 200 cards and 1000 cycles at most.</p>\n",
     )
 }
 
+#[tactic(auto, unfolding(crate::specs::Frame::nav_open))]
+// The front of the links to the parts of the page, with that to the report.
+pub(crate) fn write_nav_open(text: &mut String) -> Result<(), AllocError>
+    ensures { OnOk result (string_bytes text.new ≡ string_bytes text.old ++ nav_open) }
+{
+    text.push_str("</header>\n<main>\n<nav><a href=\"#report\">Report</a> ")
+}
+
+#[tactic(auto, unfolding(crate::specs::Frame::cards_link))]
+// The link to the cards.
+pub(crate) fn write_cards_link(text: &mut String) -> Result<(), AllocError>
+    ensures { OnOk result (string_bytes text.new ≡ string_bytes text.old ++ cards_link) }
+{
+    text.push_str("<a href=\"#cards\">Cards</a> ")
+}
+
 #[tactic(auto, unfolding(crate::specs::Frame::main_open))]
-// What stands before the sheets, up to how many characters the widest line has.
+// The other links, and what stands before the sheets, up to how many characters the widest line has.
 pub(crate) fn write_main_open(text: &mut String) -> Result<(), AllocError>
     ensures { OnOk result (string_bytes text.new ≡ string_bytes text.old ++ main_open) }
 {
     text.push_str(
-        "</header>\n<main>\n<nav><a href=\"#report\">Report</a> <a href=\"#cards\">Cards</a> <a href=\"#panel\">Panel</a> <a href=\"#chart\">Chart</a></nav>\n<h2 id=\"report\">The report</h2>\n<p>Each printed character is a link. The word at the left of a line tells which cycle printed it: that of a card, or the total of a level. The total of the whole deck is the final one.</p>\n<div class=\"sheets\" style=\"--n:",
+        "<a href=\"#panel\">Panel</a> <a href=\"#chart\">Chart</a></nav>\n<h2 id=\"report\">The report</h2>\n<p>Each printed character is a link. The word at the left of a line tells which cycle printed it: that of a card, or the total of a level. The total of the whole deck is the final one.</p>\n<div class=\"sheets\" style=\"--n:",
     )
 }
 
@@ -126,18 +142,26 @@ pub(crate) fn write_sheets_open(text: &mut String) -> Result<(), AllocError>
     text.push_str("\">\n")
 }
 
+#[tactic(auto, unfolding(crate::specs::Frame::sheets_close))]
+// The end of the sheets.
+pub(crate) fn write_sheets_close(text: &mut String) -> Result<(), AllocError>
+    ensures { OnOk result (string_bytes text.new ≡ string_bytes text.old ++ sheets_close) }
+{
+    text.push_str("</div>\n")
+}
+
 #[tactic(auto, unfolding(crate::specs::Frame::cards_open))]
-// What stands between the sheets and the deck.
+// What stands before the cards that are shown.
 pub(crate) fn write_cards_open(text: &mut String) -> Result<(), AllocError>
     ensures { OnOk result (string_bytes text.new ≡ string_bytes text.old ++ cards_open) }
 {
     text.push_str(
-        "</div>\n<h2 id=\"cards\">The cards</h2>\n<p>The deck as it was read, card 1 at the top. A hole in row 3 is a 3. With one in row 12, 11 or 0 above it, it is a letter. A card is a link.</p>\n",
+        "<h2 id=\"cards\">The cards</h2>\n<p>The cards as they were read, the first one at the top. A hole in row 3 is a 3. With one in row 12, 11 or 0 above it, it is a letter. A card is a link.</p>\n",
     )
 }
 
 #[tactic(auto, unfolding(crate::specs::Frame::panel_open))]
-// What stands between the deck and the drawing.
+// What stands before the drawing.
 pub(crate) fn write_panel_open(text: &mut String) -> Result<(), AllocError>
     ensures { OnOk result (string_bytes text.new ≡ string_bytes text.old ++ panel_open) }
 {

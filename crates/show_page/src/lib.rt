@@ -15,6 +15,7 @@ mod choice;
 mod cycles;
 mod frame;
 mod head;
+mod laws;
 mod marks;
 mod page;
 mod read_panel;
@@ -22,5 +23,6 @@ mod show;
 mod shown;
 pub mod shown_lines;
 
+pub use laws::quiet_cycles_did_nothing;
 pub use read_panel::show_read;
 pub use show::{show_chart, show_panel};

@@ -2,12 +2,12 @@
 
 ghost use Rattle.std.specs.Prelude.{◌≡◌, ◌≤◌, ◌<◌, ◌+◌, ◌^◌, ◌++◌, length, OnOk};
 ghost use Rattle.std.specs.String.{string_bytes};
-ghost use Rattle.show_page.specs.Page.{cards_part, cut_text, sheets_front, sheets_part};
+ghost use Rattle.show_page.specs.Page.{cards_part, cards_text, cut_text, is_any_shown, link_if, nav_text, sheets_front, sheets_part, shown_cards_text};
 
 use crate::choice::first_shown;
 use crate::frame::{
-    write_around_words, write_cards_open, write_cut_words, write_main_open, write_panel_open,
-    write_sheets_open,
+    write_around_words, write_cards_link, write_cards_open, write_cut_words, write_main_open,
+    write_nav_open, write_panel_open, write_sheets_close, write_sheets_open,
 };
 use card_code::Card;
 use card_sections::write_deck;
@@ -31,17 +31,46 @@ fn write_cut(text: &mut String, around: Option<u32>, cards: usize) -> Result<(),
     }
 }
 
+// Whether some cards are shown.
+fn is_any_shown(cards: Shown) -> bool
+    ensures { result ≡ is_any_shown cards }
+{
+    cards.has(cards.first)
+}
+
+// The link to the cards, if there are any.
+fn write_link_if(text: &mut String, are_cards: bool) -> Result<(), AllocError>
+    ensures { OnOk result (string_bytes text.new ≡ string_bytes text.old ++ link_if are_cards) }
+{
+    if are_cards {
+        write_cards_link(text)
+    } else {
+        Ok(())
+    }
+}
+
+#[tactic(auto, unfolding(crate::specs::Page::nav_text))]
+// The links to the parts of the page, up to that to the cards.
+fn write_nav(text: &mut String, linked: Shown) -> Result<(), AllocError>
+    ensures { OnOk result (string_bytes text.new ≡ string_bytes text.old ++ nav_text linked) }
+{
+    write_nav_open(text)?;
+    write_link_if(text, is_any_shown(linked))
+}
+
 #[tactic(auto, unfolding(crate::specs::Page::sheets_front))]
 // What stands before the sheets, of which the widest line has so many characters.
 fn write_sheets_front(
     text: &mut String,
+    linked: Shown,
     around: Option<u32>,
     cards: usize,
     wide: usize,
 ) -> Result<(), AllocError>
-    ensures { OnOk result (string_bytes text.new ≡ string_bytes text.old ++ sheets_front around cards wide) }
+    ensures { OnOk result (string_bytes text.new ≡ string_bytes text.old ++ sheets_front linked around cards wide) }
 {
     write_cut(text, around, cards)?;
+    write_nav(text, linked)?;
     write_main_open(text)?;
     push_number(text, wide)?;
     write_sheets_open(text)
@@ -61,13 +90,13 @@ pub(crate) fn write_sheets_part(
     requires { form_lines ≤ 144 }
     ensures { OnOk result (string_bytes text.new ≡ string_bytes text.old ++ sheets_part linked around cards lines.now found.now form_lines) }
 {
-    write_sheets_front(text, around, cards, widest(lines))?;
+    write_sheets_front(text, linked, around, cards, widest(lines))?;
     write_sheets(text, linked, lines, found, form_lines, first_shown(around))
 }
 
-#[tactic(auto, unfolding(crate::specs::Page::cards_part))]
-// The cards that are shown, up to the drawing, with the fields of a chart. The first of them has this number.
-pub(crate) fn write_cards_part(
+#[tactic(auto, unfolding(crate::specs::Page::cards_text))]
+// Cards, with the fields of a chart. The first of them has this number.
+fn write_cards(
     alloc: Global,
     text: &mut String,
     chart: &[Line],
@@ -75,10 +104,44 @@ pub(crate) fn write_cards_part(
     cards: &[Card],
 ) -> Result<(), AllocError>
     requires { first + length cards.now < 2 ^ 64 }
-    ensures { OnOk result (string_bytes text.new ≡ string_bytes text.old ++ cards_part chart.now first cards.now) }
+    ensures { OnOk result (string_bytes text.new ≡ string_bytes text.old ++ cards_text chart.now first cards.now) }
 {
     write_cards_open(text)?;
     write_shapes(alloc, text, chart, first, cards)?;
-    write_deck(text, first, cards)?;
+    write_deck(text, first, cards)
+}
+
+// The cards that are shown, where there are such.
+fn write_shown_cards(
+    alloc: Global,
+    text: &mut String,
+    chart: &[Line],
+    linked: Shown,
+    cards: &[Card],
+) -> Result<(), AllocError>
+    requires { linked.first + length cards.now < 2 ^ 64 }
+    ensures { OnOk result (string_bytes text.new ≡ string_bytes text.old ++ shown_cards_text chart.now linked cards.now) }
+{
+    if is_any_shown(linked) {
+        write_cards(alloc, text, chart, linked.first, cards)
+    } else {
+        Ok(())
+    }
+}
+
+#[tactic(auto, unfolding(crate::specs::Page::cards_part))]
+// The end of the sheets, the cards that are shown, where there are such, with the fields of a chart, and what stands before the drawing.
+pub(crate) fn write_cards_part(
+    alloc: Global,
+    text: &mut String,
+    chart: &[Line],
+    linked: Shown,
+    cards: &[Card],
+) -> Result<(), AllocError>
+    requires { linked.first + length cards.now < 2 ^ 64 }
+    ensures { OnOk result (string_bytes text.new ≡ string_bytes text.old ++ cards_part chart.now linked cards.now) }
+{
+    write_sheets_close(text)?;
+    write_shown_cards(alloc, text, chart, linked, cards)?;
     write_panel_open(text)
 }

@@ -73,7 +73,7 @@ fn write_body(
     write_told_sections(text, run.cards, places, totals, told)?;
     write_sum_sections(alloc, text, run.cards, sums)?;
     write_card_sections(alloc, text, chart, run, &part.text, sums, cards)?;
-    write_wire_sections(alloc, text, wires, told)?;
+    write_wire_sections(alloc, text, wires, told, places)?;
     write_shown_cycles(alloc, text, part)?;
     write_step_links(text, found)?;
     write_step_sections(alloc, text, setup, wires, found)?;
@@ -122,7 +122,7 @@ pub(crate) fn page(
         &shown.found,
         form_lines,
     )?;
-    write_cards_part(alloc, &mut text, chart, run.cards.first, cards_shown)?;
+    write_cards_part(alloc, &mut text, chart, run.cards, cards_shown)?;
     write_body(
         alloc,
         &mut text,

@@ -1,9 +1,10 @@
 -- What a sum is called: the name of its amount, or else its counter group, and the figure that was printed.
-use Rattle.std.specs.Prelude.{ℕ, ◌&&◌, List, [], ◌++◌, Option, Some, None, codes, decimal, if◌then◌else◌, nat_le}
+use Rattle.std.specs.Prelude.{ℕ, ◌&&◌, List, [], ◌++◌, Option, Some, None, codes, if◌then◌else◌, nat_le}
 use Rattle.charts.specs.Name.{name_text}
 use Rattle.hubs.specs.declared.hub.Group.{Group}
 use Rattle.ledgers.specs.LedgerText.Figures.{figure_at}
 use Rattle.markup.specs.Escapes.{escaped}
+use Rattle.page_links.specs.SumPlaces.Places.{counter_name}
 use Rattle.wheel_ledgers.specs.declared.chart_totals.TitledAccount.{TitledAccount}
 use Rattle.sum_sections.specs.declared.sums.PageSum.{PageSum}
 
@@ -11,14 +12,10 @@ use Rattle.sum_sections.specs.declared.sums.PageSum.{PageSum}
 abbrev pub figure_of : (line : List ℕ) → (wheel : ℕ) → List ℕ
 figure_of line wheel = if nat_le 1 wheel && nat_le wheel 120 then figure_at line wheel else []
 
--- the name of a counter group
-unfoldable pub group_name : Group → List ℕ
-group_name group = codes "counter " ++ decimal group.width ++ codes "." ++ decimal group.number
-
 -- the name of a sum
 abbrev pub sum_name_text : Option TitledAccount → Group → List ℕ
 sum_name_text (Some total) group = escaped (name_text total.title.name)
-sum_name_text None group = group_name group
+sum_name_text None group = counter_name group
 
 unfoldable pub label_text : PageSum → List ℕ
 label_text sum = sum_name_text sum.total sum.at.group ++ codes " " ++ escaped (figure_of sum.found.line.text sum.at.wheel)

@@ -2,13 +2,13 @@
 
 ghost use Rattle.std.specs.Prelude.{◌≡◌, ◌++◌, codes, OnOk};
 ghost use Rattle.std.specs.String.{string_bytes};
-ghost use Rattle.sum_sections.specs.Labels.{figure_of, group_name, label_text, sum_name_text};
+ghost use Rattle.sum_sections.specs.Labels.{figure_of, label_text, sum_name_text};
 
 use crate::sums::PageSum;
 use hubs::Group;
 use ledgers::ledger_text::figure_at;
 use markup::push_escaped;
-use numerals::push_numbered;
+use page_links::sum_places::write_counter_name;
 use std::alloc::AllocError;
 use wheel_ledgers::TitledAccount;
 
@@ -23,15 +23,6 @@ fn figure_of(line: &[u8; 120], wheel: u8) -> &[u8]
     }
 }
 
-#[tactic(auto, unfolding(crate::specs::Labels::group_name))]
-// The name of a counter group.
-fn write_group_name(text: &mut String, group: Group) -> Result<(), AllocError>
-    ensures { OnOk result (string_bytes text.new ≡ string_bytes text.old ++ group_name group) }
-{
-    push_numbered(text, "counter ", group.width)?;
-    push_numbered(text, ".", group.number)
-}
-
 // The name of a sum: that of its amount, or else of its counter group.
 fn write_sum_name_text(
     text: &mut String,
@@ -42,7 +33,7 @@ fn write_sum_name_text(
 {
     match total {
         Some(total) => push_escaped(text, total.title.name.as_bytes()),
-        None => write_group_name(text, group),
+        None => write_counter_name(text, group),
     }
 }
 

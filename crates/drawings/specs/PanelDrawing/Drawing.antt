@@ -10,7 +10,7 @@ use Rattle.hubs.specs.HubText.{hub_text}
 use Rattle.hubs.specs.Hubs.{letters_of, number_of}
 use Rattle.hubs.specs.declared.hub.Hub.{Hub}
 use Rattle.markup.specs.Pieces.{numbered_words}
-use Rattle.drawings.specs.PanelDrawing.Blocks.{blocks, place_of}
+use Rattle.drawings.specs.PanelDrawing.Blocks.{block_in, blocks, place_of}
 use Rattle.drawings.specs.declared.panel_drawing.blocks.Block.{Block}
 use Rattle.drawings.specs.declared.panel_drawing.blocks.Place.{Place}
 use Rattle.drawings.specs.declared.panel_drawing.drawing.PanelWire.{PanelWire}
@@ -78,12 +78,37 @@ label_top top = codes "\" y=\"" ++ decimal top ++ codes "\" dy=\"-11\">"
 abbrev pub label_place : Block → List ℕ
 label_place block = label_left block.left ++ label_top block.top
 
+unfoldable pub block_words : Block → List ℕ
+block_words block = width_text block ++ kind_words block.kind
+
 unfoldable pub label_words : Block → List ℕ
-label_words block = width_text block ++ kind_words block.kind ++ codes "</text>\n"
+label_words block = block_words block ++ codes "</text>\n"
 
 -- a label, above its block
 abbrev pub label_text : Block → List ℕ
 label_text block = label_open block.width ++ label_place block ++ label_words block
+
+-- what stands above the blocks of counters, on the side of the exits and on that of the entries
+abbrev pub counters_words : (is_exit : Bool) → List ℕ
+counters_words is_exit = if is_exit then codes "COUNTERS, out, 1 to 8" else codes "COUNTERS, in, 1 to 8"
+
+-- what a block is called where it stands alone: the words of its label, and before them, if it is one of counters, those above these blocks
+unfoldable pub counters_front : Block → List ℕ
+counters_front block = counters_words (row_of block.kind).is_exit ++ codes ": "
+
+abbrev pub side_words : Block → List ℕ
+side_words block = if block.width == 0 then [] else counters_front block
+
+unfoldable pub called_text : Block → List ℕ
+called_text block = side_words block ++ block_words block
+
+-- what the block of a hub is called
+abbrev pub called_numbered : Option ℕ → List ℕ
+called_numbered None = []
+called_numbered (Some number) = called_text (block_in blocks number)
+
+abbrev pub block_name : Hub → List ℕ
+block_name hub = called_numbered (number_of hub)
 
 -- The dots of a block: a dotted line for each of its rows. The class tells how far its dots stand apart.
 abbrev pub dots_open : Block → List ℕ
@@ -178,8 +203,17 @@ way_curve [] = []
 way_curve (exit ∷ others) = pen_at (place_of exit) ++ steps_text exit others
 
 -- the frame of the drawing; behind what is drawn, whose id is board, a marker that shows it too, whose id is background
+unfoldable pub plate_open : List ℕ
+plate_open = codes "<svg id=\"panel\" xmlns=\"http://www.w3.org/2000/svg\" viewBox=\"0 0 1250 890\"><g id=\"board\"><rect class=\"plate\" width=\"1250\" height=\"890\" rx=\"15\"/>\n<g class=\"blocks\">\n"
+
+unfoldable pub counters_place : (top : ℕ) → List ℕ
+counters_place top = codes "<text x=\"30\" y=\"" ++ decimal top ++ codes "\">"
+
+unfoldable pub counters_label : (is_exit : Bool) → (top : ℕ) → List ℕ
+counters_label is_exit top = counters_place top ++ counters_words is_exit ++ codes "</text>\n"
+
 unfoldable pub drawing_open : List ℕ
-drawing_open = codes "<svg id=\"panel\" xmlns=\"http://www.w3.org/2000/svg\" viewBox=\"0 0 1250 890\"><g id=\"board\"><rect class=\"plate\" width=\"1250\" height=\"890\" rx=\"15\"/>\n<g class=\"blocks\">\n<text x=\"30\" y=\"262\">COUNTERS, out, 1 to 8</text>\n<text x=\"30\" y=\"562\">COUNTERS, in, 1 to 8</text>\n"
+drawing_open = plate_open ++ counters_label true 262 ++ counters_label false 562
 
 unfoldable pub drawing_between : List ℕ
 drawing_between = codes "</g>\n<g class=\"wires\">\n"

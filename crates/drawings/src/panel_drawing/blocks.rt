@@ -156,13 +156,21 @@ fn place_in(block: Block, number: u32) -> Place
     }
 }
 
+// The block of a hub's number.
+pub(crate) fn block_at(number: u32) -> Block
+    requires { number ≤ 1936 }
+    ensures { result ≡ block_in blocks number }
+{
+    block_in(&BLOCKS, number)
+}
+
 // The place of a hub's number.
 fn place_at(number: u32) -> Place
     requires from { 1 ≤ number }
     requires to { number ≤ 1936 }
     ensures { result ≡ place_at number }
 {
-    place_in(block_in(&BLOCKS, number), number)
+    place_in(block_at(number), number)
 }
 
 /// The place of a hub on the drawing; the left upper corner for a hub that the panel doesn't have.

@@ -5,10 +5,10 @@ ghost use Rattle.std.specs.List.{flat_map, range_with_len};
 ghost use Rattle.std.specs.String.{string_bytes};
 ghost use Rattle.drawings.specs.PanelDrawing.Blocks.{blocks, place_of};
 ghost use Rattle.markup.specs.Pieces.{numbered_words};
-ghost use Rattle.drawings.specs.PanelDrawing.Drawing.{block_text, centre_text, colour_text, counts_wheels, curve_between, dot_text, dots_open, dots_text, drawing_behind, drawing_between, drawing_close, drawing_open, ends_at, has_number, has_wire_at, hub_dot, kind_words, label_left, label_open, label_place, label_text, label_top, label_words, line_to, link_text, linked_dot, next_row, next_rows, pen_at, picture_open, step_text, steps_text, way_curve, width_text, wire_name, wire_path, wire_text};
+ghost use Rattle.drawings.specs.PanelDrawing.Drawing.{block_name, block_text, block_words, called_text, centre_text, colour_text, counters_front, counters_label, counters_place, counters_words, counts_wheels, curve_between, dot_text, dots_open, dots_text, drawing_behind, drawing_between, drawing_close, drawing_open, ends_at, has_number, has_wire_at, hub_dot, kind_words, label_left, label_open, label_place, label_text, label_top, label_words, line_to, link_text, linked_dot, next_row, next_rows, pen_at, picture_open, plate_open, side_words, step_text, steps_text, way_curve, width_text, wire_name, wire_path, wire_text};
 ghost use Rattle.drawings.specs.PanelDrawing.Helper.{GainsDrawing, GainsHubs};
 
-use crate::panel_drawing::blocks::{BLOCKS, Block, Place, hub_place};
+use crate::panel_drawing::blocks::{BLOCKS, Block, Place, block_at, hub_place};
 use hub_table::Letters;
 use hubs::{Hub, write_hub};
 use numerals::{push_between, push_number, push_numbered};
@@ -125,14 +125,74 @@ fn write_label_place(text: &mut String, block: &Block) -> Result<(), AllocError>
     write_label_top(text, block.top)
 }
 
+#[tactic(auto, unfolding(crate::specs::PanelDrawing::Drawing::block_words))]
+// What a block is called on its label.
+fn write_block_words(text: &mut String, block: &Block) -> Result<(), AllocError>
+    ensures { OnOk result (string_bytes text.new ≡ string_bytes text.old ++ block_words block.now) }
+{
+    write_width(text, block)?;
+    text.push_str(kind_words(block.kind))
+}
+
 #[tactic(auto, unfolding(crate::specs::PanelDrawing::Drawing::label_words))]
 // The words of a label.
 fn write_label_words(text: &mut String, block: &Block) -> Result<(), AllocError>
     ensures { OnOk result (string_bytes text.new ≡ string_bytes text.old ++ label_words block.now) }
 {
-    write_width(text, block)?;
-    text.push_str(kind_words(block.kind))?;
+    write_block_words(text, block)?;
     text.push_str("</text>\n")
+}
+
+// What stands above the blocks of counters, on the side of the exits or on that of the entries.
+fn counters_words(is_exit: bool) -> &'static str
+    ensures { result.now ≡ counters_words is_exit }
+{
+    if is_exit {
+        "COUNTERS, out, 1 to 8"
+    } else {
+        "COUNTERS, in, 1 to 8"
+    }
+}
+
+#[tactic(auto, unfolding(crate::specs::PanelDrawing::Drawing::counters_front))]
+// The same, before what a block of counters is called.
+fn write_counters_front(text: &mut String, block: &Block) -> Result<(), AllocError>
+    ensures { OnOk result (string_bytes text.new ≡ string_bytes text.old ++ counters_front block.now) }
+{
+    text.push_str(counters_words(block.kind.are_exits()))?;
+    text.push_str(": ")
+}
+
+// The same, if a block is one of counters.
+fn write_side(text: &mut String, block: &Block) -> Result<(), AllocError>
+    ensures { OnOk result (string_bytes text.new ≡ string_bytes text.old ++ side_words block.now) }
+{
+    if block.width == 0 {
+        Ok(())
+    } else {
+        write_counters_front(text, block)
+    }
+}
+
+#[tactic(auto, unfolding(crate::specs::PanelDrawing::Drawing::called_text))]
+// What a block is called where it stands alone.
+fn write_called(text: &mut String, block: &Block) -> Result<(), AllocError>
+    ensures { OnOk result (string_bytes text.new ≡ string_bytes text.old ++ called_text block.now) }
+{
+    write_side(text, block)?;
+    write_block_words(text, block)
+}
+
+/// Writes what the block of a hub is called on the drawing: the words of its label, and before them, if it is one of counters, the words above
+/// these blocks; nothing for a hub that the panel doesn't have. Fails only where no memory is left; a front of it may then
+/// have been written.
+pub fn write_block_name(text: &mut String, hub: Hub) -> Result<(), AllocError>
+    ensures { OnOk result (string_bytes text.new ≡ string_bytes text.old ++ block_name hub) }
+{
+    match hub.number() {
+        Some(number) => write_called(text, &block_at(number)),
+        None => Ok(()),
+    }
 }
 
 // The label of a block.
@@ -371,13 +431,41 @@ fn write_wires(text: &mut String, wires: &[PanelWire]) -> Result<(), AllocError>
     Ok(())
 }
 
+// The front of the drawing, up to its blocks.
+fn write_plate(text: &mut String) -> Result<(), AllocError>
+    ensures { OnOk result (string_bytes text.new ≡ string_bytes text.old ++ plate_open) }
+{
+    text.push_str(
+        "<svg id=\"panel\" xmlns=\"http://www.w3.org/2000/svg\" viewBox=\"0 0 1250 890\"><g id=\"board\"><rect class=\"plate\" width=\"1250\" height=\"890\" rx=\"15\"/>\n<g class=\"blocks\">\n",
+    )
+}
+
+#[tactic(auto, unfolding(crate::specs::PanelDrawing::Drawing::counters_place))]
+// The place of the label above the blocks of counters, so far down.
+fn write_counters_place(text: &mut String, top: u32) -> Result<(), AllocError>
+    ensures { OnOk result (string_bytes text.new ≡ string_bytes text.old ++ counters_place top) }
+{
+    push_between(text, "<text x=\"30\" y=\"", top, "\">")
+}
+
+#[tactic(auto, unfolding(crate::specs::PanelDrawing::Drawing::counters_label))]
+// The label above the blocks of counters on one side, so far down.
+fn write_counters_label(text: &mut String, is_exit: bool, top: u32) -> Result<(), AllocError>
+    ensures { OnOk result (string_bytes text.new ≡ string_bytes text.old ++ counters_label is_exit top) }
+{
+    write_counters_place(text, top)?;
+    text.push_str(counters_words(is_exit))?;
+    text.push_str("</text>\n")
+}
+
+#[tactic(auto, unfolding(crate::specs::PanelDrawing::Drawing::drawing_open))]
 // The front of the drawing.
 fn write_open(text: &mut String) -> Result<(), AllocError>
     ensures { OnOk result (string_bytes text.new ≡ string_bytes text.old ++ drawing_open) }
 {
-    text.push_str(
-        "<svg id=\"panel\" xmlns=\"http://www.w3.org/2000/svg\" viewBox=\"0 0 1250 890\"><g id=\"board\"><rect class=\"plate\" width=\"1250\" height=\"890\" rx=\"15\"/>\n<g class=\"blocks\">\n<text x=\"30\" y=\"262\">COUNTERS, out, 1 to 8</text>\n<text x=\"30\" y=\"562\">COUNTERS, in, 1 to 8</text>\n",
-    )
+    write_plate(text)?;
+    write_counters_label(text, true, 262)?;
+    write_counters_label(text, false, 562)
 }
 
 // What stands between the blocks and the wires.

@@ -16,6 +16,11 @@ abbrev pub units_group : Account → Group
 units_group (One place) = group_of_unit (3 + place)
 units_group (Coupled upper lower) = group_of_unit (3 + lower)
 
+-- the group of an account that has the digits above them, if it has two
+abbrev pub upper_group : Account → Option Group
+upper_group (One place) = None
+upper_group (Coupled upper lower) = Some (group_of_unit (3 + upper))
+
 -- the account that is told for the group of a place
 abbrev pub account_at : List TitledAccount → ℕ → Account
 account_at totals place = account_told (find_total totals place) place
@@ -27,6 +32,7 @@ sum_at totals why place = record {
   line = why.line.line;
   wheel = why.wheel;
   group = units_group (account_at totals place);
+  upper = upper_group (account_at totals place);
 }
 
 -- the sum behind a wheel; none if it is printed of no counter group
@@ -42,6 +48,10 @@ is_same_sum one other =
 abbrev pub has_sum : List SumPlace → SumPlace → Bool
 has_sum [] sum = false
 has_sum (one ∷ others) sum = is_same_sum one sum || has_sum others sum
+
+-- the name of a counter
+unfoldable pub counter_name : Group → List ℕ
+counter_name group = codes "counter " ++ decimal group.width ++ codes "." ++ decimal group.number
 
 -- the name of the element of a sum
 unfoldable pub row_name : SumPlace → List ℕ

@@ -4,7 +4,7 @@ ghost use Rattle.std.specs.Prelude.{◌≡◌, ◌<◌, ◌++◌, codes, OnOk};
 ghost use Rattle.std.specs.String.{string_bytes};
 ghost use Rattle.ledgers.specs.Accounts.{IsAccount};
 ghost use Rattle.wheel_ledgers.specs.Totals.{AreAccounts};
-ghost use Rattle.page_links.specs.SumPlaces.Places.{group_name, has_sum, is_same_sum, row_name, sum_at, sum_behind, sum_link, sum_name, sum_open, units_group};
+ghost use Rattle.page_links.specs.SumPlaces.Places.{counter_name, group_name, has_sum, is_same_sum, row_name, sum_at, sum_behind, sum_link, sum_name, sum_open, units_group, upper_group};
 
 use counters::group_of_unit;
 use explanations::Explanation;
@@ -25,6 +25,8 @@ pub struct SumPlace {
     pub wheel: u8,
     /// The counter group that the figure is printed of: of two groups that stand for one number that with the units.
     pub group: Group,
+    /// Of two groups that stand for one number the one with the digits above the units.
+    pub upper: Option<Group>,
 }
 
 // The group of an account that has the units.
@@ -38,6 +40,17 @@ fn units_group(account: Account) -> Group
     }
 }
 
+// The group of an account that has the digits above those of the units, if it has two groups.
+fn upper_group(account: Account) -> Option<Group>
+    requires { IsAccount account }
+    ensures { result ≡ upper_group account }
+{
+    match account {
+        Account::One { place: _ } => None,
+        Account::Coupled { upper, lower: _ } => Some(group_of_unit(3 + upper as u8)),
+    }
+}
+
 /// The sum behind the character of a wheel that is printed of the group of a place, by its explanation and the totals that are known: that
 /// of the total which this group serves, or else of the one group.
 pub fn sum_at(totals: &[TitledAccount], why: &Explanation, place: usize) -> SumPlace
@@ -46,12 +59,15 @@ pub fn sum_at(totals: &[TitledAccount], why: &Explanation, place: usize) -> SumP
     ensures { result ≡ sum_at totals.now why.now place }
 {
     let total = find_total(totals, place);
-    let group = units_group(account_told(&total, place));
+    let account = account_told(&total, place);
+    let group = units_group(account);
+    let upper = upper_group(account);
     SumPlace {
         page: why.line.page,
         line: why.line.line,
         wheel: why.wheel,
         group,
+        upper,
     }
 }
 
@@ -87,6 +103,15 @@ pub fn has_sum(sums: &[SumPlace], sum: SumPlace) -> bool
         }
     }
     false
+}
+
+#[tactic(auto, unfolding(crate::specs::SumPlaces::Places::counter_name))]
+/// Writes the name of a counter: `counter 6.1`. Fails only if no memory is left; a front of it may then have been written.
+pub fn write_counter_name(text: &mut String, group: Group) -> Result<(), AllocError>
+    ensures { OnOk result (string_bytes text.new ≡ string_bytes text.old ++ counter_name group) }
+{
+    push_numbered(text, "counter ", group.width)?;
+    push_numbered(text, ".", group.number)
 }
 
 #[tactic(auto, unfolding(crate::specs::SumPlaces::Places::row_name))]

@@ -1,5 +1,5 @@
 -- A trace as markup: an element for each of its cycles, in their order, with links to the next cycle and to the one before.
-use Rattle.std.specs.Prelude.{ℕ, ◌+◌, ◌-◌, List, [], ◌∷◌, ◌++◌, codes, decimal, if◌then◌else◌, length, nat_lt}
+use Rattle.std.specs.Prelude.{ℕ, ◌+◌, ◌-◌, Bool, List, [], ◌∷◌, ◌++◌, codes, decimal, if◌then◌else◌, length, nat_le, nat_lt}
 use Rattle.card_code.specs.Lines.{lines_of}
 use Rattle.markup.specs.Escapes.{escaped}
 use Rattle.page_sections.specs.CycleSections.Rows.{rows_of}
@@ -28,9 +28,24 @@ place_text number all = codes "cycle " ++ decimal number ++ codes " of " ++ deci
 unfoldable pub links_text : (number first shown all : ℕ) → List ℕ
 links_text number first shown all = next_text number shown ++ before_text number first ++ back_text ++ place_text number all
 
+-- What is said of a cycle of which nothing is told but its name. All else begins at the seventeenth place of its line: the card that the run-in
+-- reads, each counter that is under a control or that a carry entered, each storage unit that holds other characters behind the cycle, each
+-- pilot that is transferred, and the line that was printed.
+abbrev pub is_quiet : List ℕ → Bool
+is_quiet line = nat_le (length line) 16
+
+unfoldable pub quiet_words : List ℕ
+quiet_words = codes "<p>In this cycle no line was printed, no counter did anything, no storage unit took up other characters, and no pilot was transferred.</p>"
+
+abbrev pub quiet_text : List ℕ → List ℕ
+quiet_text line = if is_quiet line then quiet_words else []
+
 -- the words of an element: the line of its cycle, in rows
+unfoldable pub rows_text : List ℕ → List ℕ
+rows_text line = codes "<pre>" ++ escaped (rows_of line) ++ codes "</pre>"
+
 unfoldable pub words_text : List ℕ → List ℕ
-words_text line = codes "<pre>" ++ escaped (rows_of line) ++ codes "</pre>"
+words_text line = rows_text line ++ quiet_text line
 
 -- the front of the element of a cycle, with its name, and the end
 unfoldable pub section_open : ℕ → List ℕ

@@ -1,10 +1,11 @@
 -- Helper word of the code: a text gains the elements of wires and hubs.
 use Rattle.std.specs.Prelude.{◌≡◌, ℕ, List, ◌++◌}
 use Rattle.drawings.specs.declared.panel_drawing.drawing.PanelWire.{PanelWire}
+use Rattle.page_links.specs.declared.sum_places.places.SumPlace.{SumPlace}
 use Rattle.page_sections.specs.declared.wheel_sections.told.ToldWheel.{ToldWheel}
 use Rattle.page_sections.specs.WireSections.Sections.{AreWireSections}
 
-pub record GainsWireSections (wires : List PanelWire) (told : List ToldWheel) (old new : List ℕ) : Type 0 where
+pub record GainsWireSections (wires : List PanelWire) (told : List ToldWheel) (sums : List SumPlace) (old new : List ℕ) : Type 0 where
   pub text : List ℕ
-  pub are : AreWireSections wires told text
+  pub are : AreWireSections wires told sums text
   pub gained : new ≡ old ++ text

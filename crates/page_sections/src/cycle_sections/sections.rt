@@ -3,7 +3,7 @@
 ghost use Rattle.std.specs.Prelude.{◌≡◌, ◌≤◌, ◌<◌, ◌+◌, ◌^◌, ◌++◌, codes, length, OnOk};
 ghost use Rattle.std.specs.String.{string_bytes};
 ghost use Rattle.card_code.specs.Lines.{lines_of};
-ghost use Rattle.page_sections.specs.CycleSections.Sections.{back_text, before_text, cycles_text, link_open, links_text, next_text, place_text, section_close, section_open, section_text, words_text};
+ghost use Rattle.page_sections.specs.CycleSections.Sections.{back_text, before_text, cycles_text, link_open, links_text, next_text, place_text, quiet_text, quiet_words, rows_text, section_close, section_open, section_text, words_text};
 
 use crate::cycle_sections::rows::rows_of;
 use card_code::next_line;
@@ -79,15 +79,45 @@ fn write_links(
     write_place(text, number, all)
 }
 
-#[tactic(auto, unfolding(crate::specs::CycleSections::Sections::words_text))]
-// The words of an element.
-fn write_words(alloc: Global, text: &mut String, line: &[u8]) -> Result<(), AllocError>
-    ensures { OnOk result (string_bytes text.new ≡ string_bytes text.old ++ words_text line.now) }
+#[tactic(auto, unfolding(crate::specs::CycleSections::Sections::quiet_words))]
+// What is said of a cycle of which nothing is told but its name.
+fn write_quiet_words(text: &mut String) -> Result<(), AllocError>
+    ensures { OnOk result (string_bytes text.new ≡ string_bytes text.old ++ quiet_words) }
+{
+    text.push_str(
+        "<p>In this cycle no line was printed, no counter did anything, no storage unit took up other characters, and no pilot was transferred.</p>",
+    )
+}
+
+// The same, if the line of the cycle has its name alone.
+fn write_quiet(text: &mut String, line: &[u8]) -> Result<(), AllocError>
+    ensures { OnOk result (string_bytes text.new ≡ string_bytes text.old ++ quiet_text line.now) }
+{
+    if line.len() <= 16 {
+        write_quiet_words(text)
+    } else {
+        Ok(())
+    }
+}
+
+#[tactic(auto, unfolding(crate::specs::CycleSections::Sections::rows_text))]
+// The line of a cycle, in rows.
+fn write_rows(alloc: Global, text: &mut String, line: &[u8]) -> Result<(), AllocError>
+    ensures { OnOk result (string_bytes text.new ≡ string_bytes text.old ++ rows_text line.now) }
 {
     let rows = rows_of(alloc, line)?;
     text.push_str("<pre>")?;
     push_escaped(text, &rows)?;
     text.push_str("</pre>")
+}
+
+#[tactic(auto, unfolding(crate::specs::CycleSections::Sections::words_text))]
+// The words of an element.
+fn write_words(alloc: Global, text: &mut String, line: &[u8]) -> Result<(), AllocError>
+    ensures { OnOk result (string_bytes text.new ≡ string_bytes text.old ++ words_text line.now) }
+{
+    write_rows(alloc, text, line)?;
+    write_quiet(text, line)
 }
 
 #[tactic(auto, unfolding(crate::specs::CycleSections::Sections::section_open))]

@@ -6,17 +6,18 @@ ghost use Rattle.std.specs.String.{string_bytes};
 ghost use Rattle.markup.specs.Pieces.{numbered_words};
 ghost use Rattle.drawings.specs.PanelDrawing.Helper.{GainsHubs};
 ghost use Rattle.page_sections.specs.WireSections.Helper.{GainsWireSections};
-ghost use Rattle.page_sections.specs.WireSections.Sections.{hub_element, hub_head, hub_open, hub_section, link_at, path_at, wire_link, wire_link_open};
+ghost use Rattle.page_sections.specs.WireSections.Sections.{block_part, hub_element, hub_head, hub_open, hub_section, link_at, path_at, wire_link, wire_link_open};
 
 use crate::wheel_sections::{ToldWheel, write_section_close};
 use crate::wire_sections::passing::Part;
 use crate::wire_sections::through::write_through;
 use crate::wire_sections::wire_sections::{write_all, write_asking, write_path};
 use drawings::panel_drawing::{
-    PanelWire, ends_at, has_wire_at, write_picture_open, write_wire_name,
+    PanelWire, ends_at, has_wire_at, write_block_name, write_picture_open, write_wire_name,
 };
 use hubs::{Hub, write_hub};
 use numerals::push_between;
+use page_links::sum_places::SumPlace;
 use std::alloc::{AllocError, Global};
 
 // The front of a link to a wire.
@@ -96,13 +97,23 @@ fn write_open(text: &mut String, number: u32) -> Result<(), AllocError>
     )
 }
 
+#[tactic(auto, unfolding(crate::specs::WireSections::Sections::block_part))]
+// What the block of a hub is called, up to the wires of the hub.
+fn write_block(text: &mut String, hub: Hub) -> Result<(), AllocError>
+    ensures { OnOk result (string_bytes text.new ≡ string_bytes text.old ++ block_part hub) }
+{
+    text.push_str(" (")?;
+    write_block_name(text, hub)?;
+    text.push_str("). Its wires:</p>\n")
+}
+
 // What stands before the wires of a hub.
 fn write_head(text: &mut String, number: u32, hub: Hub) -> Result<(), AllocError>
     ensures { OnOk result (string_bytes text.new ≡ string_bytes text.old ++ hub_head number hub) }
 {
     write_open(text, number)?;
     write_hub(text, hub)?;
-    text.push_str(". Its wires:</p>\n")
+    write_block(text, hub)
 }
 
 // The element of a hub.
@@ -111,14 +122,15 @@ fn write_element(
     text: &mut String,
     wires: &[PanelWire],
     told: &[ToldWheel],
+    sums: &[SumPlace],
     number: u32,
     hub: Hub,
 ) -> Result<(), AllocError>
-    ensures { OnOk result (string_bytes text.new ≡ string_bytes text.old ++ hub_element wires.now told.now number hub) }
+    ensures { OnOk result (string_bytes text.new ≡ string_bytes text.old ++ hub_element wires.now told.now sums.now number hub) }
 {
     write_head(text, number, hub)?;
     write_links(text, number, wires)?;
-    write_through(alloc, text, Part::Hub(number), told)?;
+    write_through(alloc, text, told, sums, Part::Hub(number), hub)?;
     write_picture_open(text)?;
     write_paths(text, number, wires)?;
     write_section_close(text)
@@ -130,15 +142,16 @@ fn write_hub_section(
     text: &mut String,
     wires: &[PanelWire],
     told: &[ToldWheel],
+    sums: &[SumPlace],
     number: u32,
     hub: Hub,
 ) -> Result<(), AllocError>
-    ensures { OnOk result (string_bytes text.new ≡ string_bytes text.old ++ hub_section wires.now told.now number hub) }
+    ensures { OnOk result (string_bytes text.new ≡ string_bytes text.old ++ hub_section wires.now told.now sums.now number hub) }
 {
     if !has_wire_at(number, wires) {
         return Ok(());
     }
-    write_element(alloc, text, wires, told, number, hub)
+    write_element(alloc, text, wires, told, sums, number, hub)
 }
 
 #[tactic(auto, using(drawings::proofs::PanelDrawing::Written::hubs_none, drawings::proofs::PanelDrawing::Written::some_hub))]
@@ -148,20 +161,22 @@ fn write_hubs(
     text: &mut String,
     wires: &[PanelWire],
     told: &[ToldWheel],
+    sums: &[SumPlace],
 ) -> Result<(), AllocError>
-    ensures { OnOk result (GainsHubs (hub_section wires.now told.now) 1936 (string_bytes text.old) (string_bytes text.new)) }
+    ensures { OnOk result (GainsHubs (hub_section wires.now told.now sums.now) 1936 (string_bytes text.old) (string_bytes text.new)) }
 {
     for passed in 0..1936 {
         let Some(hub) = Hub::of_number(passed + 1) else {
             unreachable!();
         };
-        write_hub_section(alloc, text, wires, told, passed + 1, hub)?;
+        write_hub_section(alloc, text, wires, told, sums, passed + 1, hub)?;
     }
     Ok(())
 }
 
 /// Writes the elements of drawn wires, in their order, and behind them those of the hubs at which they have their ends, in the order of the
-/// numbers of the hubs. `told` has the printed characters to which an element links, where an impulse of theirs came through.
+/// numbers of the hubs. `told` has the printed characters to which an element links, where an impulse of theirs came through, and `sums` the
+/// sums on the page, to which it links where a counter held them.
 ///
 /// Fails only where no memory is left; a front of the elements may then have been written.
 pub fn write_wire_sections(
@@ -169,9 +184,10 @@ pub fn write_wire_sections(
     text: &mut String,
     wires: &[PanelWire],
     told: &[ToldWheel],
+    sums: &[SumPlace],
 ) -> Result<(), AllocError>
-    ensures { OnOk result (GainsWireSections wires.now told.now (string_bytes text.old) (string_bytes text.new)) }
+    ensures { OnOk result (GainsWireSections wires.now told.now sums.now (string_bytes text.old) (string_bytes text.new)) }
 {
-    write_all(alloc, text, wires, told)?;
-    write_hubs(alloc, text, wires, told)
+    write_all(alloc, text, wires, told, sums)?;
+    write_hubs(alloc, text, wires, told, sums)
 }

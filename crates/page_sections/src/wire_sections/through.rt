@@ -2,13 +2,16 @@
 
 ghost use Rattle.std.specs.Prelude.{◌≡◌, ◌++◌, OnOk};
 ghost use Rattle.std.specs.String.{string_bytes};
-ghost use Rattle.page_sections.specs.WireSections.Sections.{character_link, place_words, some_text, through_link, through_links, through_text, told_link};
+ghost use Rattle.page_sections.specs.WireSections.Sections.{character_link, characters_text, none_text, part_text, place_words, said_or_none, some_text, through_link, through_links, through_text, told_link};
 
 use crate::report_sheets::write_wheel_link;
 use crate::wheel_sections::ToldWheel;
+use crate::wire_sections::held::write_held;
 use crate::wire_sections::passing::{Part, came_through};
+use hubs::Hub;
 use markup::push_escaped;
 use numerals::{push_between, push_numbered};
+use page_links::sum_places::SumPlace;
 use std::alloc::{AllocError, Global};
 
 // Where a character is printed.
@@ -68,33 +71,81 @@ fn write_links(text: &mut String, part: Part, told: &[ToldWheel]) -> Result<(), 
 fn write_some(text: &mut String, links: &str) -> Result<(), AllocError>
     ensures { OnOk result (string_bytes text.new ≡ string_bytes text.old ++ some_text links.now) }
 {
-    text.push_str(
-        "<p>A way that is told of each of these printed characters leads through it:</p>\n<div>",
-    )?;
+    text.push_str("<p>The ways shown for these characters lead through it:</p>\n<div>")?;
     text.push_str(links)?;
     text.push_str("</div>\n")
 }
 
-// What is said of what came through, by the links to it.
-fn write_said(text: &mut String, links: &str) -> Result<(), AllocError>
-    ensures { OnOk result (string_bytes text.new ≡ string_bytes text.old ++ through_text links.now) }
+// What is said of the characters, by the links to them.
+fn write_characters(text: &mut String, links: &str) -> Result<(), AllocError>
+    ensures { OnOk result (string_bytes text.new ≡ string_bytes text.old ++ characters_text links.now) }
 {
     if links.is_empty() {
-        return text.push_str("<p>No way that is told leads through it.</p>\n");
+        return Ok(());
     }
     write_some(text, links)
 }
 
-// What came through a part of the panel.
-pub(crate) fn write_through(
+// What is said of the characters of which an impulse came through a part of the panel.
+fn write_passed(
     alloc: Global,
     text: &mut String,
-    part: Part,
     told: &[ToldWheel],
+    part: Part,
 ) -> Result<(), AllocError>
-    ensures { OnOk result (string_bytes text.new ≡ string_bytes text.old ++ through_text (through_links part told.now)) }
+    ensures { OnOk result (string_bytes text.new ≡ string_bytes text.old ++ characters_text (through_links part told.now)) }
 {
     let mut links = String::new(alloc);
     write_links(&mut links, part, told)?;
-    write_said(text, &links)
+    write_characters(text, &links)
+}
+
+#[tactic(auto, unfolding(crate::specs::WireSections::Sections::part_text))]
+// What is said of a part of the panel, and of the sums that the counter of a hub held.
+fn write_part(
+    alloc: Global,
+    text: &mut String,
+    told: &[ToldWheel],
+    sums: &[SumPlace],
+    part: Part,
+    hub: Hub,
+) -> Result<(), AllocError>
+    ensures { OnOk result (string_bytes text.new ≡ string_bytes text.old ++ part_text told.now sums.now part hub) }
+{
+    write_passed(alloc, text, told, part)?;
+    write_held(alloc, text, sums, hub)
+}
+
+#[tactic(auto, unfolding(crate::specs::WireSections::Sections::none_text))]
+// What is said where there is nothing to say.
+fn write_none(text: &mut String) -> Result<(), AllocError>
+    ensures { OnOk result (string_bytes text.new ≡ string_bytes text.old ++ none_text) }
+{
+    text.push_str("<p>None of the ways on this page leads through it.</p>\n")
+}
+
+// What is said, or that there is nothing.
+fn write_said(text: &mut String, said: &str) -> Result<(), AllocError>
+    ensures { OnOk result (string_bytes text.new ≡ string_bytes text.old ++ said_or_none said.now) }
+{
+    if said.is_empty() {
+        return write_none(text);
+    }
+    text.push_str(said)
+}
+
+// What came through a part of the panel, and which sums the counter of a hub held.
+pub(crate) fn write_through(
+    alloc: Global,
+    text: &mut String,
+    told: &[ToldWheel],
+    sums: &[SumPlace],
+    part: Part,
+    hub: Hub,
+) -> Result<(), AllocError>
+    ensures { OnOk result (string_bytes text.new ≡ string_bytes text.old ++ through_text told.now sums.now part hub) }
+{
+    let mut said = String::new(alloc);
+    write_part(alloc, &mut said, told, sums, part, hub)?;
+    write_said(text, &said)
 }

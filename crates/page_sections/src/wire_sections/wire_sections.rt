@@ -9,6 +9,7 @@ use crate::wire_sections::passing::Part;
 use crate::wire_sections::through::write_through;
 use drawings::panel_drawing::{PanelWire, write_picture_open, write_way, write_wire_name};
 use numerals::push_between;
+use page_links::sum_places::SumPlace;
 use std::alloc::{AllocError, Global};
 
 // The front of the link to a line of the chart.
@@ -79,13 +80,14 @@ fn write_section(
     alloc: Global,
     text: &mut String,
     told: &[ToldWheel],
+    sums: &[SumPlace],
     number: usize,
     wire: PanelWire,
 ) -> Result<(), AllocError>
-    ensures { OnOk result (string_bytes text.new ≡ string_bytes text.old ++ wire_section told.now number wire) }
+    ensures { OnOk result (string_bytes text.new ≡ string_bytes text.old ++ wire_section told.now sums.now number wire) }
 {
     write_head(text, number, wire)?;
-    write_through(alloc, text, Part::Wire(wire), told)?;
+    write_through(alloc, text, told, sums, Part::Wire(wire), wire.entry)?;
     write_picture_open(text)?;
     write_path(text, wire)?;
     write_section_close(text)
@@ -98,11 +100,12 @@ pub(crate) fn write_all(
     text: &mut String,
     wires: &[PanelWire],
     told: &[ToldWheel],
+    sums: &[SumPlace],
 ) -> Result<(), AllocError>
-    ensures { OnOk result (string_bytes text.new ≡ string_bytes text.old ++ wire_sections_text wires.now told.now) }
+    ensures { OnOk result (string_bytes text.new ≡ string_bytes text.old ++ wire_sections_text wires.now told.now sums.now) }
 {
     for place in 0..wires.len() {
-        write_section(alloc, text, told, place + 1, wires[place])?;
+        write_section(alloc, text, told, sums, place + 1, wires[place])?;
     }
     Ok(())
 }

@@ -77,8 +77,8 @@ returns c =
     (subst (λ (f : List FoundLine).
     two ≡ one ++ sheets_part c.shown_run-run.result.cards around cards c.deref-7.result.now f c.from-form_lines.result)
     c.deref-8.ensures.value c.in_ok-write_sheets_part.ensures))))
-    (subst (λ (r : ShownRun). three ≡ two ++ cards_part chart r.cards.first (shown_cards chosen deck)) run
-    (subst (λ (l : List (List ℕ)). three ≡ two ++ cards_part chart c.shown_run-run.result.cards.first l)
+    (subst (λ (r : ShownRun). three ≡ two ++ cards_part chart r.cards (shown_cards chosen deck)) run
+    (subst (λ (l : List (List ℕ)). three ≡ two ++ cards_part chart c.shown_run-run.result.cards l)
     shown c.in_ok-write_cards_part.ensures))
     (subst (λ (f : List FoundLine).
     GainsBody setup f chart (shown_run chosen cards part) (shown_cards chosen deck) part wires legend totals told sums (map place_of sums)

@@ -1,13 +1,12 @@
 use Rattle.std.proofs.Common.{◌∙◌, ap}
 use Rattle.drawings.proofs.PanelDrawing.Places.{in_its_block}
-use Rattle.drawings.specs.PanelDrawing.Blocks.{blocks, place_in}
+use Rattle.drawings.specs.PanelDrawing.Blocks.{place_in}
 use Rattle.drawings.specs.declared.panel_drawing.blocks.Block.{Block}
 use Rattle.drawings.proofs.panel_drawing.blocks.place_at.Goals as goal
 
 pub place_in-requires : goal.place_in-requires
-unfolding blocks
 place_in-requires c =
-    let there = in_its_block c.args.number c.requires.from c.requires.to c.block_in.result c.block_in.ensures in
+    let there = in_its_block c.args.number c.requires.from c.requires.to c.block_at.result c.block_at.ensures in
     record {
       behind = there.0;
       wide = there.1;
@@ -16,5 +15,4 @@ place_in-requires c =
     }
 
 pub returns : goal.returns
-unfolding blocks
-returns c = c.place_in.ensures ∙ ap (λ (b : Block). place_in b c.args.number) c.block_in.ensures
+returns c = c.place_in.ensures ∙ ap (λ (b : Block). place_in b c.args.number) c.block_at.ensures

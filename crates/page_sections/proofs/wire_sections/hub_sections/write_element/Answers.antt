@@ -5,7 +5,7 @@ use Rattle.markup.specs.Pieces.{numbered_words}
 use Rattle.markup.proofs.Pieces.{and_more, where_ok}
 use Rattle.drawings.specs.PanelDrawing.Drawing.{picture_open}
 use Rattle.page_sections.specs.WheelSections.Sections.{section_close}
-use Rattle.page_sections.specs.WireSections.Sections.{hub_element, hub_head, link_at, path_at, through_links, through_text}
+use Rattle.page_sections.specs.WireSections.Sections.{hub_element, hub_head, link_at, path_at, through_text}
 use Rattle.page_sections.specs.declared.wire_sections.passing.Part.TheVariants as part
 use Rattle.page_sections.proofs.wire_sections.hub_sections.write_element.Goals as goal
 
@@ -13,6 +13,7 @@ pub returns : goal.returns
 returns c =
     let wires = c.args.wires.now in
     let told = c.args.told.now in
+    let sums = c.args.sums.now in
     let number = c.args.number in
     let t0 = string_bytes c.args.text.now in
     let t1 = string_bytes c.write_head.new.text in
@@ -23,9 +24,9 @@ returns c =
     let t6 = string_bytes c.write_section_close.new.text in
     let head = hub_head number c.args.hub in
     let links = numbered_words (link_at number) 1 wires in
-    let through = through_text (through_links (part.Hub number) told) in
+    let through = through_text told sums (part.Hub number) c.args.hub in
     let paths = flat_map (path_at number) wires in
-    where_ok (t6 ≡ t5 ++ section_close) (t6 ≡ t0 ++ hub_element wires told number c.args.hub) c.write_section_close.result
+    where_ok (t6 ≡ t5 ++ section_close) (t6 ≡ t0 ++ hub_element wires told sums number c.args.hub) c.write_section_close.result
     (and_more t0 t5 t6 (head ++ links ++ through ++ picture_open ++ paths) section_close
     (and_more t0 t4 t5 (head ++ links ++ through ++ picture_open) paths
     (and_more t0 t3 t4 (head ++ links ++ through) picture_open

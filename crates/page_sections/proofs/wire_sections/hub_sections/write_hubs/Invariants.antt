@@ -5,4 +5,4 @@ use Rattle.page_sections.proofs.wire_sections.hub_sections.write_hubs.Given as g
 
 -- the hubs so far are written
 abbrev pub invariant-loop-passed : goal.invariant-loop-passed
-invariant-loop-passed l = GainsHubs (hub_section l.wires l.told) l.passed (string_bytes l.initial.text) (string_bytes l.text)
+invariant-loop-passed l = GainsHubs (hub_section l.wires l.told l.sums) l.passed (string_bytes l.initial.text) (string_bytes l.text)

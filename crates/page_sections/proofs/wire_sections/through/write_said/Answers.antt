@@ -1,10 +1,14 @@
 use Rattle.std.proofs.Common.{◌≡◌, ◌++◌, List, subst, sym, ℕ}
 use Rattle.std.specs.Prelude.{OnOk}
 use Rattle.std.specs.String.{string_bytes}
+use Rattle.markup.proofs.Pieces.{pushed}
 use Rattle.page_sections.proofs.WireSections.Gained.{said_some}
 use Rattle.page_sections.proofs.wire_sections.through.write_said.Goals as goal
 
 pub returns : goal.returns
 returns c =
-    subst (λ (l : List ℕ). OnOk c.write_some.result (string_bytes c.write_some.new.text ≡ string_bytes c.args.text.now ++ l))
-    (sym (said_some c.args.links.now c.if-is_empty.ensures)) c.write_some.ensures
+    let old = string_bytes c.args.text.now in
+    let new = string_bytes c.push_str.new.self in
+    let said = c.args.said.now in
+    subst (λ (l : List ℕ). OnOk c.push_str.result (new ≡ old ++ l)) (sym (said_some said c.if-is_empty.ensures))
+    (pushed c.push_str.result new (old ++ said) old c.push_str.ensures.bytes)

@@ -10,7 +10,7 @@ returns c =
     let one = string_bytes c.push_str.new.self in
     let two = string_bytes c.push_str-2.new.self in
     let new = string_bytes c.push_str-3.new.self in
-    let front = codes "<p>A way that is told of each of these printed characters leads through it:</p>\n<div>" in
+    let front = codes "<p>The ways shown for these characters lead through it:</p>\n<div>" in
     let close = codes "</div>\n" in
     let links = c.args.links.now in
     where_ok (new ≡ two ++ close) (new ≡ old ++ some_text links) c.push_str-3.result

@@ -7,5 +7,5 @@ use Rattle.page_sections.proofs.wire_sections.wire_sections.write_all.Given as g
 -- what is written, and the wires that are left
 abbrev pub invariant-loop-place : goal.invariant-loop-place
 invariant-loop-place l =
-    string_bytes l.text ++ numbered_words (wire_section l.told) (l.place + 1) (drop l.place l.wires)
-    ≡ string_bytes l.initial.text ++ numbered_words (wire_section l.told) 1 l.wires
+    string_bytes l.text ++ numbered_words (wire_section l.told l.sums) (l.place + 1) (drop l.place l.wires)
+    ≡ string_bytes l.initial.text ++ numbered_words (wire_section l.told l.sums) 1 l.wires
