@@ -1,6 +1,8 @@
 //! How large the totals of a deck are that their lines have no room for.
 
-ghost use Rattle.std.specs.Prelude.{◌≡◌, ◌⊎◌, OnOk, IfOk, IfErr};
+ghost use Rattle.std.specs.Prelude.{◌≡◌, ℕ, true, false, All, IfOk, IfNone, IfSome, List, OnOk};
+ghost use Rattle.card_code.specs.Deck.{Deck};
+ghost use Rattle.chart_rules.specs.ValidCard.{IsValidCard};
 ghost use Rattle.check_calls.specs.Large.{PrintsLarge, TellsLarge};
 
 use crate::deck_checks::put;
@@ -13,7 +15,10 @@ use std::alloc::Global;
 use std::io::Write;
 
 // Whether all cards are valid for a chart.
-fn are_valid(chart: &Chart, cards: &[Card]) -> bool {
+fn are_valid(chart: &Chart, cards: &[Card]) -> bool
+    ensures valid { result ≡ true → All (IsValidCard chart.now) cards.now }
+    ensures bad { result ≡ false → ¬ All (IsValidCard chart.now) cards.now }
+{
     for card in cards {
         if valid_card(chart, card).is_err() {
             return false;
@@ -22,15 +27,26 @@ fn are_valid(chart: &Chart, cards: &[Card]) -> bool {
     true
 }
 
+// The cards of a deck, if its text is one.
+fn cards_of<'a>(alloc: Global, deck: &[u8]) -> Result<Option<Vec<Card>>, Fault<'a>>
+    ensures cards { IfOk result (λ found. IfSome found (λ cards. Deck deck.now cards.items)) }
+    ensures only { IfOk result (λ found. (cards : List (List ℕ)) → Deck deck.now cards → IfSome found (λ read. read.items ≡ cards)) }
+    ensures none { IfOk result (λ found. IfNone found ((cards : List (List ℕ)) → ¬ Deck deck.now cards)) }
+{
+    match read_deck(alloc, deck) {
+        Ok(cards) => Ok(Some(cards)),
+        Err(DeckFault::Memory) => Err(Fault::Memory),
+        Err(_) => Ok(None),
+    }
+}
+
 // What is told of the large totals of a deck: nothing of one with bad cards.
 fn large_text<'a>(alloc: Global, chart: &Chart, deck: &[u8]) -> Result<Vec<u8>, Fault<'a>>
     ensures { IfOk result (λ text. TellsLarge chart.now deck.now text.items) }
 {
     let mut text = Vec::new(alloc);
-    let cards = match read_deck(alloc, deck) {
-        Ok(cards) => cards,
-        Err(DeckFault::Memory) => return Err(Fault::Memory),
-        Err(_) => return Ok(text),
+    let Some(cards) = cards_of(alloc, deck)? else {
+        return Ok(text);
     };
     if !are_valid(chart, cards.as_slice()) {
         return Ok(text);

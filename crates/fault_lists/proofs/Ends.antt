@@ -123,8 +123,8 @@ ends_by source raw chart old middle new fault reads same lawful listed (inr (cau
       are_all = subst (λ (c : Chart). AreAllOver (wanted_of c.lines) standard in_order all) same are;
       first = first_is (wanted_of chart.lines) standard cause has all are;
       is_told = is;
-      written = unwritten source raw old middle new (capacities_text source raw.lines (wanted_of raw.lines).totals all) listed lawful
-          (subst (λ (c : Chart). Appends middle new (capacities_text source c.lines (wanted_of c.lines).totals all)) same written);
+      written = unwritten source raw old middle new (capacities_text source raw.lines (wanted_of raw.lines).totals (wanted_of raw.lines).parts all) listed lawful
+          (subst (λ (c : Chart). Appends middle new (capacities_text source c.lines (wanted_of c.lines).totals (wanted_of c.lines).parts all)) same written);
     })
 
 pub capacity_listed : {U : Type 0} (answer : Result U Fault) (source : List ℕ) (raw chart : Chart) (old middle new : Option (List ℕ)) → Reads source raw → chart ≡ raw

@@ -4,3 +4,5 @@ mod Reading
 mod Rests
 pub mod MisreadLines
 pub mod CapacityFaults
+pub mod FormStages
+pub mod MarkedWords

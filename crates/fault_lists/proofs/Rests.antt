@@ -1,5 +1,5 @@
 -- What was written behind lines of no form.
-use Rattle.std.proofs.Common.{◌≡◌, ◌∙◌, refl, sym, ap, subst, ℕ, List, ◌++◌, Option, Result, Ok, Err, OnOk, filter, AllPairs}
+use Rattle.std.proofs.Common.{◌≡◌, refl, sym, ap, subst, ℕ, List, ◌++◌, Option, Result, Ok, Err, OnOk, filter, AllPairs}
 use Rattle.std.proofs.KnownBytes.{Appends-trans}
 use Rattle.std.specs.Io.KnownBytes.{Appends}
 use Rattle.chart_faults.specs.Listed.{ComesBefore, HasAllListed}

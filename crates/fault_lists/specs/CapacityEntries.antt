@@ -1,13 +1,13 @@
 -- The entries of capacities that a chart exceeds.
-use Rattle.std.specs.Prelude.{ℕ, ◌==◌, List, [], ◌++◌, Option, Some, None, codes, decimal, if◌then◌else◌}
-use Rattle.std.specs.List.{flat_map}
+use Rattle.std.specs.Prelude.{ℕ, ◌==◌, Bool, List, [], ◌++◌, Option, Some, None, codes, decimal, if◌then◌else◌}
+use Rattle.std.specs.List.{flat_map, list_any}
 use Rattle.allocate.specs.declared.fault.CapacityFault.{CapacityFault}
 use Rattle.allocate.specs.declared.fault.CapacityFault.TheVariants as exceeded
 use Rattle.charts.specs.Levels.{control_number}
+use Rattle.charts.specs.Name.{is_same_name}
 use Rattle.charts.specs.declared.chart.Line.{Line}
 use Rattle.charts.specs.declared.level.ControlLevel.{ControlLevel}
-use Rattle.charts.specs.declared.statement.DetailOption.TheVariants.{Indicated, Marked}
-use Rattle.charts.specs.declared.statement.Mark.{Mark}
+use Rattle.charts.specs.declared.statement.DetailOption.TheVariants.{Indicated}
 use Rattle.charts.specs.declared.statement.Statement.{Statement}
 use Rattle.charts.specs.declared.statement.Statement.TheVariants as says
 use Rattle.faults.specs.Lines.{fault_line}
@@ -16,6 +16,7 @@ use Rattle.line_marks.specs.Below.card_code.Deck.{line_at}
 use Rattle.line_marks.specs.Entries.{below, shown}
 use Rattle.line_marks.specs.Spans.{span_of}
 use Rattle.wanted.specs.Totals.{is_at_least, takes_two}
+use Rattle.wanted.specs.Wanted.{Parts}
 use Rattle.wanted.specs.declared.total.Total.{Total}
 
 -- what is wrong where a capacity is exceeded
@@ -80,48 +81,57 @@ abbrev pub indicated_place : ControlLevel → Statement → Option ℕ
 indicated_place level (says.DetailField wheel name (Indicated own)) = if control_number own == control_number level then Some 2 else None
 indicated_place level other = None
 
--- a place, if there is a mark
-abbrev pub if_marked : Option Mark → ℕ → Option ℕ
-if_marked None place = None
-if_marked (Some mark) place = Some place
+-- whether an amount is one of those that pilots serve
+abbrev pub is_served : (pilots : List (List ℕ)) → (name : List ℕ) → Bool
+is_served pilots name = list_any (λ pilot. is_same_name name pilot) pilots
 
--- the place of an amount that is printed with a mark
-abbrev pub signed_place : Statement → Option ℕ
-signed_place (says.DetailField wheel name (Marked mark)) = Some 2
-signed_place (says.TotalAmount total) = if_marked total.mark 3
-signed_place other = None
+-- the place of an amount that a pilot serves, on whichever line it is printed, with a mark or without one
+abbrev pub pilot_place : (pilots : List (List ℕ)) → Statement → Option ℕ
+pilot_place pilots (says.DetailField wheel name option) = if is_served pilots name then Some 2 else None
+pilot_place pilots (says.TotalAmount total) = if is_served pilots total.name then Some 3 else None
+pilot_place pilots other = None
 
--- the place of the word by which a line asks for a capacity, if it does; lines that ask for counter groups are told by their totals
-abbrev pub asking_place : CapacityFault → Line → Option ℕ
-asking_place (exceeded.Pilots wanted there) line = signed_place line.statement
-asking_place (exceeded.Comparing wanted there) line = control_place line.statement
-asking_place (exceeded.StorageWidth number) line = if line.number == number then text_place line.statement else None
-asking_place (exceeded.StorageUnits wanted there) line = text_place line.statement
-asking_place (exceeded.Indicate level wanted there) line = indicated_place level line.statement
-asking_place other line = None
+-- whether a line's number is one of some
+abbrev pub is_among : (numbers : List ℕ) → (number : ℕ) → Bool
+is_among numbers number = list_any (λ each. each == number) numbers
+
+-- the place of an amount that a column split serves: those of a DETAIL line, told by the line's number
+abbrev pub split_place : (splits : List ℕ) → (number : ℕ) → Option ℕ
+split_place splits number = if is_among splits number then Some 2 else None
+
+-- The place of the word by which a line asks for a capacity, if it does: of pilots and column splits by what these are to serve. Lines that ask
+-- for counter groups are told by their totals.
+abbrev pub asking_place : Parts → CapacityFault → Line → Option ℕ
+asking_place parts (exceeded.Pilots wanted there) line = pilot_place parts.pilots line.statement
+asking_place parts (exceeded.Comparing wanted there) line = control_place line.statement
+asking_place parts (exceeded.StorageWidth number) line = if line.number == number then text_place line.statement else None
+asking_place parts (exceeded.StorageUnits wanted there) line = text_place line.statement
+asking_place parts (exceeded.Splits wanted there) line = split_place parts.splits line.number
+asking_place parts (exceeded.Indicate level wanted there) line = indicated_place level line.statement
+asking_place parts other line = None
 
 -- a line by its number, with a mark under that word
 unfoldable pub asking_text : (text : List ℕ) → (number : ℕ) → Option ℕ → List ℕ
 asking_text text number None = []
 asking_text text number (Some place) = (codes "  line " ++ decimal number ++ codes "\n") ++ marked text number place
 
-abbrev pub asking_line : (text : List ℕ) → CapacityFault → Line → List ℕ
-asking_line text fault line = asking_text text line.number (asking_place fault line)
+abbrev pub asking_line : (text : List ℕ) → Parts → CapacityFault → Line → List ℕ
+asking_line text parts fault line = asking_text text line.number (asking_place parts fault line)
 
 -- the lines that ask for a capacity
-abbrev pub lines_asking : (text : List ℕ) → CapacityFault → List Line → List ℕ
-lines_asking text fault lines = flat_map (asking_line text fault) lines
+abbrev pub lines_asking : (text : List ℕ) → Parts → CapacityFault → List Line → List ℕ
+lines_asking text parts fault lines = flat_map (asking_line text parts fault) lines
 
 -- what of a chart asks for a capacity: of counter groups the totals, and else the lines
-unfoldable pub wanted_words : (text : List ℕ) → List Line → List Total → CapacityFault → List ℕ
-wanted_words text lines totals (exceeded.Counters width wanted there) = needs_at text width totals
-wanted_words text lines totals other = lines_asking text other lines
+unfoldable pub wanted_words : (text : List ℕ) → List Line → List Total → Parts → CapacityFault → List ℕ
+wanted_words text lines totals parts (exceeded.Counters width wanted there) = needs_at text width totals
+wanted_words text lines totals parts other = lines_asking text parts other lines
 
 -- the entry of a capacity: the line of the fault, what is wrong, what of the chart asks for it, and what helps
-abbrev pub capacity_entry : (text : List ℕ) → List Line → List Total → CapacityFault → List ℕ
-capacity_entry text lines totals fault =
-    fault_line (capacity_told fault) ++ below (capacity_words fault) ++ wanted_words text lines totals fault ++ below (cure fault)
+abbrev pub capacity_entry : (text : List ℕ) → List Line → List Total → Parts → CapacityFault → List ℕ
+capacity_entry text lines totals parts fault =
+    fault_line (capacity_told fault) ++ below (capacity_words fault) ++ wanted_words text lines totals parts fault ++ below (cure fault)
 
 -- the entries of some capacities
-abbrev pub capacities_text : (text : List ℕ) → List Line → List Total → List CapacityFault → List ℕ
-capacities_text text lines totals faults = flat_map (capacity_entry text lines totals) faults
+abbrev pub capacities_text : (text : List ℕ) → List Line → List Total → Parts → List CapacityFault → List ℕ
+capacities_text text lines totals parts faults = flat_map (capacity_entry text lines totals parts) faults

@@ -92,7 +92,7 @@ pub record ListsCapacity (text : List ℕ) (old new : Option (List ℕ)) (fault 
   pub are_all : AreAllOver (wanted_of chart.lines) standard in_order all
   pub first : slice_get all 0 ≡ Some cause
   pub is_told : fault ≡ capacity_told cause
-  pub written : Appends old new (capacities_text text chart.lines (wanted_of chart.lines).totals all)
+  pub written : Appends old new (capacities_text text chart.lines (wanted_of chart.lines).totals (wanted_of chart.lines).parts all)
 
 -- memory was wanting, or the output can't be written
 abbrev pub IsBrokenOff : Fault → Type 0
@@ -119,4 +119,4 @@ EndsCapacity text chart old new fault =
     IsBrokenOff fault
     ⊎ ((cause : CapacityFault) × HasCapacityFault (wanted_of chart.lines) standard cause × (fault ≡ capacity_told cause)
     × ((all : List CapacityFault) × AreAllOver (wanted_of chart.lines) standard in_order all
-    × Appends old new (capacities_text text chart.lines (wanted_of chart.lines).totals all)))
+    × Appends old new (capacities_text text chart.lines (wanted_of chart.lines).totals (wanted_of chart.lines).parts all)))

@@ -1,4 +1,5 @@
 pub mod TextEntries
+pub mod MarkedWords
 pub mod CapacityEntries
 pub mod Behind
 pub mod Endings

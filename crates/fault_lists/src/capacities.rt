@@ -6,13 +6,13 @@ ghost use Rattle.fault_lists.specs.CapacityEntries as law;
 ghost use Rattle.wanted.specs.Totals.{class_of, is_at_least};
 
 use allocate::CapacityFault;
-use charts::{ControlLevel, DetailOption, Line, Statement};
+use charts::{ControlLevel, DetailOption, Line, Name, Statement};
 use faults::{Fault, write_line};
 use line_marks::{line_numbered, token_span, write_below, write_shown};
 use numerals::{write_between, write_numbered};
 use std::io;
 use std::io::Write;
-use wanted::{Total, takes_two};
+use wanted::{Parts, Total, takes_two};
 
 /// A chart with its text.
 #[derive(Drop)]
@@ -23,6 +23,8 @@ pub(crate) struct Source<'a> {
     pub(crate) lines: &'a [Line],
     /// Its totals.
     pub(crate) totals: &'a [Total],
+    /// What the parts of the machine other than the counter groups are to serve.
+    pub(crate) parts: &'a Parts,
 }
 
 /// What is wrong where a capacity is exceeded.
@@ -180,31 +182,55 @@ fn indicated_place(level: ControlLevel, statement: &Statement) -> Option<usize>
     }
 }
 
-/// The place of an amount that is printed with a mark.
-fn signed_place(statement: &Statement) -> Option<usize>
-    ensures { result ≡ law.signed_place statement.now }
+/// Whether an amount is one of those that pilots serve.
+fn is_served(pilots: &[Name], name: Name) -> bool
+    ensures { result ≡ law.is_served pilots.now name }
+{
+    pilots.iter().any(|pilot| name.is(*pilot))
+}
+
+/// The place of an amount that a pilot serves, on whichever line it is printed, with a mark or without one.
+fn pilot_place(pilots: &[Name], statement: &Statement) -> Option<usize>
+    ensures { result ≡ law.pilot_place pilots.now statement.now }
 {
     match statement {
-        Statement::DetailField {
-            shown: DetailOption::Marked(_),
-            ..
-        } => Some(2),
-        Statement::TotalAmount(total) if total.mark.is_some() => Some(3),
+        Statement::DetailField { name, .. } if is_served(pilots, *name) => Some(2),
+        Statement::TotalAmount(total) if is_served(pilots, total.name) => Some(3),
         _ => None,
     }
 }
 
-/// The place of the word by which a line asks for a capacity, if it does. Lines that ask for counter groups are told by their totals.
-fn asking_place(fault: CapacityFault, line: &Line) -> Option<usize>
-    ensures { result ≡ law.asking_place fault line.now }
+/// Whether a line's number is one of some.
+fn is_among(numbers: &[u16], number: u16) -> bool
+    ensures { result ≡ law.is_among numbers.now number }
+{
+    numbers.iter().any(|each| *each == number)
+}
+
+/// The place of an amount that a column split serves: those of a DETAIL line, told by the line's number.
+fn split_place(splits: &[u16], number: u16) -> Option<usize>
+    ensures { result ≡ law.split_place splits.now number }
+{
+    if is_among(splits, number) {
+        Some(2)
+    } else {
+        None
+    }
+}
+
+/// The place of the word by which a line asks for a capacity, if it does: of pilots and column splits by what these are to serve. Lines
+/// that ask for counter groups are told by their totals.
+fn asking_place(parts: &Parts, fault: CapacityFault, line: &Line) -> Option<usize>
+    ensures { result ≡ law.asking_place parts.now fault line.now }
 {
     match fault {
-        CapacityFault::Pilots { .. } => signed_place(&line.statement),
+        CapacityFault::Pilots { .. } => pilot_place(parts.pilots(), &line.statement),
         CapacityFault::Comparing { .. } => control_place(&line.statement),
         CapacityFault::StorageWidth { line: number } if line.number == number => text_place(
             &line.statement,
         ),
         CapacityFault::StorageUnits { .. } => text_place(&line.statement),
+        CapacityFault::Splits { .. } => split_place(parts.splits(), line.number),
         CapacityFault::Indicate { level, .. } => indicated_place(level, &line.statement),
         _ => None,
     }
@@ -233,13 +259,14 @@ fn write_asking<W: Write>(
 fn write_lines_asking<W: Write>(
     out: &mut W,
     text: &[u8],
+    parts: &Parts,
     fault: CapacityFault,
     lines: &[Line],
 ) -> io::Result<()>
-    ensures { OnOk result (Appends (W.contents out.old) (W.contents out.new) (law.lines_asking text.now fault lines.now)) }
+    ensures { OnOk result (Appends (W.contents out.old) (W.contents out.new) (law.lines_asking text.now parts.now fault lines.now)) }
 {
     for line in lines {
-        write_asking(out, text, line.number, asking_place(fault, line))?;
+        write_asking(out, text, line.number, asking_place(parts, fault, line))?;
     }
     Ok(())
 }
@@ -248,7 +275,7 @@ fn write_lines_asking<W: Write>(
 #[tactic(auto, unfolding(crate::specs::CapacityEntries::wanted_words))]
 fn write_wanted<W: Write>(out: &mut W, source: &Source, fault: CapacityFault) -> io::Result<()>
     ensures { OnOk result (Appends (W.contents out.old) (W.contents out.new)
-        (law.wanted_words source.now.text.now source.now.lines.now source.now.totals.now fault)) }
+        (law.wanted_words source.now.text.now source.now.lines.now source.now.totals.now source.now.parts.now fault)) }
 {
     match fault {
         CapacityFault::Counters { width, .. } => write_needs(
@@ -257,7 +284,7 @@ fn write_wanted<W: Write>(out: &mut W, source: &Source, fault: CapacityFault) ->
             width,
             source.totals,
         ),
-        _ => write_lines_asking(out, source.text, fault, source.lines),
+        _ => write_lines_asking(out, source.text, source.parts, fault, source.lines),
     }
 }
 
@@ -268,7 +295,7 @@ fn write_capacity_entry<W: Write>(
     fault: CapacityFault,
 ) -> io::Result<()>
     ensures { OnOk result (Appends (W.contents out.old) (W.contents out.new)
-        (law.capacity_entry source.now.text.now source.now.lines.now source.now.totals.now fault)) }
+        (law.capacity_entry source.now.text.now source.now.lines.now source.now.totals.now source.now.parts.now fault)) }
 {
     write_line(&Fault::from(fault), out)?;
     write_below(out, capacity_words(fault).as_bytes())?;
@@ -283,7 +310,7 @@ pub(crate) fn write_capacities<W: Write>(
     list: &[CapacityFault],
 ) -> io::Result<()>
     ensures { OnOk result (Appends (W.contents out.old) (W.contents out.new)
-        (law.capacities_text source.now.text.now source.now.lines.now source.now.totals.now list.now)) }
+        (law.capacities_text source.now.text.now source.now.lines.now source.now.totals.now source.now.parts.now list.now)) }
 {
     for fault in list {
         write_capacity_entry(out, source, *fault)?;

@@ -16,8 +16,10 @@ mod behind;
 mod capacities;
 pub mod capacity_faults;
 mod entries;
+mod laws;
 mod listing;
 pub mod misread_lines;
 mod rules;
 
+pub use laws::marked_words_stand_in_no_form;
 pub use listing::{list_chart, list_chart_to_end};

@@ -110,10 +110,15 @@ fn told_capacities<'a, W: Write>(
     let Ok(list) = capacity_faults(alloc, &wanted, &Profile::standard()) else {
         return Fault::Memory;
     };
+    let Ok(totals) = wanted.totals().to_vec(alloc) else {
+        return Fault::Memory;
+    };
+    let parts = wanted.into_parts();
     let source = Source {
         text,
         lines: chart.lines(),
-        totals: wanted.totals(),
+        totals: totals.as_slice(),
+        parts: &parts,
     };
     match write_capacities(out, &source, list.as_slice()) {
         Ok(()) => first.into(),

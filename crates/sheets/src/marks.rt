@@ -1,12 +1,12 @@
 //! A line of a deck as it stands, with a mark under one of its columns.
 
-ghost use Rattle.std.specs.Prelude.{◌≡◌, ◌++◌, OnOk, map, take};
+ghost use Rattle.std.specs.Prelude.{◌≡◌, ◌++◌, OnOk, map};
 ghost use Rattle.std.specs.List.{flat_map};
 ghost use Rattle.chart_rules.specs.Below.line_rules.FieldRules.Fields.{fields_of};
 ghost use Rattle.sheets.specs.Marks as marks;
 
 use crate::runs::write_run;
-use card_code::CARD_COLUMNS;
+use bad_columns::front_of;
 use chart_rules::Chart;
 use charts::Field;
 use std::io;
@@ -27,17 +27,6 @@ fn write_shown(text: &mut Vec<u8>, bytes: &[u8]) -> io::Result<()>
         text.push(shown_byte(*byte))?;
     }
     Ok(())
-}
-
-// As much of a line as a card has columns.
-fn front_of(line: &[u8]) -> &[u8]
-    ensures { result.now ≡ take 80 line.now }
-{
-    if line.len() < CARD_COLUMNS {
-        line
-    } else {
-        &line[..CARD_COLUMNS]
-    }
 }
 
 // Whether a field reads a column: one of its own, or that of its sign.
@@ -75,7 +64,7 @@ fn write_names_at(text: &mut Vec<u8>, column: u32, fields: &[Field]) -> io::Resu
 }
 
 // The mark under a column, and the names of the fields that read it.
-fn write_column_mark(text: &mut Vec<u8>, column: u32, fields: &[Field]) -> io::Result<()>
+pub(crate) fn write_column_mark(text: &mut Vec<u8>, column: u32, fields: &[Field]) -> io::Result<()>
     ensures { OnOk result (text.new.items ≡ text.old.items ++ marks.column_mark column fields.now) }
 {
     write_run(text, b' ', column.saturating_sub(1) as usize)?;

@@ -1,7 +1,10 @@
 -- Which text shows what is told of a deck: each fault's line, and below it the card as it stands, with a mark under the column at fault and the
--- names of the fields that have it.
-use Rattle.std.specs.Prelude.{◌≡◌, ◌<◌, ℕ, length, List, [], ◌∷◌, ◌++◌, Option, Some, None}
+-- names of the fields that have it; of a field that isn't valid also what is wrong with that column.
+use Rattle.std.specs.Prelude.{◌≡◌, ◌<◌, ◌==◌, ℕ, length, List, [], ◌∷◌, ◌++◌, Option, Some, None, if◌then◌else◌}
 use Rattle.std.specs.List.{flat_map}
+use Rattle.bad_columns.specs.Columns.{bad_among}
+use Rattle.bad_columns.specs.Words.{bad_words}
+use Rattle.bad_columns.specs.declared.column.BadColumn.{BadColumn}
 use Rattle.card_code.specs.Deck.{line_at}
 use Rattle.card_code.specs.Lines.{lines_of}
 use Rattle.card_code.specs.MostCards.{most_cards}
@@ -15,20 +18,25 @@ use Rattle.faults.specs.declared.fault.Fault.TheVariants as fault
 use Rattle.line_rules.specs.FieldRules.Fields.{fields_of}
 use Rattle.sheets.specs.Marks.{marked_line}
 
--- the column to mark on the card that a fault names: its own, or of a card that is too long the first one behind the card
-abbrev pub column_marked : Fault → Option ℕ
-column_marked (fault.Column number card column) = Some column
-column_marked (fault.Card number card) = Some 81
-column_marked other = None
+-- a line of a deck with a mark under a column, or under the one that is at fault in a field, with what is wrong there
+abbrev pub marked_at : Chart → (line : List ℕ) → (column : ℕ) → Option BadColumn → List ℕ
+marked_at chart line column None = marked_line line column (fields_of chart.lines)
+marked_at chart line column (Some bad) = marked_line line bad.column (fields_of chart.lines) ++ bad_words bad
 
--- a line of a deck with a mark, if there is one to make
-abbrev pub marked : Chart → (line : List ℕ) → Option ℕ → List ℕ
-marked chart line None = []
-marked chart line (Some column) = marked_line line column (fields_of chart.lines)
+-- the column at fault of the field that a fault of a number names by its first column; a fault 2 names no field
+unfoldable pub column_at_fault : Chart → (line : List ℕ) → (number column : ℕ) → Option BadColumn
+column_at_fault chart line number column = if number == 2 then None else bad_among column line (fields_of chart.lines)
+
+-- A line of a deck with a mark on the card that a fault names: under its column, or the one at fault in its field, or of a card that is too long
+-- under the first one behind the card.
+abbrev pub marked : Chart → (line : List ℕ) → Fault → List ℕ
+marked chart line (fault.Column number card column) = marked_at chart line column (column_at_fault chart line number column)
+marked chart line (fault.Card number card) = marked_at chart line 81 None
+marked chart line other = []
 
 -- what is told of a fault of a card, given the card's line
 abbrev pub entry_told : Chart → (line : List ℕ) → Fault → List ℕ
-entry_told chart line told = fault_line told ++ marked chart line (column_marked told)
+entry_told chart line told = fault_line told ++ marked chart line told
 
 -- the number of the card that a fault names
 abbrev pub card_named : Fault → ℕ

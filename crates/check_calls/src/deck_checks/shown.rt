@@ -11,6 +11,7 @@ ghost use Rattle.check_calls.specs.DeckChecks.Shown as law;
 ghost use Rattle.check_calls.specs.DeckChecks.Shown.{IsShown, IsTooLong};
 
 use crate::deck_checks::standing::Standing;
+use bad_columns::{BadColumn, bad_column, write_bad_column};
 use card_code::{CARD_COLUMNS, DeckFault, MOST_CARDS, next_line};
 use chart_rules::Chart;
 use faults::{Fault, unprinted, write_line};
@@ -27,29 +28,48 @@ pub struct Shown<'a> {
     pub text: Vec<u8>,
 }
 
-// The column to mark on the card that a fault names.
-fn column_marked(told: &Fault) -> Option<u32>
-    ensures { result ≡ law.column_marked told.now }
-{
-    match told {
-        Fault::Column { column, .. } => Some(*column),
-        Fault::Card { .. } => Some(CARD_COLUMNS as u32 + 1),
-        _ => None,
-    }
-}
-
-// Writes a line of a deck with a mark, if there is one to make.
-fn write_marked(
+// Writes a line of a deck with a mark under a column, or under the one that is at fault in a field, with what is wrong there.
+fn write_marked_at(
     text: &mut Vec<u8>,
     chart: &Chart,
     line: &[u8],
-    column: Option<u32>,
+    column: u32,
+    at_fault: Option<BadColumn>,
 ) -> io::Result<()>
-    ensures { OnOk result (text.new.items ≡ text.old.items ++ law.marked chart.now line.now column) }
+    ensures { OnOk result (text.new.items ≡ text.old.items ++ law.marked_at chart.now line.now column at_fault) }
 {
-    match column {
-        Some(column) => write_marked_line(text, chart, line, column),
-        None => Ok(()),
+    match at_fault {
+        None => write_marked_line(text, chart, line, column),
+        Some(bad) => {
+            write_marked_line(text, chart, line, bad.column)?;
+            write_bad_column(text, bad)
+        }
+    }
+}
+
+// The column at fault of the field that a fault of a number names by its first column.
+#[tactic(auto, unfolding(crate::specs::DeckChecks::Shown::column_at_fault))]
+fn column_at_fault(chart: &Chart, line: &[u8], number: u8, column: u32) -> Option<BadColumn>
+    ensures { result ≡ law.column_at_fault chart.now line.now number column }
+{
+    if number == 2 {
+        None
+    } else {
+        bad_column(chart, column, line)
+    }
+}
+
+// Writes a line of a deck with a mark on the card that a fault names, if it names one.
+fn write_marked(text: &mut Vec<u8>, chart: &Chart, line: &[u8], told: &Fault) -> io::Result<()>
+    ensures { OnOk result (text.new.items ≡ text.old.items ++ law.marked chart.now line.now told.now) }
+{
+    match told {
+        Fault::Column { number, column, .. } => {
+            let at_fault = column_at_fault(chart, line, *number, *column);
+            write_marked_at(text, chart, line, *column, at_fault)
+        }
+        Fault::Card { .. } => write_marked_at(text, chart, line, CARD_COLUMNS as u32 + 1, None),
+        _ => Ok(()),
     }
 }
 
@@ -58,7 +78,7 @@ fn write_entry(text: &mut Vec<u8>, chart: &Chart, line: &[u8], told: &Fault) -> 
     ensures { OnOk result (text.new.items ≡ text.old.items ++ law.entry_told chart.now line.now told.now) }
 {
     write_line(told, text)?;
-    write_marked(text, chart, line, column_marked(told))
+    write_marked(text, chart, line, told)
 }
 
 impl<'a> Shown<'a> {
@@ -120,7 +140,8 @@ impl<'a> Shown<'a> {
 
 /// Shows all cards of a deck that a chart can't be run with, in the order of the deck: the line that [`check_cards`](crate::deck_checks::check_cards)
 /// writes of each, and below it the card as it stands, its first 80 bytes, with a mark under the column at fault and the names of the chart's
-/// fields that have it. Where there is none, it is `ok`, how many cards there are, and the first and the last one.
+/// fields that have it; of a field that isn't valid also what is wrong with that column. Where there is none, it is `ok`, how many cards
+/// there are, and the first and the last one.
 ///
 /// # Errors
 ///

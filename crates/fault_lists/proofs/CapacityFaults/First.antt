@@ -1,5 +1,5 @@
 -- The first of all faults is the one that an allocation tells.
-use Rattle.std.proofs.Common.{◌≡◌, ◌∙◌, refl, sym, ap, subst, ℕ, zero, suc, ◌+◌, ◌<◌, ◌⊎◌, inl, inr, List, [], ◌∷◌, ◌++◌, Option, Some, None, slice_get, length, arith}
+use Rattle.std.proofs.Common.{◌≡◌, ◌∙◌, refl, ap, subst, ℕ, zero, suc, List, [], ◌∷◌, Some, slice_get, length, arith}
 use Rattle.allocate.proofs.Exclusions.{fitting_charts_have_no_fault}
 use Rattle.allocate.proofs.OneFault.{charts_exceed_one_capacity}
 use Rattle.allocate.specs.Exceeded.{HasCapacityFault, IsExceeded, IsFirstAmong, IsFirstOver, NoneIsOver, FitsMachine, in_order}

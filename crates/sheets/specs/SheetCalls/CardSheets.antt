@@ -1,12 +1,16 @@
 -- A card of a deck with what the fields of a planning chart read on it, from the bytes of both, and why there is none.
-use Rattle.std.specs.Prelude.{◌≡◌, ◌⊎◌, ◌<◌, ◌-◌, ℕ, List, ◌++◌, Option, Some, IfSome, codes, decimal, length, slice_get, true, false}
+use Rattle.std.specs.Prelude.{◌≡◌, ◌⊎◌, ◌<◌, ◌-◌, ℕ, List, [], ◌++◌, Option, Some, None, IfSome, codes, decimal, length, slice_get, true, false}
 use Rattle.std.specs.Io.KnownBytes.{Appends}
+use Rattle.bad_columns.specs.Columns.{bad_among}
+use Rattle.bad_columns.specs.Words.{bad_words}
+use Rattle.bad_columns.specs.declared.column.BadColumn.{BadColumn}
 use Rattle.card_code.specs.Deck.{HasLineFault, IsCardOf}
 use Rattle.card_code.specs.Lines.{lines_of}
 use Rattle.card_code.specs.declared.deck.DeckFault.{DeckFault}
 use Rattle.card_code.specs.declared.deck.DeckFault.TheVariants as deck
 use Rattle.chart_rules.specs.ValidCard.{IsFirstInvalid, IsValidCard}
 use Rattle.chart_rules.specs.declared.card.CardFault.{CardFault}
+use Rattle.chart_rules.specs.declared.card.CardFault.TheVariants as invalid_as
 use Rattle.charts.specs.Chart.{Chart}
 use Rattle.faults.specs.Lines.{fault_line}
 use Rattle.faults.specs.Told.{deck_told, of_card, run_told}
@@ -14,7 +18,8 @@ use Rattle.faults.specs.declared.fault.Fault.{Fault}
 use Rattle.faults.specs.declared.fault.Fault.TheVariants as fault
 use Rattle.chart_rules.specs.Below.line_rules.FieldRules.Fields.{fields_of}
 use Rattle.sheets.specs.Fields.{fields_told}
-use Rattle.sheets.specs.Marks.{marked_line}
+use Rattle.charts.specs.declared.statement.Field.{Field}
+use Rattle.sheets.specs.Marks.{column_mark, marked_line}
 use Rattle.sheets.specs.Rulers.{column_ruler}
 use Rattle.sheets.specs.SheetCalls.Charts.{HasLawful, ReadsLawful, RefusesLines}
 
@@ -35,10 +40,22 @@ column_at_fault other = 81
 abbrev pub valid_told : Chart → (number : ℕ) → (line card : List ℕ) → List ℕ
 valid_told chart number line card = card_told number line ++ fields_told true card (fields_of chart.lines)
 
+-- the first column of the field that a fault names
+abbrev pub first_named : CardFault → ℕ
+first_named (invalid_as.NotText column) = column
+first_named (invalid_as.NotAmount column) = column
+
+-- a mark under a column that is at fault, with the names of the fields that read it, and what is wrong there
+abbrev pub bad_told : List Field → Option BadColumn → List ℕ
+bad_told fields None = []
+bad_told fields (Some bad) = column_mark bad.column fields ++ bad_words bad
+
 -- of one that isn't
 abbrev pub invalid_told : Chart → (number : ℕ) → (line card : List ℕ) → CardFault → List ℕ
 invalid_told chart number line card cause =
-    card_told number line ++ fields_told false card (fields_of chart.lines) ++ fault_line (run_told (of_card cause number))
+    card_told number line ++ fields_told false card (fields_of chart.lines)
+    ++ bad_told (fields_of chart.lines) (bad_among (first_named cause) line (fields_of chart.lines))
+    ++ fault_line (run_told (of_card cause number))
 
 -- and of a line that is no card
 abbrev pub unpunched_told : Chart → (number : ℕ) → (line : List ℕ) → DeckFault → List ℕ
@@ -46,8 +63,8 @@ unpunched_told chart number line cause =
     head_told number ++ marked_line line (column_at_fault cause) (fields_of chart.lines) ++ fault_line (deck_told cause)
 
 -- What is told of a line. Where it is a card that is valid for the chart the amounts have values. Where the card isn't valid they have none,
--- and the fault of the first field that isn't valid ends the sheet. A line that is no card is shown with a mark under the column at fault
--- and the names of the fields that have this column, and its fault ends the sheet.
+-- the column at fault of the first field that isn't valid is marked, with what is wrong there, and the fault ends the sheet. A line that is no
+-- card is shown with a mark under the column at fault and the names of the fields that have this column, and its fault ends the sheet.
 pub data IsSheet (chart : Chart) (number : ℕ) (line sheet : List ℕ) : Type 0 where
   valid : (card : List ℕ) → IsCardOf line card → IsValidCard chart card → sheet ≡ valid_told chart number line card
       → IsSheet chart number line sheet

@@ -2,13 +2,16 @@
 
 ghost use Rattle.std.specs.Prelude.{◌≡◌, ◌≢◌, ◌≤◌, ◌⊎◌, ◌++◌, IfErr, IfNone, IfOk, IfSome, OnOk};
 ghost use Rattle.card_code.specs.Deck.{IsCardOf};
+ghost use Rattle.chart_rules.specs.Below.line_rules.FieldRules.Fields.{fields_of};
 ghost use Rattle.faults.specs.Lines.{IsTold, fault_line};
 ghost use Rattle.faults.specs.Status.{status_of};
 ghost use Rattle.faults.specs.Told.{deck_told, of_card, run_told};
 ghost use Rattle.sheets.specs.SheetCalls.CardSheets as sheet;
 
+use crate::marks::write_column_mark;
 use crate::sheet_calls::charts_read::lawful_chart;
 use crate::{column_ruler, write_fields, write_marked_line};
+use bad_columns::{BadColumn, bad_column, write_bad_column};
 use card_code::{CARD_COLUMNS, Card, DeckFault, next_line, read_card};
 use chart_rules::{CardFault, Chart, valid_card};
 use faults::{Ending, Fault, RunFault, tell, unprinted, write_line};
@@ -81,6 +84,28 @@ fn write_card_fault(text: &mut Vec<u8>, fault: CardFault, number: u32) -> io::Re
     write_line(&told, text)
 }
 
+// The first column of the field that a fault names.
+fn first_named(fault: CardFault) -> u32
+    ensures { result ≡ sheet.first_named fault }
+{
+    match fault {
+        CardFault::NotText { column } | CardFault::NotAmount { column } => u32::from(column),
+    }
+}
+
+// A mark under a column that is at fault, and what is wrong there.
+fn write_bad(text: &mut Vec<u8>, chart: &Chart, at_fault: Option<BadColumn>) -> io::Result<()>
+    ensures { OnOk result (text.new.items ≡ text.old.items ++ sheet.bad_told (fields_of chart.now.lines) at_fault) }
+{
+    match at_fault {
+        None => Ok(()),
+        Some(bad) => {
+            write_column_mark(text, bad.column, chart.fields())?;
+            write_bad_column(text, bad)
+        }
+    }
+}
+
 // What is told of a card that isn't valid.
 fn write_invalid(
     text: &mut Vec<u8>,
@@ -94,6 +119,7 @@ fn write_invalid(
 {
     write_card(text, number, line)?;
     write_fields(text, false, chart, card)?;
+    write_bad(text, chart, bad_column(chart, first_named(fault), line))?;
     write_card_fault(text, fault, number)
 }
 

@@ -1,4 +1,4 @@
-use Rattle.std.proofs.Common.{◌∙◌, sym, ap, drop, List, ℕ, ◌+◌}
+use Rattle.std.proofs.Common.{◌∙◌, sym, ap, drop, ℕ, ◌+◌}
 use Rattle.fault_lists.proofs.Lefts.{all_emptied, emptied_at}
 use Rattle.fault_lists.specs.Behind.{emptied_lines}
 use Rattle.line_marks.specs.Emptied.{emptied}

@@ -7,4 +7,4 @@ use Rattle.fault_lists.proofs.capacities.write_capacities.Given as goal
 abbrev pub invariant-loop-fault : goal.invariant-loop-fault
 invariant-loop-fault g l =
     Appends (g.W.Write.contents l.initial.out) (g.W.Write.contents l.out)
-    (capacities_text l.source.text.now l.source.lines.now l.source.totals.now (take l.fault-index l.list))
+    (capacities_text l.source.text.now l.source.lines.now l.source.totals.now l.source.parts.now (take l.fault-index l.list))

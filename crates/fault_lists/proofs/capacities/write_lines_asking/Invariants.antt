@@ -6,4 +6,4 @@ use Rattle.fault_lists.proofs.capacities.write_lines_asking.Given as goal
 -- what is written is what is told so far
 abbrev pub invariant-loop-line : goal.invariant-loop-line
 invariant-loop-line g l =
-    Appends (g.W.Write.contents l.initial.out) (g.W.Write.contents l.out) (lines_asking l.text l.fault (take l.line-index l.lines))
+    Appends (g.W.Write.contents l.initial.out) (g.W.Write.contents l.out) (lines_asking l.text l.parts l.fault (take l.line-index l.lines))

@@ -1,0 +1,19 @@
+-- What it means that a word is marked in a line that no form derives: no form begins with the words up to that one.
+use Rattle.std.specs.Prelude.{◌≡◌, ◌≢◌, ℕ, ◌+◌, List, [], ◌++◌, Some, take}
+use Rattle.chart_text.specs.ChartText.{SaysIn}
+use Rattle.chart_text.specs.declared.forms.Said.{Said}
+use Rattle.charts.specs.declared.chart.Version.{Version}
+use Rattle.line_marks.specs.Spans.{word}
+use Rattle.tokens.specs.Tokens.{HasTokens}
+use Rattle.word_slips.specs.Halts.{halt_of}
+use Rattle.word_slips.specs.declared.halt.Halt.{Halt}
+
+-- no words of a form begin with these, in no version of the language
+abbrev pub BeginNoForm : List (List ℕ) → Type 0
+BeginNoForm words = (version : Version) (others : List (List ℕ)) (said : Said) → ¬ SaysIn version (words ++ others) said
+
+-- where a line leaves the forms at a word, no form begins with its words up to that one
+abbrev pub MarkedWordsStandInNoForm : Type 0
+MarkedWordsStandInNoForm =
+    (line : List ℕ) (tokens : List (List ℕ)) (halt : Halt) → HasTokens line tokens → halt_of line ≡ Some halt → word halt.place line ≢ []
+    → BeginNoForm (take (halt.place + 1) tokens)
