@@ -2,8 +2,8 @@
 //!
 //! What contracts can't say is seen here: that a call succeeds at all, and in blocks of which size pages go out. A call that a command
 //! does is tested by data in `cases`, and not here, and neither is what a contract says word for word: a test is proved before it runs.
-//! The calls of `compile407` are tested in `compile_tests`, which loads far more. There is a file for each subject; `given` has the setups
-//! of several. What this crate costs in the gate goes into loading what these libraries say, to prove the tests; the calls are small.
+//! There is a file for each subject; `given` has the setups of several. What this crate costs in the gate goes into loading what these
+//! libraries say, to prove the tests; the calls are small.
 //!
 //! - `compile_tests`: public calls of `compile407`, each with ample memory, on rows that were worked out by hand
 #![tactic(auto)]

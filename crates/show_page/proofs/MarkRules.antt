@@ -57,16 +57,23 @@ row_rule_is_style page line low less =
     (style_append (front ++ name ++ mid) name
     (style_append (front ++ name) mid (style_append front name refl is) refl) is) refl
 
+-- a style sheet behind which a piece of one and a number stand
+numbered : (one piece : List ℕ) (number : ℕ) → number < 2 ^ 64 → IsStyle one → IsStyle piece → IsStyle (one ++ piece ++ decimal number)
+numbered one piece number low first second =
+    style_append (one ++ piece) (decimal number) (style_append one piece first second) (number_is_style number low)
+
 wheel_rule_is_style : (wheel : ℕ) → wheel < 2 ^ 64 → IsStyle (wheel_rule wheel)
 unfolding wheel_rule
 wheel_rule_is_style wheel low =
-    let front = codes "body:has(>aside>[id$=w" in
-    let mid = codes "]:target) .sheets [href$=w" in
-    let number = decimal wheel in
-    let is = number_is_style wheel low in
-    style_append (front ++ number ++ mid ++ number) (codes "]{background:var(--mark)}\n")
-    (style_append (front ++ number ++ mid) number
-    (style_append (front ++ number) mid (style_append front number refl is) refl) is) refl
+    let target = codes "body:has(>aside>[id$=w" ++ decimal wheel in
+    let sheets = codes "]:target) .sheets{--w" in
+    let wheels = codes ":100%}.sheets [href$=w" in
+    let marks = codes "]{background:linear-gradient(var(--mark),var(--mark)) 0/var(--w" in
+    let is_target = style_append (codes "body:has(>aside>[id$=w") (decimal wheel) refl (number_is_style wheel low) in
+    let is_sheets = numbered target sheets wheel low is_target refl in
+    let is_wheels = numbered (target ++ sheets ++ decimal wheel) wheels wheel low is_sheets refl in
+    style_append (target ++ sheets ++ decimal wheel ++ wheels ++ decimal wheel ++ marks ++ decimal wheel) (codes ",0) 100%}\n")
+    (numbered (target ++ sheets ++ decimal wheel ++ wheels ++ decimal wheel) marks wheel low is_wheels refl) refl
 
 -- what is gained with them
 pub row_rule_gained : {A E : Type 0} (result : Result A E) (old new : List ℕ) (page line : ℕ) → page < 2 ^ 64 → line < 2 ^ 64

@@ -1,5 +1,6 @@
 -- Rules of the style sheet that mark a printed character while its explanation is shown: one for each line gives its row a mark, one for each
--- wheel puts the mark of its row behind the character of the wheel.
+-- wheel gives the sheets a width of the wheel, by which the mark of its row stands behind the character of the wheel. (A browser asks for the
+-- sheets once, where it would ask for each character.)
 use Rattle.std.specs.Prelude.{ℕ, List, ◌++◌, codes, decimal}
 use Rattle.page_sections.specs.ReportSheets.Sheets.{row_name}
 
@@ -9,4 +10,5 @@ row_rule page line =
 
 unfoldable pub wheel_rule : (wheel : ℕ) → List ℕ
 wheel_rule wheel =
-    codes "body:has(>aside>[id$=w" ++ decimal wheel ++ codes "]:target) .sheets [href$=w" ++ decimal wheel ++ codes "]{background:var(--mark)}\n"
+    codes "body:has(>aside>[id$=w" ++ decimal wheel ++ codes "]:target) .sheets{--w" ++ decimal wheel ++ codes ":100%}.sheets [href$=w"
+    ++ decimal wheel ++ codes "]{background:linear-gradient(var(--mark),var(--mark)) 0/var(--w" ++ decimal wheel ++ codes ",0) 100%}\n"

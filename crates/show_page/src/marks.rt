@@ -23,7 +23,6 @@ fn push_row_rule(text: &mut String, page: u64, line: u32) -> Result<(), AllocErr
     text.push_str("{--mark:var(--pick)}\n")
 }
 
-#[tactic(auto, unfolding(crate::specs::Marks::wheel_rule))]
 // The rule of a wheel.
 fn push_wheel_rule(text: &mut String, wheel: usize) -> Result<(), AllocError>
     ensures { OnOk result (string_bytes text.new ≡ string_bytes text.old ++ wheel_rule wheel) }
@@ -32,10 +31,14 @@ fn push_wheel_rule(text: &mut String, wheel: usize) -> Result<(), AllocError>
         text,
         "body:has(>aside>[id$=w",
         wheel,
-        "]:target) .sheets [href$=w",
+        "]:target) .sheets{--w",
     )?;
     push_number(text, wheel)?;
-    text.push_str("]{background:var(--mark)}\n")
+    text.push_str(":100%}.sheets [href$=w")?;
+    push_number(text, wheel)?;
+    text.push_str("]{background:linear-gradient(var(--mark),var(--mark)) 0/var(--w")?;
+    push_number(text, wheel)?;
+    text.push_str(",0) 100%}\n")
 }
 
 #[tactic(auto, using(crate::proofs::MarkRules::row_rule_gained))]
