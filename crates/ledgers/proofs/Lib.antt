@@ -6,6 +6,9 @@ pub mod Whole
 mod Coupled
 pub mod Summaries
 pub mod Running
+pub mod Loops
 pub mod Keeping
+mod KeptLedgers
+mod SoughtLines
 mod InCycle
 pub mod LedgerText

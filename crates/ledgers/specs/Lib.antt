@@ -4,6 +4,8 @@ pub mod Ledgers
 pub mod Coupled
 pub mod Summaries
 pub mod Running
+pub mod SoughtLines
+pub mod KeptLedgers
 pub mod Cycles
 pub mod InCycle
 pub mod LedgerText

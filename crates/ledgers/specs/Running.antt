@@ -1,5 +1,5 @@
 -- The cycles of a run by how many are over before them, and what is kept of the ledger of an account there.
-use Rattle.std.specs.Prelude.{◌≡◌, ℕ, ◌≤◌, List, [], ◌∷◌, All}
+use Rattle.std.specs.Prelude.{◌≡◌, ℕ, ◌≤◌, List, [], ◌∷◌, All, Option, Some, None}
 use Rattle.explanations.specs.PlacedInRun.{PrintsNoneAt}
 use Rattle.machine.specs.Cycles.{CycleRun, line_of}
 use Rattle.machine.specs.Kept.{IsElsewhere}
@@ -15,6 +15,10 @@ use Rattle.ledgers.specs.Summaries.{Summary, summary_of}
 use Rattle.ledgers.specs.declared.account.Account.{Account}
 use Rattle.ledgers.specs.declared.entry.Entry.{Entry}
 use Rattle.ledgers.specs.declared.found.FoundCycle.{FoundCycle}
+use Rattle.ledgers.specs.declared.found.LinePlace.{LinePlace}
+use Rattle.ledgers.specs.declared.found.SoughtLine.{SoughtLine}
+use Rattle.ledgers.specs.declared.kept.AskedLedger.{AskedLedger}
+use Rattle.ledgers.specs.declared.kept.KeptLedger.{KeptLedger}
 
 -- A run has a cycle behind so many others.
 pub record HasCycle (wiring : Wiring) (deck : List (List ℕ)) (passed : ℕ) : Type 0 where
@@ -32,6 +36,24 @@ pub record PlacesLine (wiring : Wiring) (deck : List (List ℕ)) (found : FoundC
   pub card : found.card ≡ card_in has.cycle has.along.card
   pub placed : line_of (ended has.behind has.cycle) ≡ found.line ∷ []
 
+-- A cycle of a run placed a line at this place.
+pub record PlacesAt (wiring : Wiring) (deck : List (List ℕ)) (at : LinePlace) (found : FoundCycle) : Type 0 where
+  pub places : PlacesLine wiring deck found
+  pub at_page : found.line.page ≡ at.page
+  pub at_line : found.line.line ≡ at.line
+
+-- What is found at a place: the cycle that placed a line there, or that no cycle of the run does.
+abbrev pub IsFoundAt : Wiring → List (List ℕ) → LinePlace → Option FoundCycle → Type 0
+IsFoundAt wiring deck at (Some found) = PlacesAt wiring deck at found
+IsFoundAt wiring deck at None = PrintsNoneAt wiring deck at.page at.line
+
+abbrev pub IsSought : Wiring → List (List ℕ) → SoughtLine → Type 0
+IsSought wiring deck sought = IsFoundAt wiring deck sought.at sought.found
+
+-- the place at which a line is sought
+abbrev pub sought_at : SoughtLine → LinePlace
+sought_at sought = sought.at
+
 -- What is kept of the ledger of an account is that of a run of which so many cycles are over.
 pub record IsKeptLedger (wiring : Wiring) (deck : List (List ℕ)) (passed ends : ℕ) (account : Account) (told : Summary) : Type 0 where
   pub along : Along
@@ -39,6 +61,14 @@ pub record IsKeptLedger (wiring : Wiring) (deck : List (List ℕ)) (passed ends 
   pub entries : List Entry
   pub is : IsLedger wiring deck account along entries
   pub told_is : told ≡ summary_of account ends entries
+
+-- what was asked for
+abbrev pub asked_of : KeptLedger → AskedLedger
+asked_of kept = kept.asked
+
+-- a ledger is the one that was asked for
+abbrev pub IsKept : Wiring → List (List ℕ) → (ends : ℕ) → KeptLedger → Type 0
+IsKept wiring deck ends kept = IsKeptLedger wiring deck kept.asked.passed ends kept.asked.account kept.ledger
 
 -- Helper words of the code: a stepped machine as it stands in a run. So many cards were read, so many cycles are over, and these cards are
 -- in the hopper.

@@ -1,5 +1,5 @@
 -- The figure that stands on a wheel of a line: its characters up to a blank on either side.
-use Rattle.std.specs.Prelude.{ℕ, zero, suc, ◌+◌, ◌-◌, nat_eq, Bool, not, List, drop, slice_index_or, take, if◌then◌else◌}
+use Rattle.std.specs.Prelude.{ℕ, zero, suc, ◌-◌, nat_eq, Bool, not, List, drop, slice_index_or, take, if◌then◌else◌}
 use Rattle.std.specs.List.{prefix_len}
 
 -- whether a character is a blank

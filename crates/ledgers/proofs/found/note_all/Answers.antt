@@ -1,0 +1,10 @@
+use Rattle.std.proofs.Common.{◌∙◌, ap, set, None}
+use Rattle.ledgers.specs.SoughtLines.{noted}
+use Rattle.ledgers.proofs.Loops.{over-more}
+use Rattle.ledgers.proofs.found.note_all.Goals as goal
+
+pub loop-line-preserved : goal.loop-line-preserved
+loop-line-preserved c =
+    ap (set c.loop-line.sought c.loop-line.line-index) c.note.ensures
+    ∙ over-more (noted c.args.one.now) c.args.sought.now c.loop-line.sought c.loop-line.line-index
+    (record { at = record { page = 0; line = 0 }; found = None }) c.loop-line-test.true c.loop-line.auto.sought c.loop-line.invariant

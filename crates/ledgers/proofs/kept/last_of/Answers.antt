@@ -1,0 +1,17 @@
+use Rattle.std.proofs.Common.{subst}
+use Rattle.std.specs.Prelude.{◌≤◌, All, List}
+use Rattle.std.proofs.lemmas.List.{take_all}
+use Rattle.ledgers.specs.declared.kept.AskedLedger.{AskedLedger}
+use Rattle.ledgers.proofs.KeptLedgers.{last-more, max-left, max-right}
+use Rattle.ledgers.proofs.kept.last_of.Goals as goal
+
+pub loop-one-preserved : goal.loop-one-preserved
+loop-one-preserved c =
+    last-more c.args.asked.now c.loop-one.one-index c.loop-one.last c.max-last.result _ c.loop-one-test.true c.loop-one.invariant
+    (max-left c.loop-one.last _ c.max-last.result c.max-last.ensures) (max-right c.loop-one.last _ c.max-last.result c.max-last.ensures)
+
+pub returns : goal.returns
+returns c =
+    let less = c.loop-one-test.false in
+    subst (λ (l : List AskedLedger). All (λ (one : AskedLedger). one.passed ≤ c.loop-one.last) l)
+    (take_all c.loop-one.one-index c.args.asked.now less) c.loop-one.invariant
