@@ -3,12 +3,12 @@
 use Rattle.std.specs.Prelude.{ℕ, ◌==◌, Bool, List, [], ◌++◌, codes, length, nat_le, if◌then◌else◌}
 use Rattle.std.specs.List.{flat_map}
 use Rattle.card_code.specs.Deck.{line_at}
-use Rattle.card_code.specs.Lines.{lines_of}
 use Rattle.line_marks.specs.Entries.{below, head_line, shown}
+use Rattle.line_marks.specs.FirstLines.{first_line, is_end}
 use Rattle.line_marks.specs.Spans.{span_of}
 use Rattle.setups.specs.declared.fault.SetupFault.{SetupFault}
 use Rattle.tokens.specs.FrameReading.{is_title_line}
-use Rattle.wiring_slips.specs.Meetings.{first_met}
+use Rattle.wiring_slips.specs.Meetings.{meets}
 use Rattle.wiring_slips.specs.declared.meeting.Meeting.TheVariants as meeting
 use Rattle.wiring_text.specs.declared.fault.WiringFault.{WiringFault}
 use Rattle.wiring_text.specs.declared.fault.WiringFault.TheVariants as wiring
@@ -50,12 +50,12 @@ first_entry source =
 unfoldable pub misplaced_entry : List ℕ → List ℕ → ℕ → List ℕ
 misplaced_entry source good number =
     head_line number 73 (codes "NotALine")
-    ++ misplaced_told (is_second_title (line_at source 1)) (first_met meeting.End [] 1 (lines_of good)) number (line_at source number)
+    ++ misplaced_told (is_second_title (line_at source 1)) (first_line is_end good) number (line_at source number)
 
 -- what is told of a line that stood before
 unfoldable pub twice_told : List ℕ → List ℕ → List ℕ
 twice_told good line =
-    shown line (span_of 1 line) ++ below (twice_wrong (first_met meeting.Same line 1 (lines_of good)))
+    shown line (span_of 1 line) ++ below (twice_wrong (first_line (meets meeting.Same line) good))
     ++ codes "  take one of them out, or correct the one that was to be another\n"
 
 unfoldable pub twice_entry : List ℕ → List ℕ → ℕ → List ℕ

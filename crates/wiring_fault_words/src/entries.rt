@@ -9,7 +9,7 @@ use crate::unfit::{
     form_place, unfit_name, unfit_place, write_form, write_twice, write_unfit_cure,
     write_unfit_wrong,
 };
-use line_marks::{line_numbered, token_span, write_below, write_head, write_shown};
+use line_marks::{end_line, line_numbered, token_span, write_below, write_head, write_shown};
 use setups::SetupFault;
 use std::io;
 use std::io::Write;
@@ -110,7 +110,7 @@ fn write_misplaced_entry<W: Write>(
     ensures { OnOk result (Appends (W.contents out.old) (W.contents out.new) (law.misplaced_entry source.now good.now number)) }
 {
     let is_second = is_second_title(line_numbered(source, 1));
-    let end = first_met(Meeting::End, b"", good);
+    let end = end_line(good);
     let line = line_numbered(source, number);
     write_head(out, number, 73, "NotALine")?;
     write_misplaced(out, is_second, end, number, line)

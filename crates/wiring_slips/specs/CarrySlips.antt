@@ -1,11 +1,11 @@
 -- Why the panel can't have the carry that a line wires.
 use Rattle.std.specs.Prelude.{ℕ, List, Option, Some, None, codes, if◌then◌else◌}
 use Rattle.std.specs.Str.{bytes_eq}
-use Rattle.card_code.specs.Lines.{lines_of}
 use Rattle.hubs.specs.Carries.{may_carry}
+use Rattle.line_marks.specs.FirstLines.{first_line}
 use Rattle.line_marks.specs.Spans.{word}
 use Rattle.wiring_slips.specs.HubWords.{letters_in}
-use Rattle.wiring_slips.specs.Meetings.{carry_of, first_met}
+use Rattle.wiring_slips.specs.Meetings.{carry_of, meets}
 use Rattle.wiring_slips.specs.declared.carry.CarrySlip.{CarrySlip}
 use Rattle.wiring_slips.specs.declared.carry.CarrySlip.TheVariants as carry
 use Rattle.wiring_slips.specs.declared.meeting.CarryWire.{CarryWire}
@@ -25,4 +25,4 @@ wire_of_slip None text met = ends_slip text
 
 -- why it can't, beside the lines of a text
 unfoldable pub carry_slip : List ℕ → List ℕ → CarrySlip
-carry_slip text good = wire_of_slip (carry_of text) text (first_met meeting.Carry text 1 (lines_of good))
+carry_slip text good = wire_of_slip (carry_of text) text (first_line (meets meeting.Carry text) good)

@@ -1,11 +1,11 @@
--- Lines that another line meets: END that stands before it, a line that says the same, and one whose carry doesn't agree with its own.
-use Rattle.std.specs.Prelude.{◌≡◌, ℕ, ◌-◌, ◌&&◌, Bool, false, not, List, [], ◌∷◌, Option, Some, None, suc, codes, if◌then◌else◌}
+-- Lines that another line meets: a line that says the same, and one whose carry doesn't agree with its own.
+use Rattle.std.specs.Prelude.{◌≡◌, ℕ, ◌-◌, ◌&&◌, Bool, false, not, List, [], ◌∷◌, Option, Some, None, codes, if◌then◌else◌}
 use Rattle.std.specs.Str.{bytes_eq}
 use Rattle.hubs.specs.Carries.{do_carries_agree}
 use Rattle.hubs.specs.declared.hub.Group.{Group}
 use Rattle.line_marks.specs.Spans.{word}
 use Rattle.wiring_slips.specs.HubWords.{letters_in, tail_of}
-use Rattle.wiring_slips.specs.LineSlips.{begins_with, lacks}
+use Rattle.wiring_slips.specs.LineSlips.{begins_with}
 use Rattle.wiring_slips.specs.declared.meeting.CarryWire.{CarryWire}
 use Rattle.wiring_slips.specs.declared.meeting.Meeting.{Meeting}
 use Rattle.wiring_slips.specs.declared.meeting.Meeting.TheVariants as meeting
@@ -56,17 +56,7 @@ unfoldable pub says_same : List ℕ → List ℕ → Bool
 says_same one other =
     bytes_eq (word 0 one) (word 0 other) && (bytes_eq (word 1 one) (word 1 other) && bytes_eq (word 2 one) (word 2 other))
 
--- whether END stands alone on a line
-abbrev pub is_end : List ℕ → Bool
-is_end text = begins_with text (codes "END") && lacks 1 text
-
 -- whether a line meets another one
 abbrev pub meets : Meeting → List ℕ → List ℕ → Bool
-meets meeting.End text other = is_end other
 meets meeting.Same text other = says_same text other
 meets meeting.Carry text other = are_apart (carry_of text) (carry_of other)
-
--- the number of the first of some lines that a line meets, the first of them having this number
-abbrev pub first_met : Meeting → List ℕ → ℕ → List (List ℕ) → Option ℕ
-first_met how text number [] = None
-first_met how text number (line ∷ lines) = if meets how text line then Some number else first_met how text (suc number) lines

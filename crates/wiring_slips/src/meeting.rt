@@ -1,12 +1,12 @@
 //! Lines that another line meets.
 
 ghost use Rattle.std.specs.Prelude.{◌≡◌, option_map};
-ghost use Rattle.card_code.specs.Lines.{lines_of};
 ghost use Rattle.hubs.specs.Carries.{do_carries_agree};
+ghost use Rattle.line_marks.specs.FirstLines.{first_line};
 ghost use Rattle.wiring_slips.specs.Meetings as law;
 
 use crate::hub::{letters_in, tail_of};
-use crate::line::{begins_with, lacks};
+use crate::line::begins_with;
 use card_code::next_line;
 use hubs::{Group, is_one_group};
 use line_marks::word;
@@ -15,8 +15,6 @@ use tokens::is;
 /// How a line meets another one.
 #[derive(Clone, Copy, Debug, PartialEq, Eq)]
 pub enum Meeting {
-    /// The other one is END.
-    End,
     /// It says the same.
     Same,
     /// It wires a carry that can't be there together with that of the line.
@@ -144,7 +142,6 @@ fn meets(meeting: Meeting, line: &[u8], other: &[u8]) -> bool
     ensures { result ≡ law.meets meeting line.now other.now }
 {
     match meeting {
-        Meeting::End => begins_with(other, b"END") && lacks(other, 1),
         Meeting::Same => says_same(line, other),
         Meeting::Carry => are_apart(carry_of(line), carry_of(other)),
     }
@@ -152,7 +149,7 @@ fn meets(meeting: Meeting, line: &[u8], other: &[u8]) -> bool
 
 /// The number of the first line of a text that a line meets, from 1.
 pub fn first_met(meeting: Meeting, line: &[u8], text: &[u8]) -> Option<u64>
-    ensures { result ≡ law.first_met meeting line.now 1 (lines_of text.now) }
+    ensures { result ≡ first_line (law.meets meeting line.now) text.now }
 {
     let mut passed = 0_usize;
     let mut rest = text;

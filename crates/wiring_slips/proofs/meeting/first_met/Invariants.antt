@@ -1,9 +1,10 @@
 use Rattle.std.proofs.Common.{length}
-use Rattle.wiring_slips.proofs.Passing.{Passed}
+use Rattle.line_marks.proofs.FirstLines.{Passed}
+use Rattle.wiring_slips.specs.Meetings.{meets}
 use Rattle.wiring_slips.proofs.meeting.first_met.Given as goal
 
 abbrev pub invariant-loop-other : goal.invariant-loop-other
-invariant-loop-other l = Passed l.meeting l.line l.passed l.rest l.text
+invariant-loop-other l = Passed (meets l.meeting l.line) l.passed l.rest l.text
 
 abbrev pub decreases-loop-other : goal.decreases-loop-other
 decreases-loop-other l = length l.rest
