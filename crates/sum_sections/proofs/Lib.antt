@@ -1,3 +1,5 @@
 mod Found
 mod Framed
 mod Taken
+mod Wanted
+mod FoundSums

@@ -1,4 +1,5 @@
 pub mod Sums
+pub mod WantedSums
 pub mod Targets
 pub mod Labels
 pub mod Rows

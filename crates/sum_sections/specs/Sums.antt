@@ -1,6 +1,6 @@
 -- The sums behind the figures of a page: for each counter group that is printed on a line the ledger of its number, as the cycle found it
 -- that printed the line.
-use Rattle.std.specs.Prelude.{◌≡◌, ℕ, List, [], ◌∷◌, ◌++◌, Option, Some, None, false, map, true}
+use Rattle.std.specs.Prelude.{◌≡◌, ℕ, List, [], ◌∷◌, ◌++◌, Some, None, false, map, true}
 use Rattle.explanations.specs.Explanations.{IsExplanation}
 use Rattle.explanations.specs.declared.explanation.Explanation.{Explanation}
 use Rattle.ledgers.specs.LedgerText.Names.{account_text}

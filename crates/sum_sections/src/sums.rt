@@ -1,20 +1,24 @@
 //! The sums behind the figures of a page.
 
-ghost use Rattle.std.specs.Prelude.{◌≡◌, ◌≤◌, ◌<◌, ◌+◌, All, IfOk, OnOk, length, map};
+ghost use Rattle.std.specs.Prelude.{◌≡◌, ◌≤◌, ◌<◌, Some, None, All, IfOk, OnOk, length, map};
+ghost use Rattle.std.specs.List.{AllZip};
 ghost use Rattle.card_code.specs.MostCards.{most_cards};
 ghost use Rattle.ledgers.specs.LedgerText.Names.{account_text};
 ghost use Rattle.ledgers.specs.Accounts.{IsAccount};
-ghost use Rattle.ledgers.specs.Running.{PlacesLine};
+ghost use Rattle.ledgers.specs.Running.{IsKept};
 ghost use Rattle.origins.specs.Levels.{called_by};
-ghost use Rattle.page_links.specs.SumPlaces.Places.{has_sum};
 ghost use Rattle.wheel_ledgers.specs.Totals.{AreAccounts};
-ghost use Rattle.sum_sections.specs.Sums.{AreSums, IsExplained, IsSumOf, TakesSum, place_of};
+ghost use Rattle.sum_sections.specs.Sums.{AreSums, IsExplained, place_of};
+ghost use Rattle.sum_sections.specs.WantedSums.{AreWanted, IsFoundSum, IsSumFor, IsWanted, WantsSum, asked_for, line_place, wanted_at, wanted_of};
 
 use card_code::Card;
 use explanations::Explanation;
 use explanations::laws::placed_lines_are_printed;
 use ledgers::ledger_text::{positions_of, write_account};
-use ledgers::{Account, FoundCycle, Ledger, find_cycle, ledger_before};
+use ledgers::{
+    Account, AskedLedger, FoundCycle, KeptLedger, Ledger, LinePlace, SoughtLine, find_cycles,
+    ledgers_before,
+};
 use origins::called_by;
 use page_links::sum_places::{SumPlace, has_sum, sum_at};
 use page_sections::wheel_sections::ToldWheel;
@@ -44,6 +48,24 @@ pub struct PageSum {
     pub why: Vec<u8>,
 }
 
+// A sum that is wanted for a page, before its run.
+#[derive(Clone, Copy)]
+struct WantedSum {
+    // Where the figure stands.
+    at: SumPlace,
+    // The place of the counter group that it is printed of.
+    place: usize,
+}
+
+// A wanted sum, and the cycle that printed its figure.
+#[derive(Clone, Copy)]
+struct FoundSum {
+    // The sum.
+    wanted: WantedSum,
+    // The cycle.
+    found: FoundCycle,
+}
+
 // The names of the counter groups of an account.
 fn groups_of(alloc: Global, account: Account) -> Result<Vec<u8>, AllocError>
     requires { IsAccount account }
@@ -71,58 +93,6 @@ fn why_of(
     }
 }
 
-// The cycle that printed the line of a wheel that is explained.
-fn cycle_of(
-    alloc: Global,
-    setup: &Setup,
-    cards: &[Card],
-    why: &Explanation,
-) -> Result<FoundCycle, AllocError>
-    requires few { length cards.now ≤ most_cards }
-    requires explained { IsExplained setup.now cards.now why.now }
-    ensures places { IfOk result (PlacesLine setup.now cards.now) }
-    ensures page { IfOk result (λ found. found.line.page ≡ why.now.line.page) }
-    ensures line { IfOk result (λ found. found.line.line ≡ why.now.line.line) }
-{
-    placed_lines_are_printed();
-    match find_cycle(alloc, setup, cards, why.line.page, why.line.line)? {
-        Some(found) => Ok(found),
-        None => unreachable!(),
-    }
-}
-
-// The sum behind a wheel that is explained and printed of the group of a place.
-fn sum_of(
-    alloc: Global,
-    setup: &Setup,
-    totals: &[TitledAccount],
-    cards: &[Card],
-    why: &Explanation,
-    place: usize,
-) -> Result<PageSum, AllocError>
-    requires few { length cards.now ≤ most_cards }
-    requires accounts { AreAccounts totals.now }
-    requires explained { IsExplained setup.now cards.now why.now }
-    requires place { place < 32 }
-    ensures { IfOk result (IsSumOf setup.now totals.now cards.now why.now place) }
-{
-    let found = cycle_of(alloc, setup, cards, why)?;
-    let total = find_total(totals, place);
-    let account = account_told(&total, place);
-    let ledger = ledger_before(alloc, setup, cards, found.passed, account, ENDS)?;
-    let groups = groups_of(alloc, account)?;
-    let ran = why_of(alloc, setup, cards, found)?;
-    Ok(PageSum {
-        at: sum_at(totals, why, place),
-        total,
-        found,
-        ledger,
-        positions: positions_of(account),
-        groups,
-        why: ran,
-    })
-}
-
 // Where a sum stands.
 fn place_of(sum: &PageSum) -> SumPlace
     ensures { result ≡ place_of sum.now }
@@ -142,35 +112,204 @@ pub fn sum_places(alloc: Global, sums: &[PageSum]) -> Result<Vec<SumPlace>, Allo
     Ok(places)
 }
 
-// Takes the sum behind a wheel, if it is printed of a counter group and the sum isn't there yet.
-fn take_sum(
+// Where a wanted sum stands.
+fn wanted_at(wanted: &WantedSum) -> SumPlace
+    ensures { result ≡ wanted_at wanted.now }
+{
+    wanted.at
+}
+
+// Where some wanted sums stand.
+fn wanted_places(alloc: Global, wanted: &[WantedSum]) -> Result<Vec<SumPlace>, AllocError>
+    ensures { IfOk result (λ places. places.items ≡ map wanted_at wanted.now) }
+{
+    let mut places = Vec::new(alloc);
+    for one in wanted {
+        places.push(wanted_at(one))?;
+    }
+    Ok(places)
+}
+
+// Wants the sum behind a wheel, if it is printed of a counter group and the sum isn't wanted yet.
+fn want_sum(
     alloc: Global,
-    sums: &mut Vec<PageSum>,
-    setup: &Setup,
+    wanted: &mut Vec<WantedSum>,
     totals: &[TitledAccount],
-    cards: &[Card],
     why: &Explanation,
 ) -> Result<(), AllocError>
-    requires few { length cards.now ≤ most_cards }
-    requires accounts { AreAccounts totals.now }
-    requires explained { IsExplained setup.now cards.now why.now }
-    ensures { OnOk result (TakesSum setup.now totals.now cards.now why.now sums.old.items sums.new.items) }
+    requires { AreAccounts totals.now }
+    ensures { OnOk result (WantsSum totals.now why.now wanted.old.items wanted.new.items) }
 {
+    // This law does nothing. It saves the case of a line that no cycle placed.
+    placed_lines_are_printed();
     let Some(place) = place_printed(why) else {
         return Ok(());
     };
-    let places = sum_places(alloc, sums)?;
-    if has_sum(&places, sum_at(totals, why, place)) {
+    let at = sum_at(totals, why, place);
+    let places = wanted_places(alloc, wanted)?;
+    if has_sum(&places, at) {
         return Ok(());
     }
-    let sum = sum_of(alloc, setup, totals, cards, why, place)?;
-    sums.push(sum)?;
+    wanted.push(WantedSum { at, place })?;
     Ok(())
 }
 
-#[tactic(auto, using(crate::proofs::Taken::sums_none, crate::proofs::Taken::sums_more))]
+// The sums that are wanted for some wheels, each once.
+fn wanted_sums(
+    alloc: Global,
+    totals: &[TitledAccount],
+    told: &[ToldWheel],
+) -> Result<Vec<WantedSum>, AllocError>
+    requires { AreAccounts totals.now }
+    ensures { IfOk result (λ wanted. AreWanted totals.now told.now wanted.items) }
+{
+    let mut wanted = Vec::new(alloc);
+    for one in told {
+        want_sum(alloc, &mut wanted, totals, &one.why)?;
+    }
+    Ok(wanted)
+}
+
+// Where the line of a wanted sum stands.
+fn line_place(wanted: &WantedSum) -> LinePlace
+    ensures { result ≡ line_place wanted.now }
+{
+    LinePlace {
+        page: wanted.at.page,
+        line: wanted.at.line,
+    }
+}
+
+// Where the lines of some wanted sums stand.
+fn line_places(alloc: Global, wanted: &[WantedSum]) -> Result<Vec<LinePlace>, AllocError>
+    ensures { IfOk result (λ places. places.items ≡ map line_place wanted.now) }
+{
+    let mut places = Vec::new(alloc);
+    for one in wanted {
+        places.push(line_place(one))?;
+    }
+    Ok(places)
+}
+
+// A wanted sum whose line is found.
+fn found_sum(wanted: WantedSum, sought: &SoughtLine) -> FoundSum
+    requires { sought.now.found ≡ None → ⊥ }
+    ensures wanted { result.wanted ≡ wanted }
+    ensures found { sought.now.found ≡ Some result.found }
+{
+    match sought.found {
+        Some(found) => FoundSum { wanted, found },
+        None => unreachable!(),
+    }
+}
+
+// The wanted sums with the cycles that printed their figures, by one run.
+fn found_sums(
+    alloc: Global,
+    setup: &Setup,
+    cards: &[Card],
+    wanted: &[WantedSum],
+) -> Result<Vec<FoundSum>, AllocError>
+    requires few { length cards.now ≤ most_cards }
+    requires wanted { All (IsWanted setup.now cards.now) wanted.now }
+    ensures wanted { IfOk result (λ found. map wanted_of found.items ≡ wanted.now) }
+    ensures found { IfOk result (λ found. All (IsFoundSum setup.now cards.now) found.items) }
+{
+    let places = line_places(alloc, wanted)?;
+    let sought = find_cycles(alloc, setup, cards, &places)?;
+    let mut found = Vec::new(alloc);
+    for k in 0..wanted.len() {
+        found.push(found_sum(wanted[k], &sought[k]))?;
+    }
+    Ok(found)
+}
+
+// The ledger that a sum asks for.
+fn asked_for(totals: &[TitledAccount], one: &FoundSum) -> AskedLedger
+    requires { AreAccounts totals.now }
+    ensures { result ≡ asked_for totals.now one.now }
+{
+    let total = find_total(totals, one.wanted.place);
+    AskedLedger {
+        account: account_told(&total, one.wanted.place),
+        passed: one.found.passed,
+    }
+}
+
+// The ledgers that some sums ask for.
+fn asked_ledgers(
+    alloc: Global,
+    totals: &[TitledAccount],
+    found: &[FoundSum],
+) -> Result<Vec<AskedLedger>, AllocError>
+    requires { AreAccounts totals.now }
+    ensures { IfOk result (λ asked. asked.items ≡ map (asked_for totals.now) found.now) }
+{
+    let mut asked = Vec::new(alloc);
+    for one in found {
+        asked.push(asked_for(totals, one))?;
+    }
+    Ok(asked)
+}
+
+// A sum, with its ledger.
+fn sum_of(
+    alloc: Global,
+    setup: &Setup,
+    totals: &[TitledAccount],
+    cards: &[Card],
+    one: &FoundSum,
+    kept: KeptLedger,
+) -> Result<PageSum, AllocError>
+    requires accounts { AreAccounts totals.now }
+    requires place { one.now.wanted.place < 32 }
+    requires found { IsFoundSum setup.now cards.now one.now }
+    requires asked { kept.asked ≡ asked_for totals.now one.now }
+    requires kept { IsKept setup.now cards.now 100 kept }
+    ensures { IfOk result (IsSumFor setup.now totals.now cards.now one.now.wanted) }
+{
+    let total = find_total(totals, one.wanted.place);
+    let KeptLedger { asked, ledger } = kept;
+    let groups = groups_of(alloc, asked.account)?;
+    let ran = why_of(alloc, setup, cards, one.found)?;
+    Ok(PageSum {
+        at: one.wanted.at,
+        total,
+        found: one.found,
+        ledger,
+        positions: positions_of(asked.account),
+        groups,
+        why: ran,
+    })
+}
+
+// The sums whose cycles are found, with their ledgers, by one run.
+fn sums_of(
+    alloc: Global,
+    setup: &Setup,
+    totals: &[TitledAccount],
+    cards: &[Card],
+    found: &[FoundSum],
+) -> Result<Vec<PageSum>, AllocError>
+    requires few { length cards.now ≤ most_cards }
+    requires accounts { AreAccounts totals.now }
+    requires places { All (λ one. one.wanted.place < 32) found.now }
+    requires found { All (IsFoundSum setup.now cards.now) found.now }
+    ensures { IfOk result (λ sums. AllZip (IsSumFor setup.now totals.now cards.now) (map wanted_of found.now) sums.items) }
+{
+    let asked = asked_ledgers(alloc, totals, found)?;
+    let mut kept = ledgers_before(alloc, setup, cards, &asked, ENDS)?;
+    let mut sums = Vec::new(alloc);
+    for one in found {
+        // The ledgers come in the order of the sums.
+        let sum = sum_of(alloc, setup, totals, cards, one, kept.remove(0))?;
+        sums.push(sum)?;
+    }
+    Ok(sums)
+}
+
 /// The sums behind the wheels that are told of, each once, in the order in which a wheel of each is met first; of a deck of at most 999,999
-/// cards. For each the run is gone through up to its line. Fails only if no memory is left.
+/// cards. The deck is run twice, up to the last of their lines. Fails only if no memory is left.
 pub fn page_sums(
     alloc: Global,
     setup: &Setup,
@@ -183,9 +322,8 @@ pub fn page_sums(
     requires explained { All (λ one. IsExplained setup.now cards.now one.why) told.now }
     ensures { IfOk result (λ sums. AreSums setup.now totals.now cards.now told.now sums.items) }
 {
-    let mut sums = Vec::new(alloc);
-    for one in told {
-        take_sum(alloc, &mut sums, setup, totals, cards, &one.why)?;
-    }
+    let wanted = wanted_sums(alloc, totals, told)?;
+    let found = found_sums(alloc, setup, cards, &wanted)?;
+    let sums = sums_of(alloc, setup, totals, cards, &found)?;
     Ok(sums)
 }

@@ -1,4 +1,4 @@
-use Rattle.std.proofs.Common.{◌≡◌, ◌∙◌, ap, ℕ, List, ◌++◌, codes}
+use Rattle.std.proofs.Common.{◌≡◌, ◌∙◌, ap, List, ◌++◌, codes}
 use Rattle.std.specs.List.{flat_map}
 use Rattle.std.specs.String.{string_bytes}
 use Rattle.ledgers.specs.declared.entry.Entry.{Entry}

@@ -1,9 +1,31 @@
-use Rattle.std.proofs.Common.{subst, sym}
-use Rattle.page_sections.specs.declared.wheel_sections.told.ToldWheel.{ToldWheel}
-use Rattle.sum_sections.specs.Sums.{IsExplained}
+use Rattle.std.proofs.Common.{◌<◌, ◌∙◌, sym, subst, List}
+use Rattle.std.specs.Prelude.{All}
+use Rattle.sum_sections.specs.WantedSums.{IsFoundSum, IsWanted}
+use Rattle.sum_sections.specs.declared.sums.FoundSum.{FoundSum}
+use Rattle.sum_sections.specs.declared.sums.WantedSum.{WantedSum}
+use Rattle.sum_sections.proofs.FoundSums.{places-low, sums-told}
 use Rattle.sum_sections.proofs.sums.page_sums.Goals as goal
 
-pub take_sum-requires-clause-explained : goal.take_sum-requires-clause-explained
-take_sum-requires-clause-explained c =
-    subst (λ (t : ToldWheel). IsExplained c.args.setup.now c.args.cards.now t.why) (sym c.one-item.is)
-    (c.requires.explained c.loop-one.one-index c.one-item.result c.loop-one-test.true)
+pub found_sums-requires-clause-wanted : goal.found_sums-requires-clause-wanted
+found_sums-requires-clause-wanted c =
+    subst (λ (l : List WantedSum). All (IsWanted c.args.setup.now c.args.cards.now) l) (sym c.deref.ensures.value)
+    (c.in_ok-wanted.ensures c.args.setup.now c.args.cards.now c.requires.explained).each
+
+pub sums_of-requires-clause-places : goal.sums_of-requires-clause-places
+sums_of-requires-clause-places c =
+    subst (λ (l : List FoundSum). All (λ (one : FoundSum). one.wanted.place < 32) l) (sym c.deref-2.ensures.value)
+    (places-low c.args.setup.now c.args.cards.now c.in_ok-wanted.wanted.items c.in_ok-found.found.items
+    (c.in_ok-found.ensures.wanted ∙ c.deref.ensures.value)
+    (c.in_ok-wanted.ensures c.args.setup.now c.args.cards.now c.requires.explained).each)
+
+pub sums_of-requires-clause-found : goal.sums_of-requires-clause-found
+sums_of-requires-clause-found c =
+    subst (λ (l : List FoundSum). All (IsFoundSum c.args.setup.now c.args.cards.now) l) (sym c.deref-2.ensures.value)
+    c.in_ok-found.ensures.found
+
+pub returns : goal.returns
+returns c =
+    sums-told c.args.setup.now c.args.totals.now c.args.cards.now c.args.told.now c.in_ok-wanted.wanted.items c.deref.result.now
+    c.in_ok-found.found.items c.deref-2.result.now c.in_ok-sums.sums.items
+    (c.in_ok-wanted.ensures c.args.setup.now c.args.cards.now c.requires.explained) c.deref.ensures.value c.in_ok-found.ensures.wanted
+    c.deref-2.ensures.value c.in_ok-sums.ensures

@@ -1,10 +1,26 @@
+use Rattle.std.proofs.Common.{◌∙◌, sym, ap, refl, Option}
+use Rattle.ledgers.specs.declared.kept.AskedLedger.{AskedLedger}
 use Rattle.wheel_ledgers.proofs.Accounts.{is_account_told}
+use Rattle.wheel_ledgers.specs.Told.{account_told}
+use Rattle.wheel_ledgers.specs.declared.chart_totals.TitledAccount.{TitledAccount}
+use Rattle.sum_sections.proofs.FoundSums.{sum-for}
 use Rattle.sum_sections.proofs.sums.sum_of.Goals as goal
 
-pub ledger_before-requires-clause-has : goal.ledger_before-requires-clause-has
-ledger_before-requires-clause-has c = c.in_ok-found.ensures.places.has
-
-pub ledger_before-requires-clause-account : goal.ledger_before-requires-clause-account
-ledger_before-requires-clause-account c =
-    is_account_told c.find_total-total.result c.args.place c.account_told-account.result c.account_told-account.ensures
+pub groups_of-requires : goal.groups_of-requires
+groups_of-requires c =
+    is_account_told c.find_total-total.result c.args.one.now.wanted.place c.args.kept.asked.account
+    (ap (λ (a : AskedLedger). a.account) c.requires.asked
+    ∙ ap (λ (t : Option TitledAccount). account_told t c.args.one.now.wanted.place) (sym c.find_total-total.ensures.value))
     c.find_total-total.ensures.account c.requires.place
+
+pub positions_of-requires : goal.positions_of-requires
+positions_of-requires c =
+    is_account_told c.find_total-total.result c.args.one.now.wanted.place c.args.kept.asked.account
+    (ap (λ (a : AskedLedger). a.account) c.requires.asked
+    ∙ ap (λ (t : Option TitledAccount). account_told t c.args.one.now.wanted.place) (sym c.find_total-total.ensures.value))
+    c.find_total-total.ensures.account c.requires.place
+
+pub returns : goal.returns
+returns c =
+    sum-for c.args.setup.now c.args.totals.now c.args.cards.now c.args.one.now c.args.kept _ c.requires.found c.requires.asked c.requires.kept
+    refl c.find_total-total.ensures.value refl refl c.positions_of.ensures.value c.in_ok-groups.ensures c.in_ok-ran.ensures
