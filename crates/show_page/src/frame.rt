@@ -27,7 +27,10 @@ pub(crate) fn write_style_open(text: &mut String) -> Result<(), AllocError>
 }
 
 // Writes the style sheet, for light and dark and for paper: sheets like green-bar paper, the panel, wires in twelve colours. Of the elements
-// with explanations, wires, hubs and cycles it shows the one that is linked to, and at the empty path of a picture the panel.
+// with explanations, wires, hubs and cycles it shows the one that is linked to, and at the empty path of a picture the panel. Of a character it
+// takes the tens (lt, wt) and units (lu, wu) of its line and its wheel from the name, as p1l23w45. On the sheet that the rule of its page lets
+// have these numbers, its row has the wheel (at), and the link with this number is marked: a row and a link have their own tens and units (t, u).
+// The numbers aren't inherited otherwise, so that a browser looks at no other row. A form has at most 144 lines.
 pub(crate) fn write_style(text: &mut String) -> Result<(), AllocError>
     ensures { OnOk result (GainsOne IsStyle (string_bytes text.old) (string_bytes text.new)) }
 {
@@ -44,10 +47,48 @@ main{padding:0 1.5rem 2rem}h2{margin:1.4rem 0 .2rem;font-size:1.5rem;border-bott
 nav{display:flex;flex-wrap:wrap;gap:.3rem;position:sticky;top:0;z-index:3;padding:.4rem 0;background:var(--ground)}
 nav a{font:600 .9rem Arial,sans-serif;padding:.35em .8em;border-radius:1.2em;text-decoration:none;color:var(--ground);background:var(--ink)}nav a:hover,nav a:focus{background:var(--link)}
 pre{font-family:Courier Prime,Courier New,Courier,monospace}
-.sheets{display:grid;gap:1rem;--mark:#0000}
+.sheets{display:grid;gap:1rem}
 .sheets pre{margin:0;overflow-x:auto;padding:0 1.6em;border:1px solid var(--rule);box-shadow:0 2px 10px #0002;font-size:clamp(9px,calc(41vw/(var(--n) + 16)/.6),1.32rem);line-height:1.6em;print-color-adjust:exact;background:radial-gradient(circle at .8em .8em,var(--hole) .28em,#0000 .3em) 0 0/1.6em 1.6em repeat-y,radial-gradient(circle at .8em .8em,var(--hole) .28em,#0000 .3em) 100% 0/1.6em 1.6em repeat-y,repeating-linear-gradient(var(--paper) 0 4.8em,var(--bar) 4.8em 9.6em)}
 .sheets b a{font-weight:600;color:var(--link)}.sheets b{display:inline-block;width:6.2em;margin-right:1.2em;font:600 max(.72em,11px)/1.2 Arial,sans-serif;text-align:right;color:var(--soft)}
 .sheets a{color:inherit;font-weight:700;text-decoration:underline dotted #a58f5f .07em;text-underline-offset:.22em}.sheets a:hover,.sheets a:focus,.sheets span:target{background:var(--pick)}.sheets span:target b,.sheets span:target b a{color:inherit}
+@property --lt{syntax:'\\3c number>';inherits:false;initial-value:0}@property --lu{syntax:'\\3c number>';inherits:false;initial-value:0}@property --wt{syntax:'\\3c number>';inherits:false;initial-value:0}@property --wu{syntax:'\\3c number>';inherits:false;initial-value:0}@property --at{syntax:'\\3c number>';inherits:true;initial-value:0}
+.sheets span{--t:0;--u:0;--lt:inherit;--lu:inherit;--wt:inherit;--wu:inherit;--at:calc((var(--wt) + var(--wu))*max(0,1 - (var(--lt) + var(--lu) - var(--t) - var(--u))*(var(--lt) + var(--lu) - var(--t) - var(--u))))}
+.sheets a{--t:0;--u:0}.sheets span>a{background:linear-gradient(var(--pick),var(--pick)) 0/calc(100% - 100%*(var(--at) - var(--t) - var(--u))*(var(--at) - var(--t) - var(--u))) 100%}
+body:has(>aside>:target[id*=l1]:not([id*=l1w])) .sheets{--lt:10}.sheets [id*=l1]:not([id$=l1]){--t:10}
+body:has(>aside>:target[id*=l2]:not([id*=l2w])) .sheets{--lt:20}.sheets [id*=l2]:not([id$=l2]){--t:20}
+body:has(>aside>:target[id*=l3]:not([id*=l3w])) .sheets{--lt:30}.sheets [id*=l3]:not([id$=l3]){--t:30}
+body:has(>aside>:target[id*=l4]:not([id*=l4w])) .sheets{--lt:40}.sheets [id*=l4]:not([id$=l4]){--t:40}
+body:has(>aside>:target[id*=l5]:not([id*=l5w])) .sheets{--lt:50}.sheets [id*=l5]:not([id$=l5]){--t:50}
+body:has(>aside>:target[id*=l6]:not([id*=l6w])) .sheets{--lt:60}.sheets [id*=l6]:not([id$=l6]){--t:60}
+body:has(>aside>:target[id*=l7]:not([id*=l7w])) .sheets{--lt:70}.sheets [id*=l7]:not([id$=l7]){--t:70}
+body:has(>aside>:target[id*=l8]:not([id*=l8w])) .sheets{--lt:80}.sheets [id*=l8]:not([id$=l8]){--t:80}
+body:has(>aside>:target[id*=l9]:not([id*=l9w])) .sheets{--lt:90}.sheets [id*=l9]:not([id$=l9]){--t:90}
+body:has(>aside>:target[id*=l10]:not([id*=l10w])) .sheets{--lt:100}.sheets [id*=l10]:not([id$=l10]){--t:100}
+body:has(>aside>:target[id*=l11]:not([id*=l11w])) .sheets{--lt:110}.sheets [id*=l11]:not([id$=l11]){--t:110}
+body:has(>aside>:target[id*=l12]:not([id*=l12w])) .sheets{--lt:120}.sheets [id*=l12]:not([id$=l12]){--t:120}
+body:has(>aside>:target[id*=l13]:not([id*=l13w])) .sheets{--lt:130}.sheets [id*=l13]:not([id$=l13]){--t:130}
+body:has(>aside>:target[id*=l14]:not([id*=l14w])) .sheets{--lt:140}.sheets [id*=l14]:not([id$=l14]){--t:140}
+body:has(>aside>:target[id*=w1]:not([id$=w1])) .sheets{--wt:10}.sheets [href*=w1]:not([href$=w1]){--t:10}
+body:has(>aside>:target[id*=w2]:not([id$=w2])) .sheets{--wt:20}.sheets [href*=w2]:not([href$=w2]){--t:20}
+body:has(>aside>:target[id*=w3]:not([id$=w3])) .sheets{--wt:30}.sheets [href*=w3]:not([href$=w3]){--t:30}
+body:has(>aside>:target[id*=w4]:not([id$=w4])) .sheets{--wt:40}.sheets [href*=w4]:not([href$=w4]){--t:40}
+body:has(>aside>:target[id*=w5]:not([id$=w5])) .sheets{--wt:50}.sheets [href*=w5]:not([href$=w5]){--t:50}
+body:has(>aside>:target[id*=w6]:not([id$=w6])) .sheets{--wt:60}.sheets [href*=w6]:not([href$=w6]){--t:60}
+body:has(>aside>:target[id*=w7]:not([id$=w7])) .sheets{--wt:70}.sheets [href*=w7]:not([href$=w7]){--t:70}
+body:has(>aside>:target[id*=w8]:not([id$=w8])) .sheets{--wt:80}.sheets [href*=w8]:not([href$=w8]){--t:80}
+body:has(>aside>:target[id*=w9]:not([id$=w9])) .sheets{--wt:90}.sheets [href*=w9]:not([href$=w9]){--t:90}
+body:has(>aside>:target[id*=w10]:not([id$=w10])) .sheets{--wt:100}.sheets [href*=w10]:not([href$=w10]){--t:100}
+body:has(>aside>:target[id*=w11]:not([id$=w11])) .sheets{--wt:110}.sheets [href*=w11]:not([href$=w11]){--t:110}
+body:has(>aside>:target[id*=w12]:not([id$=w12])) .sheets{--wt:120}.sheets [href*=w12]:not([href$=w12]){--t:120}
+body:has(>aside>:target[id*='1w']) .sheets{--lu:1}body:has(>aside>:target[id$='1']) .sheets{--wu:1}.sheets [id$='1'],.sheets [href$='1']{--u:1}
+body:has(>aside>:target[id*='2w']) .sheets{--lu:2}body:has(>aside>:target[id$='2']) .sheets{--wu:2}.sheets [id$='2'],.sheets [href$='2']{--u:2}
+body:has(>aside>:target[id*='3w']) .sheets{--lu:3}body:has(>aside>:target[id$='3']) .sheets{--wu:3}.sheets [id$='3'],.sheets [href$='3']{--u:3}
+body:has(>aside>:target[id*='4w']) .sheets{--lu:4}body:has(>aside>:target[id$='4']) .sheets{--wu:4}.sheets [id$='4'],.sheets [href$='4']{--u:4}
+body:has(>aside>:target[id*='5w']) .sheets{--lu:5}body:has(>aside>:target[id$='5']) .sheets{--wu:5}.sheets [id$='5'],.sheets [href$='5']{--u:5}
+body:has(>aside>:target[id*='6w']) .sheets{--lu:6}body:has(>aside>:target[id$='6']) .sheets{--wu:6}.sheets [id$='6'],.sheets [href$='6']{--u:6}
+body:has(>aside>:target[id*='7w']) .sheets{--lu:7}body:has(>aside>:target[id$='7']) .sheets{--wu:7}.sheets [id$='7'],.sheets [href$='7']{--u:7}
+body:has(>aside>:target[id*='8w']) .sheets{--lu:8}body:has(>aside>:target[id$='8']) .sheets{--wu:8}.sheets [id$='8'],.sheets [href$='8']{--u:8}
+body:has(>aside>:target[id*='9w']) .sheets{--lu:9}body:has(>aside>:target[id$='9']) .sheets{--wu:9}.sheets [id$='9'],.sheets [href$='9']{--u:9}
 .board{overflow-x:auto}#panel{display:block;width:100%;min-width:38rem;max-width:72rem;height:auto;stroke-opacity:.9}.plate{fill:var(--plate)}
 .blocks text{font:18px Arial,sans-serif;fill:#dfe4e8}.blocks .small{font-size:12px;fill:#a4acb3}
 .blocks path{fill:none;stroke:#69737d;stroke-width:6;stroke-linecap:round;stroke-opacity:1}.dots10{stroke-dasharray:0 10}.dots13{stroke-dasharray:0 13}.dots15{stroke-dasharray:0 15}
@@ -69,7 +110,7 @@ table{border-collapse:collapse;font-size:.95rem}th,td{padding:.3em .6em;border-b
 @media(min-width:68em){body{display:grid;grid-template:auto 1fr/minmax(0,47fr) minmax(0,53fr)}header,main{grid-column:1;min-width:0}aside{grid-column:2;grid-row:1/3;position:sticky;top:0;height:100vh;overflow:auto;border-left:3px solid var(--ink)}aside svg{max-height:calc(100vh - 4rem)}}
 @media(max-width:67.99em){header,main,.begin,aside section{padding-left:.9rem;padding-right:.9rem}.sheets pre{font-size:clamp(9px,calc(88vw/(var(--n) + 16)/.6),1.32rem)}aside{border-top:4px solid var(--ink)}th,td{padding:.3em}aside section:target{min-height:100vh}}
 @media(min-width:130em){html{font-size:.8vw}}
-@page{margin:14mm 12mm}
+@page{margin:9mm 12mm}
 @media print{:root{--ground:#fff;--paper:#fff;--ink:#000;--soft:#333;--plate:#fff;--bar:#dfeedd;--rule:#cfc7b4;--link:#8a2b12;--pick:#ffd667}body{display:block;font-size:10pt}header,main{padding:0}h1{font-size:20pt}h2{margin:4mm 0 1mm;font-size:13pt;break-after:avoid}.kind,nav,main>p,.begin,aside section>a{display:none}.sheets pre{box-shadow:none;break-inside:avoid;font-size:min(8pt,calc(170mm/(var(--n) + 16)/.6));line-height:1.25em;background:repeating-linear-gradient(var(--paper) 0 3.75em,var(--bar) 3.75em 7.5em)}.board{overflow:visible;break-inside:avoid}#panel{min-width:0;stroke-opacity:1}.plate{stroke:#333;stroke-width:3}.blocks text,.blocks .small{fill:#222}.blocks path{stroke:#aaa}.hubs circle{fill:#222}.wires path{stroke:var(--deep)}.deck{max-width:none;display:grid;grid-template-columns:1fr 1fr 1fr;gap:2mm 3mm}.deck a{margin:0;filter:none;break-inside:avoid}.deck a:last-child{margin:0}.deck>svg{display:none}.legend{columns:3;column-gap:4mm}.legend pre{margin:0 0 1mm;padding:0 2mm;font-size:7pt;line-height:1.3;orphans:4;widows:4;-webkit-box-decoration-break:clone;box-decoration-break:clone}aside{position:static;height:auto;overflow:visible;border:0;break-before:page}aside:not(:has(>section:target)){display:none}aside section:target{padding:0;min-height:0}aside svg{max-height:none}aside svg path{stroke:#d81e05}}
 ",
     )
