@@ -139,7 +139,7 @@ const DECK_ON_BOTH: Word = Word::Option {
 const HINT: Word = Word::Flag {
     name: "HINT",
     long: "hint",
-    help: "tells only lines of the planning chart and counts, and no wire",
+    help: "tells only lines of both charts and counts, and no wire",
 };
 
 const OUTPUT: Word = Word::Value {

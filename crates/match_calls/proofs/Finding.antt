@@ -3,7 +3,8 @@ use Rattle.std.proofs.Common.{◌≡◌, ◌∙◌, ◌++◌, List, ℕ, Option,
 use Rattle.charts.specs.declared.chart.Line.{Line}
 use Rattle.compile407.specs.Compilation.{Compilation}
 use Rattle.match_calls.specs.Found.{IsUnwiredText, IsWiredText}
-use Rattle.match_calls.specs.Helper.{IsFoundText, TellsCounts}
+use Rattle.match_calls.specs.Helper.{IsFoundText}
+use Rattle.match_calls.specs.MatchTexts.Counts.{TellsCounts}
 use Rattle.match_calls.specs.MatchTexts.PlanText.{plan_text}
 use Rattle.match_calls.specs.MatchTexts.Progress.{IsToldText}
 use Rattle.match_calls.specs.declared.match_texts.counts.Counts.{Counts}

@@ -1,3 +1,4 @@
 pub mod Far
 pub mod Lacking
+pub mod Numbering
 pub mod Whole

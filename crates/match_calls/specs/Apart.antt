@@ -42,7 +42,7 @@ pub record IsAlikeText (wiring deck : List ℕ) (counts : Counts) (version : Ver
   pub punched : Deck deck cards
   pub alike : DifferOnDeck compiled.setup setup cards None
 
--- The panel is not wired for the chart, and prints a line of this deck otherwise: behind what is missing and too much it is told how.
+-- The panel is not wired for the chart, and prints a line of this deck otherwise: behind what is missing and extra it is told how.
 pub record IsOtherwiseText (wiring deck : List ℕ) (place : Place) (version : Version) (compiled : Compilation) (setup : Wiring) (text : List ℕ)
     : Type 0 where
   pub counts : Counts

@@ -12,7 +12,7 @@ use Rattle.match_calls.specs.declared.unmatched.Unmatched.TheVariants as why
 use Rattle.match_calls.specs.declared.match_decks.lines.Place.{Place}
 use Rattle.match_calls.specs.declared.match_texts.counts.Counts.{Counts}
 
--- What is told of texts that don't match: the panel is not wired for the chart, and what is missing and too much was printed, and how the
+-- What is told of texts that don't match: the panel is not wired for the chart, and what is missing and extra was printed, and how the
 -- first line of the deck that it prints otherwise differs, if one does; or a text is refused, and nothing was printed.
 pub data LeavesApart (chart wiring deck : List ℕ) (told : Unmatched) (old new : Option (List ℕ)) (Unprinted : Type 0) : Type 0 where
   alike : (counts : Counts) → told ≡ why.Unwired counts → Prints chart wiring (IsAlikeText wiring deck counts) old new

@@ -25,7 +25,7 @@ pub record IsWiredText (compiled : Compilation) (setup : Wiring) (text : List �
   pub begins : BeginsReport compiled.chart setup
   pub spelled : text ≡ codes "ok\n" ++ plan_text compiled.chart.lines plan
 
--- The panel is wired for the chart by no plan. By the plan that is told these are what is missing and what is too much, and so much is
+-- The panel is wired for the chart by no plan. By the plan that is told these are what is missing and what is extra, and so much is
 -- counted of both. Both are spelled in the version of the wiring chart, so that their lines can be put into its text and taken out of it.
 -- Behind them it is told how far the panel is; or a hint is told in place of all.
 pub record IsUnwiredText (telling : Telling) (wiring : List ℕ) (counts : Counts) (version : Version) (compiled : Compilation) (setup : Wiring)

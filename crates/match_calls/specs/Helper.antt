@@ -7,20 +7,10 @@ use Rattle.match_calls.specs.declared.apart.Apart.{Apart}
 use Rattle.match_calls.specs.declared.outcome.Outcome.{Outcome}
 use Rattle.match_calls.specs.declared.outcome.Outcome.TheVariants as outcome
 use Rattle.match_calls.specs.MatchDecks.Wheels.{DifferOnDeck}
-use Rattle.match_calls.specs.MatchTexts.Counts.{CountsDifferences}
 use Rattle.match_calls.specs.declared.match_texts.counts.Counts.{Counts}
 use Rattle.match_calls.specs.declared.match_texts.telling.Telling.{Telling}
-use Rattle.matching.specs.declared.answer.Matching.{Matching}
-use Rattle.matching.specs.declared.answer.Matching.TheVariants.{Differs, Matched}
 use Rattle.setups.specs.Wiring.{Wiring}
 use Rattle.wire_chart.specs.Below.wiring_text.declared.statement.Version.{Version}
-
--- the counts of what was found: none where the setup is wired for the chart, and only there
-abbrev pub TellsCounts : Matching → Option Counts → Type 0
-TellsCounts (Matched plan) None = Unit {0}
-TellsCounts (Matched plan) (Some counts) = ⊥
-TellsCounts (Differs plan missing extra) None = ⊥
-TellsCounts (Differs plan missing extra) (Some counts) = CountsDifferences missing extra counts
 
 -- the text of what was found, by the counts
 abbrev pub IsFoundText : Telling → (wiring : List ℕ) → Version → Compilation → Wiring → Option Counts → List ℕ → Type 0

@@ -1,4 +1,5 @@
 pub mod Counts
+pub mod ExtraNumbers
 pub mod Helper
 pub mod MatchText
 pub mod Missing

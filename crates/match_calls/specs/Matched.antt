@@ -10,7 +10,7 @@ use Rattle.match_calls.specs.declared.unmatched.Unmatched.TheVariants as why
 use Rattle.match_calls.specs.declared.match_texts.counts.Counts.{Counts}
 use Rattle.match_calls.specs.declared.match_texts.telling.Telling.{Telling}
 
--- What is told of texts that don't match: the panel is not wired for the chart, and what is missing and too much was printed, or a hint; or a
+-- What is told of texts that don't match: the panel is not wired for the chart, and what is missing and extra was printed, or a hint; or a
 -- text is refused, and nothing was printed.
 pub data LeavesUnmatched (telling : Telling) (chart wiring : List ℕ) (told : Unmatched) (old new : Option (List ℕ)) (Unprinted : Type 0)
     : Type 0 where

@@ -7,12 +7,12 @@ use Rattle.match_calls.specs.declared.unmatched.Unmatched.{Unmatched}
 use Rattle.match_calls.specs.declared.unmatched.Unmatched.TheVariants as why
 use Rattle.match_calls.specs.declared.match_texts.counts.Counts.{Counts}
 
--- a number of a fault, and how much is missing and too much
+-- a number of a fault, and how much is missing and extra
 abbrev pub figures_text : ℕ → Counts → List ℕ
 figures_text number counts =
     codes "fault " ++ decimal number ++ codes " missing " ++ decimal counts.missing ++ codes " extra " ++ decimal counts.extra
 
--- the line that tells how much is missing and too much
+-- the line that tells how much is missing and extra
 abbrev pub counts_line : Counts → List ℕ
 counts_line counts = figures_text 94 counts ++ codes "\n"
 

@@ -2,10 +2,10 @@
 
 ghost use Rattle.std.specs.Prelude.{◌≡◌, IfErr, IfOk};
 ghost use Rattle.std.specs.String.{string_bytes};
-ghost use Rattle.match_calls.specs.Helper.{IsFoundText, TellsCounts};
+ghost use Rattle.match_calls.specs.Helper.{IsFoundText};
 
 use crate::match_reports::{Matching, match_compiled};
-use crate::match_texts::{Counts, Telling, counts_of, told_text};
+use crate::match_texts::{Counts, Telling, told_counts, told_text};
 use crate::panels::Panels;
 use faults::Fault;
 use std::alloc::{AllocError, Global};
@@ -13,20 +13,10 @@ use std::alloc::{AllocError, Global};
 /// What is found of a compiled chart and a panel.
 #[derive(Drop)]
 pub(crate) struct Found {
-    /// How much is missing and too much, where the panel is wired for the chart by no plan that is read off it.
+    /// How much is missing and extra, where the panel is wired for the chart by no plan that is read off it.
     pub(crate) counts: Option<Counts>,
-    /// What is printed: the plan, and what is missing and too much.
+    /// What is printed: the plan, and what is missing and extra.
     pub(crate) text: String,
-}
-
-// How much is missing and too much, where a panel is not wired for a chart.
-fn told_counts(matching: &Matching) -> Option<Counts>
-    ensures { TellsCounts matching.now result }
-{
-    match matching {
-        Matching::Matched { .. } => None,
-        Matching::Differs { .. } => Some(counts_of(matching)),
-    }
 }
 
 // Finds whether a panel is wired for a chart by some plan of it, and what is printed of that.

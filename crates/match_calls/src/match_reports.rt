@@ -19,7 +19,7 @@ use std::alloc::{AllocError, Global};
 /// for every deck of at most 999,999 valid cards whose totals fit the pages that the machine prints are byte by byte the chart's report, and
 /// for any other deck of at most 999,999 valid cards what it prints before the first card at which a total doesn't fit is the report up to
 /// there. Where the setup is wired for the chart by some plan of it, it is `Matched`. Where it `Differs`, exactly what is missing and what
-/// is too much by the plan that is told is told too. Its only refusal is memory.
+/// is extra by the plan that is told is told too. Its only refusal is memory.
 pub fn match_compiled(
     alloc: Global,
     compiled: &Compiled,

@@ -8,7 +8,7 @@ use crate::match_texts::Counts;
 pub(crate) enum Outcome {
     /// The panel is wired for the chart.
     Wired,
-    /// It is not, so much is missing and too much, and it prints the same lines of the deck.
+    /// It is not, so much is missing and extra, and it prints the same lines of the deck.
     Unwired { counts: Counts },
     /// It is not, and prints the deck otherwise, first at this place.
     PrintsOtherwise { place: Place },

@@ -32,7 +32,7 @@ struct Answer {
 }
 
 #[tactic(auto, using(crate::proofs::Pairs::alike_told, crate::proofs::Pairs::otherwise_told))]
-// What is found over the cards of a deck of a panel that is not wired for the chart, behind the text of what is missing and too much.
+// What is found over the cards of a deck of a panel that is not wired for the chart, behind the text of what is missing and extra.
 fn unwired_answer<'a>(
     alloc: Global,
     panels: &Panels,

@@ -15,14 +15,14 @@ use program_io::put;
 use std::alloc::Global;
 use std::io::Write;
 
-/// Prints whether a panel is wired for a chart: `ok` and the plan by which it is; else what is missing and too much, by the plan that
+/// Prints whether a panel is wired for a chart: `ok` and the plan by which it is; else what is missing and extra, by the plan that
 /// is told, each under its heading where there is any, spelled in the version in which the wiring chart is read, and which lines of the wiring
-/// chart are too much and which lines of the chart are done; or in place of all that a hint, which names no wire.
+/// chart are extra and which lines of the chart are done; or in place of all that a hint, which names no wire.
 ///
 /// # Errors
 ///
 /// The fault of the planning chart, else that of the wiring chart, and nothing is printed; else `Unwired` where no plan is found by
-/// which the panel is wired for the chart, and what is missing and too much is printed. `Memory` where a growth was refused and `Write`
+/// which the panel is wired for the chart, and what is missing and extra is printed. `Memory` where a growth was refused and `Write`
 /// where the output can't be written, and then a part may have been printed.
 pub fn print_match<'a, W: Write>(
     alloc: Global,
@@ -44,8 +44,8 @@ pub fn print_match<'a, W: Write>(
     }
 }
 
-/// Matches a panel with a planning chart: prints whether it is wired for the chart, and by which plan, or else what is missing and too
-/// much and how far the panel is, or a hint; and tells on one line of `faults` why it doesn't match. A plan is found wherever there is one.
+/// Matches a panel with a planning chart: prints whether it is wired for the chart, and by which plan, or else what is missing and extra
+/// and how far the panel is, or a hint; and tells on one line of `faults` why it doesn't match. A plan is found wherever there is one.
 ///
 /// Where the panel is wired for the chart, the machine prints the chart's report of every deck that can be run, and not only of those that
 /// were tried. The statuses are 0 where it is, and then nothing is told; 3 where it is not, and `fault 94 missing A extra B` is told, or

@@ -16,7 +16,7 @@ use std::io::Write;
 pub enum Unmatched<'a> {
     /// A text is refused, the deck can't be read, the output can't be written, or memory ran out.
     Failed { fault: Fault<'a> },
-    /// No plan is found by which the panel is wired for the chart; so much is missing and too much.
+    /// No plan is found by which the panel is wired for the chart; so much is missing and extra.
     Unwired { counts: Counts },
     /// Besides, the panel prints a deck otherwise than the chart's own, first at this place.
     PrintsOtherwise { place: Place },
@@ -48,7 +48,7 @@ impl<'a> From<Fault<'a>> for Unmatched<'a> {
     }
 }
 
-// Writes a number of a fault, and how much is missing and too much.
+// Writes a number of a fault, and how much is missing and extra.
 fn write_figures<V: Write>(number: u8, counts: Counts, out: &mut V) -> io::Result<()>
     ensures { OnOk result (Appends (V.contents out.old) (V.contents out.new) (figures_text number counts)) }
 {
@@ -57,7 +57,7 @@ fn write_figures<V: Write>(number: u8, counts: Counts, out: &mut V) -> io::Resul
     write_numbered(out, " extra ", counts.extra)
 }
 
-// Writes the line that tells how much is missing and too much.
+// Writes the line that tells how much is missing and extra.
 fn write_counts<V: Write>(counts: Counts, out: &mut V) -> io::Result<()>
     ensures { OnOk result (Appends (V.contents out.old) (V.contents out.new) (counts_line counts)) }
 {

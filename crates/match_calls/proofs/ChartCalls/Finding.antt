@@ -1,9 +1,9 @@
 -- What is found of a wiring chart, by what is found of its panel.
 use Rattle.std.proofs.Common.{◌≡◌, ℕ, List, Option, Some, None, subst}
-use Rattle.match_calls.specs.ChartCalls.Counted.{TellsCounts}
 use Rattle.match_calls.specs.ChartCalls.ReadBack.{IsBeside, IsChartOf}
 use Rattle.compile407.specs.Compilation.{Compilation, IsCompiled}
 use Rattle.compile407.specs.Headline.{WiredSetupsBeginReports, WiredSetupsPrintReports}
+use Rattle.match_calls.specs.MatchTexts.Counts.{TellsCounts}
 use Rattle.match_calls.specs.declared.match_texts.counts.Counts.{Counts}
 use Rattle.matching.specs.Answers.{IsMatched, IsMatchingOf}
 use Rattle.matching.specs.declared.answer.Matching.{Matching}

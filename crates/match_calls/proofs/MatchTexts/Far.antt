@@ -3,6 +3,7 @@ use Rattle.std.proofs.Common.{◌≡◌, ◌∙◌, ap, refl, sym, subst, ℕ, �
 use Rattle.card_code.specs.Lines.{lines_of}
 use Rattle.charts.specs.declared.chart.Line.{Line}
 use Rattle.match_calls.specs.MatchTexts.Counts.{CountsDifferences}
+use Rattle.match_calls.specs.MatchTexts.ExtraNumbers.{NumbersExtra}
 use Rattle.match_calls.specs.MatchTexts.MatchText.{IsMatchText}
 use Rattle.match_calls.specs.MatchTexts.Missing.{under_heading}
 use Rattle.match_calls.specs.MatchTexts.Progress.{AreNarrow, IsProgressText, ListsExtra, TellsHint, TellsProgress, TellsWires, extra_line, narrow_words}
@@ -14,14 +15,14 @@ use Rattle.panel_plans.specs.declared.narrow.Narrow.{Narrow}
 use Rattle.differences.specs.PanelProgress.Counts.{AreCountsBefore}
 use Rattle.differences.specs.PanelProgress.ExtraLines.{AreToldLines}
 use Rattle.differences.specs.PanelProgress.Forms.{form_beside}
-use Rattle.differences.specs.PanelProgress.Standings.{counts_text, standings_text}
+use Rattle.differences.specs.PanelProgress.Standings.{counts_text, numbers_line, standings_text}
 use Rattle.differences.specs.declared.panel_progress.counting.LineCount.{LineCount}
 use Rattle.plans.specs.Plans.{Lists}
 use Rattle.setups.specs.Tapes.{CarriageTape}
 use Rattle.setups.specs.Wiring.{Wiring}
 use Rattle.wire_chart.specs.Below.wiring_text.declared.statement.Version.{Version}
 
--- the lines that are too much
+-- the lines that are extra
 pub extra_listed : (version : Version) (missing extra : Wiring) (its wanted : CarriageTape) (wiring bare form begun headed told text : List ℕ)
     → its ≡ extra.tape → wanted ≡ missing.tape → bare ≡ [] → form ≡ bare ++ form_beside its wanted → begun ≡ []
     → headed ≡ begun ++ under_heading (codes "line 2: ") form → AreToldLines version extra 1 (lines_of wiring) told → text ≡ headed ++ told
@@ -52,7 +53,7 @@ narrow_more lines setup place line found old new before there is gained =
 pub progress_told : (version : Version) (lines : List Line) (setup : Wiring) (plan : Lists) (missing extra : Wiring) (wiring : List ℕ)
     (surplus narrow begun headed mid text : List ℕ) (counts slice : List LineCount) → ListsExtra version missing.tape extra wiring surplus
     → AreNarrow lines setup (length lines) narrow → AreCountsBefore lines plan setup (length lines) counts → slice ≡ counts → begun ≡ []
-    → headed ≡ begun ++ under_heading (codes "too much in the wiring chart\n") surplus → mid ≡ headed ++ narrow
+    → headed ≡ begun ++ under_heading (codes "extra in the wiring chart\n") surplus → mid ≡ headed ++ narrow
     → text ≡ mid ++ standings_text slice → TellsProgress version lines setup plan missing extra wiring text
 progress_told version lines setup plan missing extra wiring surplus narrow begun headed mid text counts slice lists few are same empty first second
     last = record {
@@ -66,29 +67,35 @@ progress_told version lines setup plan missing extra wiring surplus narrow begun
           ∙ ap (λ (each : List LineCount). mid ++ standings_text each) same
           ∙ ap (λ (front : List ℕ). front ++ standings_text counts)
           (second ∙ ap (λ (front : List ℕ). front ++ narrow)
-          (first ∙ ap (λ (front : List ℕ). front ++ under_heading (codes "too much in the wiring chart\n") surplus) empty));
+          (first ∙ ap (λ (front : List ℕ). front ++ under_heading (codes "extra in the wiring chart\n") surplus) empty));
     }
 
 -- a hint
-pub hint_told : (lines : List Line) (setup : Wiring) (plan : Lists) (missing extra : Wiring) (all : Counts)
-    (narrow begun first second third text : List ℕ) (counts slice other : List LineCount) → CountsDifferences missing extra all
-    → AreNarrow lines setup (length lines) narrow → AreCountsBefore lines plan setup (length lines) counts → slice ≡ counts → other ≡ counts
-    → begun ≡ [] → first ≡ begun ++ counts_text slice → second ≡ first ++ extra_line all.extra → third ≡ second ++ narrow
-    → text ≡ third ++ standings_text other → TellsHint lines setup plan missing extra text
-hint_told lines setup plan missing extra all narrow begun first second third text counts slice other counted few are same also empty one two three
-    last = record {
+pub hint_told : (version : Version) (lines : List Line) (setup : Wiring) (plan : Lists) (missing extra : Wiring) (wiring : List ℕ) (all : Counts)
+    (narrow begun first second numbered third text numbers those : List ℕ) (counts slice other : List LineCount)
+    → CountsDifferences missing extra all → AreNarrow lines setup (length lines) narrow
+    → AreCountsBefore lines plan setup (length lines) counts → NumbersExtra version missing.tape extra wiring numbers → slice ≡ counts
+    → other ≡ counts → those ≡ numbers → begun ≡ [] → first ≡ begun ++ counts_text slice → second ≡ first ++ extra_line all.extra
+    → numbered ≡ second ++ numbers_line (codes "extra in the wiring chart: ") those → third ≡ numbered ++ narrow
+    → text ≡ third ++ standings_text other → TellsHint version lines setup plan missing extra wiring text
+hint_told version lines setup plan missing extra wiring all narrow begun first second numbered third text numbers those counts slice other
+    counted few are known same also these empty one two between three last = record {
       all = all;
       counted = counted;
       counts = counts;
       are_counts = are;
       narrow = narrow;
       are_narrow = few;
+      numbers = numbers;
+      numbered = known;
       spelled = last
           ∙ ap (λ (each : List LineCount). third ++ standings_text each) also
           ∙ ap (λ (front : List ℕ). front ++ standings_text counts)
           (three ∙ ap (λ (front : List ℕ). front ++ narrow)
+          (between ∙ ap (λ (list : List ℕ). second ++ numbers_line (codes "extra in the wiring chart: ") list) these
+          ∙ ap (λ (front : List ℕ). front ++ numbers_line (codes "extra in the wiring chart: ") numbers)
           (two ∙ ap (λ (front : List ℕ). front ++ extra_line all.extra)
-          (one ∙ ap (λ (front : List ℕ). front ++ counts_text slice) empty ∙ ap counts_text same)));
+          (one ∙ ap (λ (front : List ℕ). front ++ counts_text slice) empty ∙ ap counts_text same))));
     }
 
 -- all of it

@@ -29,7 +29,7 @@ line_lacks version lines plan setup line wanted lacking formed text asked is beg
   spelled = gains.gained ∙ ap (λ (front : List ℕ). front ++ gains.parts) begun;
 }
 
--- what is too much
+-- what is extra
 pub surplus_gained : (version : Version) (wanted : CarriageTape) (extra : Wiring) (old mid new : List ℕ)
     → mid ≡ old ++ form_beside extra.tape wanted → GainsParts version extra mid new → GainsSurplus version wanted extra old new
 surplus_gained version wanted extra old mid new begun gains = record {
@@ -52,11 +52,11 @@ surplus_alone version wanted extra old new empty gains = record {
   spelled = gains.gained ∙ ap (λ (front : List ℕ). front ++ form_beside extra.tape wanted ++ gains.parts) empty;
 }
 
--- the plan, what is missing, and what is too much
+-- the plan, what is missing, and what is extra
 pub difference_told : (version : Version) (lines : List Line) (setup : Wiring) (plan : Lists) (missing extra : Wiring)
     (planned lacking titled surplus text : List ℕ) → planned ≡ plan_text lines plan
     → AreLacking version lines plan setup (length lines) lacking → titled ≡ planned ++ under_heading (codes "missing\n") lacking
-    → IsSurplus version missing.tape extra surplus → text ≡ titled ++ under_heading (codes "too much\n") surplus
+    → IsSurplus version missing.tape extra surplus → text ≡ titled ++ under_heading (codes "extra\n") surplus
     → TellsDifference version lines setup plan missing extra text
 difference_told version lines setup plan missing extra planned lacking titled surplus text first lacks second is third = record {
   lacking = lacking;
@@ -64,8 +64,8 @@ difference_told version lines setup plan missing extra planned lacking titled su
   surplus = is.parts;
   are_surplus = is.are;
   spelled = third
-      ∙ ap (λ (body : List ℕ). titled ++ under_heading (codes "too much\n") body) is.spelled
-      ∙ ap (λ (front : List ℕ). front ++ under_heading (codes "too much\n") (form_beside extra.tape missing.tape ++ is.parts))
+      ∙ ap (λ (body : List ℕ). titled ++ under_heading (codes "extra\n") body) is.spelled
+      ∙ ap (λ (front : List ℕ). front ++ under_heading (codes "extra\n") (form_beside extra.tape missing.tape ++ is.parts))
       (second ∙ ap (λ (front : List ℕ). front ++ under_heading (codes "missing\n") lacking) first);
 }
 

@@ -27,7 +27,7 @@ pub record IsWiredFor (compiled : Compilation) (setup : Wiring) : Type 0 where
   pub prints : PrintsReport compiled.chart setup
   pub begins : BeginsReport compiled.chart setup
 
--- The panel is wired for the chart by no plan. By some plan these are what is missing and what is too much, and so much is counted of both.
+-- The panel is wired for the chart by no plan. By some plan these are what is missing and what is extra, and so much is counted of both.
 pub record IsUnwiredFor (counts : Counts) (compiled : Compilation) (setup : Wiring) : Type 0 where
   pub unwired : (plan : Lists) → ¬ IsWiredBy compiled.chart.lines setup plan
   pub plan : Lists

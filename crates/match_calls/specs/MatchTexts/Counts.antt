@@ -1,5 +1,5 @@
--- How much is missing and too much, by what is found of a setup.
-use Rattle.std.specs.Prelude.{◌≡◌, ℕ, ◌+◌}
+-- How much is missing and extra, by what is found of a setup.
+use Rattle.std.specs.Prelude.{◌≡◌, ℕ, ◌+◌, Option, Some, None}
 use Rattle.differences.specs.Differences.{HasSize}
 use Rattle.differences.specs.PanelProgress.Forms.{forms}
 use Rattle.match_calls.specs.declared.match_texts.counts.Counts.{Counts}
@@ -20,3 +20,10 @@ pub record CountsDifferences (missing extra : Wiring) (counts : Counts) : Type 0
 abbrev pub AreCountsOf : Matching → Counts → Type 0
 AreCountsOf (Matched plan) counts = (counts.missing ≡ 0) × (counts.extra ≡ 0)
 AreCountsOf (Differs plan missing extra) counts = CountsDifferences missing extra counts
+
+-- the counts of what was found: none where the setup is wired for the chart, and only there
+abbrev pub TellsCounts : Matching → Option Counts → Type 0
+TellsCounts (Matched plan) None = Unit {0}
+TellsCounts (Matched plan) (Some counts) = ⊥
+TellsCounts (Differs plan missing extra) None = ⊥
+TellsCounts (Differs plan missing extra) (Some counts) = CountsDifferences missing extra counts

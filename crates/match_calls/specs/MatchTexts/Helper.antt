@@ -1,4 +1,4 @@
--- A helper of the code: what a text gains of what is missing and too much.
+-- A helper of the code: what a text gains of what is missing and extra.
 use Rattle.std.specs.Prelude.{◌≡◌, ℕ, List, ◌++◌, length}
 use Rattle.charts.specs.declared.chart.Line.{Line}
 use Rattle.differences.specs.PanelProgress.Forms.{form_beside}
@@ -26,7 +26,7 @@ pub record GainsBefore (version : Version) (lines : List Line) (plan : Lists) (s
 abbrev pub GainsMissing : Version → List Line → Lists → Wiring → (old new : List ℕ) → Type 0
 GainsMissing version lines plan setup old new = GainsBefore version lines plan setup (length lines) old new
 
--- what is told as too much, beside the form that is asked for
+-- what is told as extra, beside the form that is asked for
 pub record GainsSurplus (version : Version) (wanted : CarriageTape) (extra : Wiring) (old new : List ℕ) : Type 0 where
   pub parts : List ℕ
   pub are : ArePartsOf version extra parts

@@ -11,7 +11,7 @@ use Rattle.setups.specs.Wiring.{Wiring}
 use Rattle.wire_chart.specs.Parts.{ArePartsOf}
 use Rattle.wire_chart.specs.Below.wiring_text.declared.statement.Version.{Version}
 
--- The plan; then what is missing, under the lines of the chart that ask for it; then what is too much: the form of the setup, where it is
+-- The plan; then what is missing, under the lines of the chart that ask for it; then what is extra: the form of the setup, where it is
 -- another, and the stops, jacks and wires, as a wiring chart spells them. A heading stands only where something stands under it.
 pub record TellsDifference (version : Version) (lines : List Line) (setup : Wiring) (plan : Lists) (missing extra : Wiring)
     (text : List ℕ) : Type 0 where
@@ -21,7 +21,7 @@ pub record TellsDifference (version : Version) (lines : List Line) (setup : Wiri
   pub are_surplus : ArePartsOf version extra surplus
   pub spelled : text
       ≡ plan_text lines plan ++ under_heading (codes "missing\n") lacking
-      ++ under_heading (codes "too much\n") (form_beside extra.tape missing.tape ++ surplus)
+      ++ under_heading (codes "extra\n") (form_beside extra.tape missing.tape ++ surplus)
 
 -- Where the setup is wired for the chart: ok, and the plan.
 abbrev pub IsMatchText : Version → List Line → Wiring → Matching → List ℕ → Type 0

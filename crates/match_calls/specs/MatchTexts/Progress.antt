@@ -1,8 +1,9 @@
--- How far a panel is that isn't wired for a chart: which lines of its wiring chart are too much, and which lines of the chart are done.
+-- How far a panel is that isn't wired for a chart: which lines of its wiring chart are extra, and which lines of the chart are done.
 use Rattle.std.specs.Prelude.{◌≡◌, ℕ, ◌+◌, ◌==◌, List, [], ◌++◌, Option, Some, None, codes, decimal, if◌then◌else◌, length, slice_get}
 use Rattle.card_code.specs.Lines.{lines_of}
 use Rattle.charts.specs.declared.chart.Line.{Line}
 use Rattle.match_calls.specs.MatchTexts.Counts.{CountsDifferences}
+use Rattle.match_calls.specs.MatchTexts.ExtraNumbers.{NumbersExtra}
 use Rattle.match_calls.specs.MatchTexts.MatchText.{IsMatchText}
 use Rattle.match_calls.specs.MatchTexts.Missing.{under_heading}
 use Rattle.match_calls.specs.MatchTexts.PlanText.{group_words, plan_text}
@@ -14,7 +15,7 @@ use Rattle.matching.specs.declared.answer.Matching.TheVariants.{Differs, Matched
 use Rattle.differences.specs.PanelProgress.Counts.{AreCountsBefore}
 use Rattle.differences.specs.PanelProgress.ExtraLines.{AreToldLines}
 use Rattle.differences.specs.PanelProgress.Forms.{form_beside}
-use Rattle.differences.specs.PanelProgress.Standings.{counts_text, standings_text}
+use Rattle.differences.specs.PanelProgress.Standings.{counts_text, numbers_line, standings_text}
 use Rattle.differences.specs.declared.panel_progress.counting.LineCount.{LineCount}
 use Rattle.panel_plans.specs.Narrow.{IsNarrowOn}
 use Rattle.panel_plans.specs.declared.narrow.Narrow.{Narrow}
@@ -23,7 +24,7 @@ use Rattle.setups.specs.Tapes.{CarriageTape}
 use Rattle.setups.specs.Wiring.{Wiring}
 use Rattle.wire_chart.specs.Below.wiring_text.declared.statement.Version.{Version}
 
--- The lines of a wiring chart that are too much: line 2, the form, where another is asked for, and those that say something that is too much.
+-- The lines of a wiring chart that are extra: line 2, the form, where another is asked for, and those that say something that is extra.
 pub record ListsExtra (version : Version) (wanted : CarriageTape) (extra : Wiring) (wiring text : List ℕ) : Type 0 where
   pub told : List ℕ
   pub are_told : AreToldLines version extra 1 (lines_of wiring) told
@@ -58,14 +59,14 @@ pub record TellsProgress (version : Version) (lines : List Line) (setup : Wiring
   pub are_counts : AreCountsBefore lines plan setup (length lines) counts
   pub narrow : List ℕ
   pub are_narrow : AreNarrow lines setup (length lines) narrow
-  pub spelled : text ≡ under_heading (codes "too much in the wiring chart\n") surplus ++ narrow ++ standings_text counts
+  pub spelled : text ≡ under_heading (codes "extra in the wiring chart\n") surplus ++ narrow ++ standings_text counts
 
 -- so of what was found: nothing of a setup that is wired for the chart
 abbrev pub IsProgressText : Version → List Line → Wiring → (wiring : List ℕ) → Matching → List ℕ → Type 0
 IsProgressText version lines setup wiring (Matched plan) text = text ≡ []
 IsProgressText version lines setup wiring (Differs plan missing extra) text = TellsProgress version lines setup plan missing extra wiring text
 
--- What is found, with what is missing and too much, and how far the panel is.
+-- What is found, with what is missing and extra, and how far the panel is.
 pub record TellsWires (version : Version) (lines : List Line) (setup : Wiring) (wiring : List ℕ) (matching : Matching) (text : List ℕ)
     : Type 0 where
   pub found : List ℕ
@@ -74,27 +75,32 @@ pub record TellsWires (version : Version) (lines : List Line) (setup : Wiring) (
   pub far : IsProgressText version lines setup wiring matching progress
   pub spelled : text ≡ found ++ progress
 
--- how much is too much, if anything is
+-- how much is extra, if anything is
 abbrev pub extra_line : ℕ → List ℕ
-extra_line extra = if extra == 0 then [] else codes "too much: " ++ decimal extra ++ codes "\n"
+extra_line extra = if extra == 0 then [] else codes "extra: " ++ decimal extra ++ codes "\n"
 
--- A hint names no wire, jack or stop: how much each line of the chart lacks, how much is too much, which groups are too narrow, and which lines
--- are done, begun and not begun.
-pub record TellsHint (lines : List Line) (setup : Wiring) (plan : Lists) (missing extra : Wiring) (text : List ℕ) : Type 0 where
+-- A hint names no wire, jack or stop: how much each line of the chart lacks, how much is extra, on which lines of the wiring chart, which groups
+-- are too narrow, and which lines are done, begun and not begun.
+pub record TellsHint (version : Version) (lines : List Line) (setup : Wiring) (plan : Lists) (missing extra : Wiring)
+    (wiring text : List ℕ) : Type 0 where
   pub all : Counts
   pub counted : CountsDifferences missing extra all
   pub counts : List LineCount
   pub are_counts : AreCountsBefore lines plan setup (length lines) counts
   pub narrow : List ℕ
   pub are_narrow : AreNarrow lines setup (length lines) narrow
-  pub spelled : text ≡ counts_text counts ++ extra_line all.extra ++ narrow ++ standings_text counts
+  pub numbers : List ℕ
+  pub numbered : NumbersExtra version missing.tape extra wiring numbers
+  pub spelled : text
+      ≡ counts_text counts ++ extra_line all.extra ++ numbers_line (codes "extra in the wiring chart: ") numbers ++ narrow
+      ++ standings_text counts
 
 -- so of what was found
-abbrev pub IsHintText : List Line → Wiring → Matching → List ℕ → Type 0
-IsHintText lines setup (Matched plan) text = text ≡ codes "ok\n" ++ plan_text lines plan
-IsHintText lines setup (Differs plan missing extra) text = TellsHint lines setup plan missing extra text
+abbrev pub IsHintText : Version → List Line → Wiring → (wiring : List ℕ) → Matching → List ℕ → Type 0
+IsHintText version lines setup wiring (Matched plan) text = text ≡ codes "ok\n" ++ plan_text lines plan
+IsHintText version lines setup wiring (Differs plan missing extra) text = TellsHint version lines setup plan missing extra wiring text
 
 -- what is told of what was found
 abbrev pub IsToldText : Telling → (wiring : List ℕ) → Version → List Line → Wiring → Matching → List ℕ → Type 0
 IsToldText telling.Wires wiring version lines setup matching text = TellsWires version lines setup wiring matching text
-IsToldText telling.Hints wiring version lines setup matching text = IsHintText lines setup matching text
+IsToldText telling.Hints wiring version lines setup matching text = IsHintText version lines setup wiring matching text

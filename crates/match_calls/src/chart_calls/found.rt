@@ -7,12 +7,10 @@ ghost use Rattle.match_calls.specs.MatchTexts.Counts.{CountsDifferences};
 ghost use Rattle.panel_charts.specs.PanelChart.{IsReadBack};
 ghost use Rattle.program_io.specs.Refusals.{RefusesWiring};
 ghost use Rattle.wire_chart.specs.Below.wiring_text.WiringText.{ReadsAs};
-ghost use Rattle.match_calls.specs.ChartCalls.Counted.{TellsCounts};
 
-use crate::match_texts::{Counts, counts_of};
+use crate::match_texts::{Counts, told_counts};
 use compile407::{wired_setups_begin_reports, wired_setups_print_reports};
 use faults::Fault;
-use matching::Matching;
 use panel_charts::PanelChart;
 use panel_charts::nearest_charts::nearest_chart;
 use setups::Setup;
@@ -24,7 +22,7 @@ use wire_chart::read_setup;
 pub(crate) struct Found {
     /// Its text.
     pub(crate) text: String,
-    /// How much is missing and too much, where the panel is not wired for the chart.
+    /// How much is missing and extra, where the panel is not wired for the chart.
     pub(crate) counts: Option<Counts>,
 }
 
@@ -42,16 +40,6 @@ fn chart_of<'a>(alloc: Global, setup: &Setup) -> Result<PanelChart, Fault<'a>>
     ensures refused { IfErr result (λ told. told ≢ Fault.Memory → (text : List ℕ) × RefusesChart text told) }
 {
     Ok(nearest_chart(alloc, setup)?)
-}
-
-// How much is missing and too much, where a panel is not wired for a chart.
-fn told_counts(matching: &Matching) -> Option<Counts>
-    ensures { TellsCounts matching.now result }
-{
-    match matching {
-        Matching::Matched { .. } => None,
-        Matching::Differs { .. } => Some(counts_of(matching)),
-    }
 }
 
 /// The chart that the panel of a wiring chart is read back as.

@@ -1,23 +1,23 @@
-//! How much is missing and too much.
+//! How much is missing and extra.
 
-ghost use Rattle.match_calls.specs.MatchTexts.Counts.{AreCountsOf};
+ghost use Rattle.match_calls.specs.MatchTexts.Counts.{AreCountsOf, TellsCounts};
 
 use differences::panel_progress::forms;
 use differences::size;
 use matching::Matching;
 
-/// How much is missing and how much is too much: wires, jacks and stops, and the form, where it is another.
+/// How much is missing and how much is extra: wires, jacks and stops, and the form, where it is another.
 #[derive(Clone, Copy, Debug, PartialEq, Eq)]
 pub struct Counts {
     /// How much is missing.
     pub missing: u32,
-    /// How much is too much.
+    /// How much is extra.
     pub extra: u32,
 }
 
-/// How much is missing and too much, by what is found of a setup: the wires, jacks and stops of each difference, and one more where the
+/// How much is missing and extra, by what is found of a setup: the wires, jacks and stops of each difference, and one more where the
 /// form is not that of the chart. Nothing, where the setup is wired for the chart.
-pub fn counts_of(matching: &Matching) -> Counts
+pub(crate) fn counts_of(matching: &Matching) -> Counts
     ensures { AreCountsOf matching.now result }
 {
     match matching {
@@ -32,5 +32,15 @@ pub fn counts_of(matching: &Matching) -> Counts
                 extra: size(extra) + forms,
             }
         }
+    }
+}
+
+/// How much is missing and extra, where a setup is not wired for the chart.
+pub fn told_counts(matching: &Matching) -> Option<Counts>
+    ensures { TellsCounts matching.now result }
+{
+    match matching {
+        Matching::Matched { .. } => None,
+        Matching::Differs { .. } => Some(counts_of(matching)),
     }
 }

@@ -1,4 +1,4 @@
-//! Writing what is missing, and what is too much.
+//! Writing what is missing, and what is extra.
 
 ghost use Rattle.std.specs.Prelude.{◌≡◌, ◌++◌, Contains, IfOk, OnOk, length};
 ghost use Rattle.std.specs.String.{string_bytes};

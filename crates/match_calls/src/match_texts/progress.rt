@@ -7,6 +7,7 @@ ghost use Rattle.matching.specs.Answers.{IsMatchingOf};
 
 use crate::match_texts::counts::counts_of;
 use crate::match_texts::missing::write_form_beside;
+use crate::match_texts::numbers::{extra_numbers, write_numbers};
 use crate::match_texts::plan::write_group;
 use crate::match_texts::telling::Telling;
 use crate::match_texts::text::{match_text, write_under_heading, write_wired};
@@ -20,7 +21,7 @@ use std::alloc::{AllocError, Global};
 use wire_chart::Version;
 
 #[tactic(auto, using(crate::proofs::MatchTexts::Far::extra_listed))]
-// The lines of a wiring chart that are too much; `missing` and `extra` are the two differences.
+// The lines of a wiring chart that are extra; `missing` and `extra` are the two differences.
 fn extra_text(
     alloc: Global,
     version: Version,
@@ -69,7 +70,7 @@ fn narrow_text(alloc: Global, chart: &Chart, setup: &Setup) -> Result<String, Al
 }
 
 #[tactic(auto, using(crate::proofs::MatchTexts::Far::progress_told))]
-// How far a panel is, by what was found of it: which lines of its wiring chart are too much, and which lines of the chart are done. Nothing
+// How far a panel is, by what was found of it: which lines of its wiring chart are extra, and which lines of the chart are done. Nothing
 // of one that is wired for the chart.
 fn progress_text(
     alloc: Global,
@@ -93,7 +94,7 @@ fn progress_text(
             let narrow = narrow_text(alloc, chart, setup)?;
             let counts = line_counts(alloc, chart, plan, setup)?;
             let mut text = String::new(alloc);
-            write_under_heading(&mut text, "too much in the wiring chart\n", &surplus)?;
+            write_under_heading(&mut text, "extra in the wiring chart\n", &surplus)?;
             text.push_str(narrow.as_str())?;
             write_standings(alloc, &mut text, counts.as_slice())?;
             Ok(text)
@@ -102,7 +103,7 @@ fn progress_text(
 }
 
 #[tactic(auto, using(crate::proofs::MatchTexts::Far::wires_told))]
-// What is found, with what is missing and too much, and how far the panel is.
+// What is found, with what is missing and extra, and how far the panel is.
 fn wires_text(
     alloc: Global,
     version: Version,
@@ -120,26 +121,27 @@ fn wires_text(
     Ok(text)
 }
 
-// Writes how much is too much, if anything is.
+// Writes how much is extra, if anything is.
 fn write_extra(text: &mut String, extra: u32) -> Result<(), AllocError>
     ensures { OnOk result (string_bytes text.new ≡ string_bytes text.old ++ extra_line extra) }
 {
     if extra == 0 {
         return Ok(());
     }
-    push_between(text, "too much: ", extra, "\n")
+    push_between(text, "extra: ", extra, "\n")
 }
 
-#[tactic(auto, using(crate::proofs::MatchTexts::Far::hint_told))]
-// What is found, in lines of the chart and counts alone.
+// What is found, in lines and counts alone.
 fn hint_text(
     alloc: Global,
+    version: Version,
     chart: &Chart,
     setup: &Setup,
+    wiring: &[u8],
     matching: &Matching,
 ) -> Result<String, AllocError>
     requires { IsMatchingOf chart.now.lines setup.now matching.now }
-    ensures { IfOk result (λ text. IsHintText chart.now.lines setup.now matching.now (string_bytes text)) }
+    ensures { IfOk result (λ text. IsHintText version chart.now.lines setup.now wiring.now matching.now (string_bytes text)) }
 {
     match matching {
         Matching::Matched { plan } => {
@@ -147,12 +149,18 @@ fn hint_text(
             write_wired(&mut text, chart, plan)?;
             Ok(text)
         }
-        Matching::Differs { plan, .. } => {
+        Matching::Differs {
+            plan,
+            missing,
+            extra,
+        } => {
             let narrow = narrow_text(alloc, chart, setup)?;
             let counts = line_counts(alloc, chart, plan, setup)?;
+            let numbers = extra_numbers(alloc, version, missing, extra, wiring)?;
             let mut text = String::new(alloc);
             write_counts(&mut text, counts.as_slice())?;
             write_extra(&mut text, counts_of(matching).extra)?;
+            write_numbers(&mut text, "extra in the wiring chart: ", numbers.as_slice())?;
             text.push_str(narrow.as_str())?;
             write_standings(alloc, &mut text, counts.as_slice())?;
             Ok(text)
@@ -162,11 +170,11 @@ fn hint_text(
 
 /// What is found of a setup beside a chart, as text. `matching` is what was found, and `wiring` the text of the setup.
 ///
-/// With wires it is what [`match_text`] tells, and, if the setup is not wired for the chart, how far it is: under `too much in the wiring
-/// chart` each line of `wiring` that is too much, as `line 14: WIRE FR.5 GE.4.3.1`, then each counter group that is named for a total and too narrow
+/// With wires it is what [`match_text`] tells, and, if the setup is not wired for the chart, how far it is: under `extra in the wiring chart`
+/// each line of `wiring` that is extra, as `line 14: WIRE FR.5 GE.4.3.1`, then each counter group that is named for a total and too narrow
 /// for it, as `line 8: group 3.1 is too narrow: 4 positions are needed`, and then which lines of the chart are `done`, `begun` and `not begun`.
-/// A hint tells of such a setup how much each line of the chart lacks, as `line 8: missing 2 of 27`, how much is too much, and the same of groups
-/// and of lines of the chart. Its only refusal is memory.
+/// A hint tells of such a setup how much each line of the chart lacks, as `line 8: missing 2 of 27`, how much is extra, on which lines of
+/// `wiring`, as `extra in the wiring chart: line 14`, and the same of groups and of lines of the chart. Its only refusal is memory.
 pub fn told_text(
     alloc: Global,
     telling: Telling,
@@ -182,6 +190,6 @@ pub fn told_text(
 {
     match telling {
         Telling::Wires => wires_text(alloc, version, chart, setup, wiring, matching),
-        Telling::Hints => hint_text(alloc, chart, setup, matching),
+        Telling::Hints => hint_text(alloc, version, chart, setup, wiring, matching),
     }
 }

@@ -44,7 +44,7 @@ pub(crate) fn write_wired(text: &mut String, chart: &Chart, plan: &Plan) -> Resu
 /// What is found of a setup beside a chart, as text. Where the setup is wired for the chart: `ok`, and a line for each total with its
 /// counter by the plan, as `line 12: counter 6.1`. Else those lines, then `missing` and under it, for each line of the chart that asks for
 /// something that the setup has not, its number and the sentence of its row, the form if it is another, and these stops, jacks and wires;
-/// then `too much` and the form, stops, jacks and wires that the chart does not ask for. A heading under which nothing would stand is left
+/// then `extra` and the form, stops, jacks and wires that the chart does not ask for. A heading under which nothing would stand is left
 /// out. A wire that several lines ask for stands under each. They are spelled as in a wiring chart in a version of the language. `matching`
 /// is what was found of the setup and the chart. Its only refusal is memory.
 pub fn match_text(
@@ -69,7 +69,7 @@ pub fn match_text(
             let lacking = missing_text(alloc, version, chart, plan, setup)?;
             write_under_heading(&mut text, "missing\n", &lacking)?;
             let surplus = surplus_text(alloc, version, missing, extra)?;
-            write_under_heading(&mut text, "too much\n", &surplus)?;
+            write_under_heading(&mut text, "extra\n", &surplus)?;
         }
     }
     Ok(text)
