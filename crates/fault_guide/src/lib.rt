@@ -1,6 +1,6 @@
 //! The guide to faults: for each number that a fault line can have the fault's name, its cause, its cure and an example.
 //!
-//! [`fault_entry`] finds the entry of a number. The words are a table in the code, and docs/FAULTS.md is checked against it.
+//! [`fault_entry`] finds the entry of a number. The words are a table in the code; `bench/faults-page` sees that docs/FAULTS.md has the same.
 #![tactic(auto)]
 
 mod entry;

@@ -1,4 +1,4 @@
-//! The table of faults: what docs/FAULTS.md says of each, without its marks. `bench/faults-page` compares the two.
+//! The table of faults: what docs/FAULTS.md says of each, without its marks, and an example. `bench/faults-page` compares page and table.
 
 ghost use Rattle.std.specs.Prelude.{◌≡◌, ◌+◌, ◌<◌, ◌≤◌, length};
 
@@ -13,11 +13,11 @@ pub struct FaultEntry {
     pub cause: &'static str,
     /// What helps.
     pub cure: &'static str,
-    /// A small input that has the fault; empty where the page shows none.
+    /// A small input that has the fault, which the page doesn't show; empty if there is none.
     pub example: &'static str,
 }
 
-// What docs/FAULTS.md says of a fault beside its number.
+// What is said of a fault beside its number: its name, cause and cure, as docs/FAULTS.md has them, and an example.
 struct Words {
     name: &'static str,
     cause: &'static str,
@@ -64,7 +64,7 @@ static CHART_TEXTS: [Words; 4] = [
     Words {
         name: "NoFirstLine",
         cause: "the first line is neither CHART407 1 nor CHART407 2",
-        cure: "put one of them there; not even an empty line or a byte order mark may come before it; or the files are in the wrong order",
+        cure: "put one of them there; not even an empty line or a byte order mark may come before it; or the files are in the wrong order; or this is a wiring chart, as replay, chart and check --all take",
         example: "an empty file",
     },
     Words {
@@ -221,8 +221,8 @@ static CARDS: [Words; 3] = [
     },
     Words {
         name: "DoesNotFit",
-        cause: "the total of amount N for the group of level L that ends with card K has more digits than its TOTAL line says, the first such total: by the last card of its group, then by level, the lowest first, then by the line of the chart",
-        cure: "give the total more digits (16 at most, 15 with a sign column), or divide the group; what the sum was on the way doesn't count",
+        cause: "the total of amount N for the group of level L that ends with card K has more digits than its TOTAL line says. Of several the first is told: by the last card of its group, then by the lower level, then by the line of the chart",
+        cure: "give the total more digits (16 at most, 15 with a sign column), or divide the group; what the sum was on the way doesn't count; check --all tells how large the total is",
         example: "FIELD A AMOUNT 1 1 0; TOTAL 4 1 A 1 over two cards of 5",
     },
 ];
@@ -259,14 +259,14 @@ static UNFIT_LINES: [Words; 4] = [
 static CAPACITIES: [Words; 7] = [
     Words {
         name: "Counters",
-        cause: "totals want A counter groups of W positions or more, and the machine has B. A total that needs more than 8 positions wants two groups of 8, and so counts as two at each width. The widths are asked from 8 down to 3",
+        cause: "totals want A counter groups of W positions or more, and the machine has B. A total that needs more than 8 positions wants two groups of 8, and so counts as two at each width. Of several widths the largest is told",
         cure: "print a total in fewer digits, so that one group does, or a narrower one (a signed total needs one position more than its digits), or drop a total",
         example: "",
     },
     Words {
         name: "Pilots",
-        cause: "more than 16 amounts with a sign rule stand on DETAIL or TOTAL lines",
-        cure: "drop the sign rule of amounts that are never negative, or leave amounts out; one amount counts once, on however many lines it stands",
+        cause: "more than 16 amounts with a sign column stand on DETAIL or TOTAL lines",
+        cure: "drop the sign column of amounts that are never negative, or leave amounts out; an amount counts once, even if it stands on several lines",
         example: "",
     },
     Words {
@@ -289,8 +289,8 @@ static CAPACITIES: [Words; 7] = [
     },
     Words {
         name: "Splits",
-        cause: "more than 16 DETAIL amounts have their sign over one of their own columns. On the machine as it is, fault 62 comes first, since each of them wants a pilot too",
-        cure: "drop the sign rule of amounts that are never negative, or leave amounts out; one amount counts once, on however many lines it stands",
+        cause: "more than 16 DETAIL amounts have their sign column among their own columns. Fault 62 comes before it, since each also wants one of the 16 pilots",
+        cure: "drop the sign column of amounts that are never negative, or punch signs in columns of their own",
         example: "",
     },
     Words {
@@ -369,14 +369,14 @@ static EXPLANATIONS: [Words; 2] = [
 static MATCHES: [Words; 2] = [
     Words {
         name: "Unwired",
-        cause: "no plan is found by which the panel is wired for the chart: A wires, jacks and stops are missing and B are too much, by the plan that is printed; another form counts once as missing and once as too much",
-        cure: "wire what stands under missing, by the line of the chart that asks for it, and take out what stands under too much. Where all wires of a total seem wrong, the group that they name is too narrow for it, and match says so, as line 8: group 3.1 is too narrow: 4 positions are needed; or of two coupled ones the lower digits stand in the one with the higher number. Where those of another part do, look whether its first wires name a part that another thing has too",
+        cause: "no plan is found by which the panel is wired for the chart: by the plan that is printed, A wires, jacks and stops are missing and B are extra; another form counts as one missing and one extra",
+        cure: "wire what stands under missing, and take out what stands under extra. If all wires of a total seem wrong, look at its counter groups: one is too narrow, and match says so, as line 8: group 3.1 is too narrow: 4 positions are needed; or of two coupled ones the one with the higher number has the lower digits. If all wires of another part seem wrong, look whether its first wires name a part that serves something else too",
         example: "run407 match my.chart my.wiring where the wiring chart lacks a wire",
     },
     Words {
         name: "PrintsOtherwise",
         cause: "besides, the panel prints the deck otherwise than one that is wired for the chart; line L of page P is the first that differs",
-        cure: "besides what is said of 94, look at the two explanations that are printed last, of the first wheel that differs on that line: where they part, there is the wire that is missing or too much",
+        cure: "besides what is said of 94, look at the two explanations that are printed last, of the first wheel that differs on that line: where they part, there is the wire that is missing or extra",
         example: "run407 match --deck my.deck my.chart my.wiring where the wiring chart lacks a wire that the deck needs",
     },
 ];
