@@ -21,7 +21,7 @@ use Rattle.wanted.specs.declared.total.Total.{Total}
 
 -- what is wrong where a capacity is exceeded
 abbrev pub capacity_words : CapacityFault → List ℕ
-capacity_words (exceeded.Counters width wanted there) = codes "totals want more counter groups of so many positions, or more, than the machine has"
+capacity_words (exceeded.Counters width wanted there) = codes "the totals want more counter groups of this width or a larger one than there are"
 capacity_words (exceeded.Pilots wanted there) = codes "more amounts with a sign column are printed than the machine has pilots"
 capacity_words (exceeded.Comparing wanted there) = codes "the CONTROL lines name more columns than the machine compares"
 capacity_words (exceeded.StorageWidth line) = codes "the text on this TOTAL line has more than the 16 columns of a storage unit"

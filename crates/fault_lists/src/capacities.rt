@@ -33,7 +33,7 @@ fn capacity_words(fault: CapacityFault) -> &'static str
 {
     match fault {
         CapacityFault::Counters { .. } =>
-            "totals want more counter groups of so many positions, or more, than the machine has",
+            "the totals want more counter groups of this width or a larger one than there are",
         CapacityFault::Pilots { .. } =>
             "more amounts with a sign column are printed than the machine has pilots",
         CapacityFault::Comparing { .. } =>

@@ -9,11 +9,11 @@ use Rattle.line_slips.specs.declared.slip.Slip.TheVariants as slip
 unfoldable pub slip_words : Slip → List ℕ
 slip_words slip.Tab = codes "there is a tab, and only spaces divide words"
 slip_words slip.Comment = codes "a chart has no comments"
-slip_words slip.Quotation = codes "literals stand in apostrophes, '..', and a chart has ASCII characters alone"
+slip_words slip.Quotation = codes "literals stand in apostrophes, '..', and a chart has only ASCII characters"
 slip_words slip.Unclosed = codes "an apostrophe is not closed"
-slip_words slip.Small = codes "a chart has capital letters alone"
+slip_words slip.Small = codes "a chart has only capital letters"
 slip_words slip.Unprintable = codes "this character can't be printed: a chart has capital letters, digits, blanks and & - / . $ * , % # @"
-slip_words slip.Other = codes "the words of this line are those of no form of a chart"
+slip_words slip.Other = codes "no line of a chart has these words in this order"
 
 -- whether a word, in capital or small letters, is one in capital letters
 abbrev pub is_word : List ℕ → List ℕ → Bool

@@ -15,12 +15,12 @@ pub(crate) fn slip_words(slip: Slip) -> &'static str
         Slip::Tab => "there is a tab, and only spaces divide words",
         Slip::Comment => "a chart has no comments",
         Slip::Quotation =>
-            "literals stand in apostrophes, '..', and a chart has ASCII characters alone",
+            "literals stand in apostrophes, '..', and a chart has only ASCII characters",
         Slip::Unclosed => "an apostrophe is not closed",
-        Slip::Small => "a chart has capital letters alone",
+        Slip::Small => "a chart has only capital letters",
         Slip::Unprintable =>
             "this character can't be printed: a chart has capital letters, digits, blanks and & - / . $ * , % # @",
-        Slip::Other => "the words of this line are those of no form of a chart",
+        Slip::Other => "no line of a chart has these words in this order",
     }
 }
 

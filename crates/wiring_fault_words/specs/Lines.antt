@@ -16,9 +16,9 @@ use Rattle.wiring_fault_words.specs.HubWords.{around, hub_cure, hub_wrong, six}
 abbrev pub byte_words : Slip → List ℕ
 byte_words slip.Tab = codes "there is a tab, and only spaces divide words"
 byte_words slip.Comment = codes "a wiring chart has no comments"
-byte_words slip.Quotation = codes "a wiring chart has no quotation marks, and ASCII characters alone"
+byte_words slip.Quotation = codes "a wiring chart has no quotation marks, and only ASCII characters"
 byte_words slip.Unclosed = codes "a wiring chart has no apostrophes"
-byte_words slip.Small = codes "a wiring chart has capital letters alone"
+byte_words slip.Small = codes "a wiring chart has only capital letters"
 byte_words slip.Unprintable = codes "this character stands on no line: a wiring chart has capital letters, digits, points and spaces"
 byte_words slip.Other = codes "this is no line of a wiring chart"
 

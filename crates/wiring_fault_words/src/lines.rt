@@ -19,9 +19,9 @@ fn byte_words(slip: Slip) -> &'static str
     match slip {
         Slip::Tab => "there is a tab, and only spaces divide words",
         Slip::Comment => "a wiring chart has no comments",
-        Slip::Quotation => "a wiring chart has no quotation marks, and ASCII characters alone",
+        Slip::Quotation => "a wiring chart has no quotation marks, and only ASCII characters",
         Slip::Unclosed => "a wiring chart has no apostrophes",
-        Slip::Small => "a wiring chart has capital letters alone",
+        Slip::Small => "a wiring chart has only capital letters",
         Slip::Unprintable =>
             "this character stands on no line: a wiring chart has capital letters, digits, points and spaces",
         Slip::Other => "this is no line of a wiring chart",

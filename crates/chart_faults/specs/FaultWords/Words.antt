@@ -104,23 +104,36 @@ mark_words false = codes " has no sign column, and here a MARK"
 unfoldable pub print_words : Statement → List ℕ
 print_words (says.Print print.Detail) = codes "no DETAIL line puts anything on the line of a card"
 print_words (says.Print print.Group) = codes "no TOTAL line puts anything on a total line"
-print_words (says.Space line spacing) = codes "no line puts anything on this kind of line"
-print_words (says.After line action) = codes "no line puts anything on this kind of line"
+print_words (says.Space line spacing) = codes "nothing is printed on this kind of line: no DETAIL or TOTAL item names it"
+print_words (says.After line action) = codes "nothing is printed on this kind of line: no DETAIL or TOTAL item names it"
 print_words other = codes "PRINT GROUP prints totals alone"
 
 -- a channel without a TAPE line
 unfoldable pub no_tape : ℕ → List ℕ
 no_tape channel = codes "channel " ++ decimal channel ++ codes " has no TAPE line"
 
+-- whether a channel can have stops
+abbrev pub has_stops : ℕ → Bool
+has_stops channel = nat_le 2 channel && nat_le channel 11
+
 -- a skip to a channel that no TAPE line is of, or that can't have one
 unfoldable pub skip_words : ℕ → List ℕ
-skip_words channel =
-    if nat_le 2 channel && nat_le channel 11 then no_tape channel else codes "a skip goes to a channel from 2 to 11"
+skip_words channel = if has_stops channel then no_tape channel else codes "a skip goes to a channel from 2 to 11"
 
--- a channel without a TAPE line, or with stops that the form doesn't have
+-- a channel that can't have stops
+unfoldable pub no_stops : ℕ → List ℕ
+no_stops channel = codes "the channel is " ++ decimal channel ++ codes ", and only 2 to 11 have stops"
+
+-- what is wrong with a TAPE line: its channel, or its stops
+unfoldable pub stops_words : ℕ → List ℕ
+stops_words channel =
+    if has_stops channel then codes "the stops don't rise, or one of them is not on the form" else no_stops channel
+
+-- a skip to a channel without a TAPE line, or a TAPE line at fault
 unfoldable pub tape_words : Statement → List ℕ
 tape_words (says.After line (after.Skip channel)) = skip_words channel
-tape_words other = codes "these are no rising stops of a channel 2 to 11 on the form"
+tape_words (says.Tape channel stops) = stops_words channel
+tape_words other = []
 
 -- how many counter groups a total takes
 unfoldable pub group_words : Bool → List ℕ
@@ -221,6 +234,6 @@ cure rule.WheelRange = codes "the machine has wheels 1 to 120: move the item"
 cure rule.WheelOverlap = codes "move one of them"
 cure rule.WheelClash = codes "an amount shares wheels only with amounts of the same last wheel, decimals and mark: move one of them"
 cure rule.PrintKind = codes "add what is missing, or take the line out"
-cure rule.Form = codes "FORM P T O: T is 1 or more, the headings from T on end above O, O is P - 2 at most, and P is 144 at most"
+cure rule.Form = codes "FORM P T O: P is at most 144, O at most P - 2, and T is 1 or more and less than O; the headings begin on T and must end above O"
 cure rule.Tape = codes "write a TAPE line of a channel 2 to 11, its stops in rising order on the form"
 cure rule.CoupledMark = codes "write COUPLED where a total needs more than 8 positions, and only there"

@@ -268,7 +268,7 @@ fn print_words(statement: &Statement) -> &'static str
         Statement::Print(Printing::Detail) => "no DETAIL line puts anything on the line of a card",
         Statement::Print(Printing::Group) => "no TOTAL line puts anything on a total line",
         Statement::Space { .. } | Statement::After { .. } => {
-            "no line puts anything on this kind of line"
+            "nothing is printed on this kind of line: no DETAIL or TOTAL item names it"
         }
         _ => "PRINT GROUP prints totals alone",
     }
@@ -282,19 +282,51 @@ fn write_no_tape<W: Write>(out: &mut W, channel: u16) -> io::Result<()>
     write_between(out, "channel ", channel, " has no TAPE line")
 }
 
+/// Whether a channel can have stops.
+fn has_stops(channel: u16) -> bool
+    ensures { result ≡ law.has_stops channel }
+{
+    2 <= channel && channel <= 11
+}
+
 /// Writes that no TAPE line is of the channel of a skip, or can be.
 #[tactic(auto, unfolding(crate::specs::FaultWords::Words::skip_words))]
 fn write_skip<W: Write>(out: &mut W, channel: u16) -> io::Result<()>
     ensures { OnOk result (Appends (W.contents out.old) (W.contents out.new) (law.skip_words channel)) }
 {
-    if 2 <= channel && channel <= 11 {
+    if has_stops(channel) {
         write_no_tape(out, channel)
     } else {
         out.write_all(b"a skip goes to a channel from 2 to 11")
     }
 }
 
-/// Writes that a channel has no TAPE line, or stops that the form doesn't have.
+/// Writes that a channel can't have stops.
+#[tactic(auto, unfolding(crate::specs::FaultWords::Words::no_stops))]
+fn write_no_stops<W: Write>(out: &mut W, channel: u16) -> io::Result<()>
+    ensures { OnOk result (Appends (W.contents out.old) (W.contents out.new) (law.no_stops channel)) }
+{
+    write_between(
+        out,
+        "the channel is ",
+        channel,
+        ", and only 2 to 11 have stops",
+    )
+}
+
+/// Writes what is wrong with a TAPE line: its channel, or its stops.
+#[tactic(auto, unfolding(crate::specs::FaultWords::Words::stops_words))]
+fn write_stops<W: Write>(out: &mut W, channel: u16) -> io::Result<()>
+    ensures { OnOk result (Appends (W.contents out.old) (W.contents out.new) (law.stops_words channel)) }
+{
+    if has_stops(channel) {
+        out.write_all(b"the stops don't rise, or one of them is not on the form")
+    } else {
+        write_no_stops(out, channel)
+    }
+}
+
+/// Writes what is wrong with a skip to a channel without a TAPE line, or with a TAPE line.
 #[tactic(auto, unfolding(crate::specs::FaultWords::Words::tape_words))]
 fn write_tape<W: Write>(out: &mut W, statement: &Statement) -> io::Result<()>
     ensures { OnOk result (Appends (W.contents out.old) (W.contents out.new) (law.tape_words statement.now)) }
@@ -304,7 +336,8 @@ fn write_tape<W: Write>(out: &mut W, statement: &Statement) -> io::Result<()>
             action: After::Skip(channel),
             ..
         } => write_skip(out, *channel),
-        _ => out.write_all(b"these are no rising stops of a channel 2 to 11 on the form"),
+        Statement::Tape { channel, .. } => write_stops(out, *channel),
+        _ => Ok(()),
     }
 }
 
@@ -602,7 +635,7 @@ pub(crate) fn cure(rule: Rule) -> &'static str
             "an amount shares wheels only with amounts of the same last wheel, decimals and mark: move one of them",
         Rule::PrintKind => "add what is missing, or take the line out",
         Rule::Form =>
-            "FORM P T O: T is 1 or more, the headings from T on end above O, O is P - 2 at most, and P is 144 at most",
+            "FORM P T O: P is at most 144, O at most P - 2, and T is 1 or more and less than O; the headings begin on T and must end above O",
         Rule::Tape =>
             "write a TAPE line of a channel 2 to 11, its stops in rising order on the form",
         Rule::CoupledMark =>
