@@ -40,16 +40,17 @@ impl Units {
     ghost use Rattle.std.specs.List.{filter};
     ghost use Rattle.setups.specs.Wiring.{Wiring};
     ghost use Rattle.net.specs.Nets.{IsNetOf};
-    ghost use Rattle.machine.specs.Cycles.{CycleRun, line_of};
+    ghost use Rattle.machine.specs.Cycles.{CycleRun, Reached, line_of};
     ghost use Rattle.machine.specs.Feeds.{FeedStep, due_in, taken};
     ghost use Rattle.machine.specs.Ends.{EndsCycle, GoesOn};
     ghost use Rattle.machine.specs.Kept.{FeedsPast, GainsKept, GainsSome, IsElsewhere, IsKept, KeepsPoints, PlacedInFeed, is_on};
+    ghost use Rattle.machine.specs.Keeps.{Keeps};
     ghost use Rattle.machine.specs.Steady.{AreSteady};
 
-    // A cycle, and its points in their order.
-    pub(crate) fn run_cycle_kept(&mut self, net: &Net, cycle: Cycle) -> [KeptPoint; 14]
-        ensures ran { (wiring : Wiring) → IsNetOf wiring net.now → CycleRun wiring cycle self.old self.new }
-        ensures ends { EndsCycle cycle self.old self.new }
+    // The points of a cycle, kept in their order.
+    pub(crate) fn run_points_kept(&mut self, net: &Net, cycle: Cycle) -> [KeptPoint; 14]
+        ensures reached { (wiring : Wiring) → IsNetOf wiring net.now → Reached wiring cycle 14 self.old self.new }
+        ensures keeps { Keeps cycle self.old self.new }
         ensures kept { (wiring : Wiring) → IsNetOf wiring net.now → KeepsPoints wiring cycle self.old 14 result }
     {
         let closed = self.closed(cycle);
@@ -61,6 +62,16 @@ impl Units {
             points[place] = self.keep_point(&closed, cycle, POINTS[place]);
             self.step(net, &closed, cycle, POINTS[place]);
         }
+        points
+    }
+
+    // A cycle, and its points in their order.
+    pub(crate) fn run_cycle_kept(&mut self, net: &Net, cycle: Cycle) -> [KeptPoint; 14]
+        ensures ran { (wiring : Wiring) → IsNetOf wiring net.now → CycleRun wiring cycle self.old self.new }
+        ensures ends { EndsCycle cycle self.old self.new }
+        ensures kept { (wiring : Wiring) → IsNetOf wiring net.now → KeepsPoints wiring cycle self.old 14 result }
+    {
+        let points = self.run_points_kept(net, cycle);
         self.end_cycle(cycle);
         points
     }

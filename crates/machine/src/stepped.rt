@@ -1,5 +1,6 @@
 //! The machine, taken through its cycles one by one.
 
+use crate::kept::KeptPoint;
 use crate::units::Units;
 use card_code::Card;
 use counters::Group;
@@ -43,6 +44,7 @@ impl SteppedMachine {
     ghost use Rattle.setups.specs.Wiring.{Wiring};
     ghost use Rattle.net.specs.Nets.{IsNetOf};
     ghost use Rattle.machine.specs.Cycles.{Reached, line_of};
+    ghost use Rattle.machine.specs.Kept.{KeepsPoints};
     ghost use Rattle.machine.specs.Machine.{ended};
     ghost use Rattle.machine.specs.Runs.{cycle_due, moved_on};
     ghost use Rattle.machine.specs.Stepped.{IsUnbegun};
@@ -79,6 +81,17 @@ impl SteppedMachine {
         ensures net { self.new.net ≡ self.old.net }
     {
         self.units.run_points(&self.net, &mut RowSets::new(), cycle);
+    }
+
+    /// The fourteen points of a cycle, as [`SteppedMachine::run_points`] has them, and what emitted at each and which contacts were closed.
+    pub fn run_points_kept(&mut self, cycle: Cycle) -> [KeptPoint; 14]
+        ensures reached { (wiring : Wiring) → IsNetOf wiring self.old.net
+            → Reached wiring cycle 14 self.old.machine self.new.machine }
+        ensures kept { (wiring : Wiring) → IsNetOf wiring self.old.net
+            → KeepsPoints wiring cycle self.old.machine 14 result }
+        ensures net { self.new.net ≡ self.old.net }
+    {
+        self.units.run_points_kept(&self.net, cycle)
     }
 
     /// The end of a cycle, behind its points.

@@ -1,5 +1,6 @@
 pub mod Below
 pub mod EachPicture
+pub mod EmptySets
 pub mod GrownSets
 pub mod ImpulsedLaws
 pub mod KindRows

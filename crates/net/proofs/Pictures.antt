@@ -19,7 +19,7 @@ use Rattle.net.specs.declared.contacts.TheConstants.{CONTACTS}
 use Rattle.net.proofs.PanelContacts.{IsInRuns, contact_by_place, contact_numbered, in_runs, of_runs}
 
 -- a hub's test, by its place
-has_hub-place : (set : HubSet) (hub : Hub) (place : ℕ) → number_of hub ≡ Some (place + 1) → has_hub set hub ≡ has_place set.words place
+pub has_hub-place : (set : HubSet) (hub : Hub) (place : ℕ) → number_of hub ≡ Some (place + 1) → has_hub set hub ≡ has_place set.words place
 has_hub-place set hub place is =
     let index : place + 1 - 1 ≡ place = omega arith in
     ap (has_number set) is ∙ ap (has_place set.words) index

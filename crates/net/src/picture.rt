@@ -47,7 +47,8 @@ impl Picture {
     /// Whether it is the empty set.
     #[inline(always)]
     pub fn is_empty(&self) -> bool
-        ensures { result ≡ true → (hub : Hub) → has_hub self.now hub ≡ false }
+        ensures empty { result ≡ true → (hub : Hub) → has_hub self.now hub ≡ false }
+        ensures told { ((hub : Hub) → has_hub self.now hub ≡ false) → result ≡ true }
     {
         !bit_sets::meet(&self.words, &self.words)
     }
