@@ -108,7 +108,7 @@ module _ (wiring : Wiring) (row : CardRow) (entry : Hub) (now : MachineState) wh
       (first-of-two _ _ (ap (λ (c : Option (List ℕ)). is_punched_at c row column) stands ∙ both.0)) both.1
 
 -- in a card cycle
-in-card-cycle : (wiring : Wiring) (deck : List (List ℕ)) (card : ℕ) (row : CardRow) (entry : Hub) (hole : Hole) (now : MachineState)
+pub in-card-cycle : (wiring : Wiring) (deck : List (List ℕ)) (card : ℕ) (row : CardRow) (entry : Hub) (hole : Hole) (now : MachineState)
     → CardsStand deck (suc card) now → hole_to wiring deck (suc card) row entry ≡ Some hole
     → IsImpulsed wiring (emits now Card (Row row)) (closes now Card (Row row)) entry
 in-card-cycle wiring deck card row entry hole now stand told = by (has-hole wiring deck (suc card) row entry hole told)

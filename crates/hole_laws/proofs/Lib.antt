@@ -1,2 +1,6 @@
 mod Impulses
 mod Asks
+mod Brushes
+mod Differences
+mod Cards
+mod Reasons

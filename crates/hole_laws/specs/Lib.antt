@@ -1,2 +1,3 @@
 pub mod Impulses
 pub mod Asks
+pub mod Reasons

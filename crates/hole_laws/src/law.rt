@@ -1,7 +1,8 @@
-//! That holes impulse the entries to which wires lead from them.
+//! That holes impulse the entries to which wires lead from them, and so call levels.
 
 ghost use Rattle.hole_laws.specs.Asks.{CyclesImpulseEntries};
 ghost use Rattle.hole_laws.specs.Impulses.{HolesImpulseEntries};
+ghost use Rattle.hole_laws.specs.Reasons.{HolesTellCompared, LinesTellDifferences, ReasonsHold};
 
 /// If a hole of a card is told for a row and an entry, then the entry is impulsed when that row passes, in the cycle of the run in which it is
 /// told. The function does nothing: its contract is the law.
@@ -13,4 +14,23 @@ pub fn holes_impulse_entries()
 /// nothing: its contract is the law.
 pub fn cycles_impulse_entries()
     ensures { CyclesImpulseEntries }
+{}
+
+/// If wires lead to an entry of a comparing position from brushes alone, then a hole is told for it and a row exactly if it is impulsed when
+/// that row of the card passes. The function does nothing: its contract is the law.
+pub fn holes_tell_compared()
+    ensures { HolesTellCompared }
+{}
+
+/// If wires lead to both of its entries from brushes alone, then a comparing position emits at the closing point of a card's cycle exactly if
+/// a line is told of it. The function does nothing: its contract is the law.
+pub fn lines_tell_differences()
+    ensures { LinesTellDifferences }
+{}
+
+/// If a text is told why a program cycle of a run runs, then in the cycle that read its card no card stood behind that card, or the comparing
+/// position that is told emitted and called the level that is told; and the level of the program cycle is one of those that run with the card.
+/// The function does nothing: its contract is the law.
+pub fn reasons_hold()
+    ensures { ReasonsHold }
 {}
