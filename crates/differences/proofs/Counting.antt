@@ -1,5 +1,5 @@
 -- The wires, jacks and stops of a setup, counted hub by hub, place by place and line by line.
-use Rattle.std.proofs.Common.{◌≡◌, ◌↔◌, ◌∙◌, ℕ, ◌+◌, ◌<◌, ◌≤◌, ◌⊎◌, inl, inr, Some, None, true, false, true≢false, refl, sym, ap, subst, arith}
+use Rattle.std.proofs.Common.{◌≡◌, ◌∙◌, ℕ, ◌+◌, ◌≤◌, inl, inr, Some, None, true, false, true≢false, refl, sym, ap, subst, arith}
 use Rattle.std.proofs.lemmas.Option.{none-some, same_Some}
 use Rattle.hubs.specs.Hubs.{number_of}
 use Rattle.hubs.specs.Jacks.{is_jack_in_range, jack_place}

@@ -1,14 +1,15 @@
 -- A difference put together from its tape, its jacks and its wires.
-use Rattle.std.proofs.Common.{◌≡◌, ◌↔◌, ◌∙◌, ℕ, ◌⊎◌, inl, inr, Result, Ok, Err, true, false, true≢false, IsTrue, sym, ap}
+use Rattle.std.proofs.Common.{◌≡◌, ◌↔◌, ◌∙◌, Result, Ok, Err, false, true≢false, IsTrue, sym, ap}
 use Rattle.std.specs.Result.{OnOk}
 use Rattle.hubs.specs.declared.hub.Hub.{Hub}
 use Rattle.hubs.specs.declared.jack.Jack.{Jack}
 use Rattle.jacks_and_tape.specs.HelperJacks.{Plugs}
 use Rattle.line_wires.specs.HelperAdds.{Adds}
 use Rattle.setups.specs.Tapes.{CarriageTape, has_stop}
-use Rattle.setups.specs.Wiring.{HasJack, HasWire, Wiring, is_plugged}
-use Rattle.differences.specs.Differences.{IsDifference, LacksJack, LacksStop, LacksWire}
-use Rattle.differences.specs.Helper.{IsTapeDifference, LacksHole}
+use Rattle.setups.specs.Wiring.{HasWire, Wiring, is_plugged}
+use Rattle.wire_gen.proofs.Whole.{all-there}
+use Rattle.differences.specs.Differences.{IsDifference, LacksJack, LacksWire}
+use Rattle.differences.specs.Helper.{IsTapeDifference}
 
 -- what follows where a call gave no error
 pub on_ok : {T E : Type 0} (r : Result T E) (P Q : Type 0) → (P → Q) → OnOk r P → OnOk r Q
@@ -24,21 +25,10 @@ pub joined : (one other fresh mid left : Wiring) (tape : CarriageTape) → ((exi
     → Plugs (LacksJack one other) fresh mid → Adds (LacksWire one other) mid left → IsDifference one other left
 joined one other fresh mid left tape no_wires no_jacks taped is plugs adds =
     let same : left.tape ≡ tape = adds.tape ∙ plugs.tape ∙ taped in
+    let there = all-there no_wires no_jacks plugs adds in
     record {
-      wires = λ exit entry. (
-        λ has. elim ((adds.wires exit entry).0 has) [
-          | inl before ↦ absurd (no_wires exit entry ((plugs.wires exit entry).0 before))
-          | inr lacks ↦ lacks
-        ],
-        λ lacks. (adds.wires exit entry).1 (inr lacks),
-      );
-      jacks = λ jack. (
-        λ has. elim ((plugs.jacks jack).0 (sym (adds.jacks jack) ∙ has)) [
-          | inl before ↦ absurd (true≢false (sym before ∙ no_jacks jack))
-          | inr lacks ↦ lacks
-        ],
-        λ lacks. adds.jacks jack ∙ (plugs.jacks jack).1 (inr lacks),
-      );
+      wires = there.0;
+      jacks = there.1;
       stops = λ c l. (
         λ has. let hole = (is.stops c l).0 (sym (ap (λ t. has_stop t c l) same) ∙ has) in
             record { there = hole.there; lacking = hole.lacking },

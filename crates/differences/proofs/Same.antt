@@ -1,5 +1,5 @@
 -- Two setups are the same where neither has anything that the other has not, and their tapes have one form.
-use Rattle.std.proofs.Common.{◌≡◌, ◌↔◌, ◌∙◌, ℕ, ◌+◌, Bool, true, false, true≢false, IsTrue, nat_eq, ◌&&◌, refl, sym, subst, arith}
+use Rattle.std.proofs.Common.{◌≡◌, ◌↔◌, ◌∙◌, ℕ, Bool, true, false, true≢false, IsTrue, nat_eq, ◌==◌, ◌&&◌, refl, sym, subst, arith}
 use Rattle.std.proofs.lemmas.Bool.{and_from, and_parts, eq-eqb, eqb-true}
 use Rattle.hubs.specs.declared.hub.Hub.{Hub}
 use Rattle.hubs.specs.declared.jack.Jack.{Jack}
@@ -7,7 +7,7 @@ use Rattle.setups.specs.Tapes.{has_stop}
 use Rattle.setups.proofs.WiredLemmas.{HasWire-is_wired}
 use Rattle.setups.specs.Wiring.{IsSameSetup, Wiring, is_plugged, is_wired}
 use Rattle.differences.specs.Differences.{HasSize, IsDifference, LacksJack, LacksStop, LacksWire}
-use Rattle.differences.specs.HelperSizes.{SameForm}
+use Rattle.differences.specs.PanelProgress.Forms.{same_form}
 use Rattle.differences.proofs.Counts.{many-zero, zero-many}
 
 -- what a test decides is so where it isn't lacking
@@ -36,10 +36,12 @@ size-zero is wires jacks stops size =
 
 -- from the sizes of the differences to the setups
 pub same-from : (one other missing extra : Wiring) → IsDifference one other missing → IsDifference other one extra → HasSize missing 0
-    → HasSize extra 0 → SameForm one.tape other.tape → IsSameSetup one other
+    → HasSize extra 0 → same_form one.tape other.tape ≡ true → IsSameSetup one other
 same-from one other missing extra less more nothing no_more form =
     let a = none-lacking less nothing in
     let b = none-lacking more no_more in
+    let lines = and_parts (one.tape.lines == other.tape.lines) _ form in
+    let others = and_parts (one.tape.first == other.tape.first) _ lines.1 in
     record {
       wires = λ exit entry. (
         λ has. decided (is_wired one exit entry) (HasWire-is_wired one exit entry) (λ not. b.0 exit entry (record { there = has; lacking = not })),
@@ -48,9 +50,9 @@ same-from one other missing extra less more nothing no_more form =
       );
       jacks = λ jack. plugged_alike jack (is_plugged one jack) (is_plugged other jack) refl refl;
       tape = record {
-        lines = form.lines;
-        first = form.first;
-        overflow = form.overflow;
+        lines = sym (eqb-true one.tape.lines other.tape.lines lines.0);
+        first = sym (eqb-true one.tape.first other.tape.first others.0);
+        overflow = sym (eqb-true one.tape.overflow other.tape.overflow others.1);
         stops = λ c l. alike c l (has_stop one.tape c l) (has_stop other.tape c l) refl refl;
       };
     }
@@ -82,7 +84,7 @@ same-extra {one} {other} same is =
 
 -- so a test of the form and of the two sizes tells whether the setups are the same
 pub same-tells : (one other missing extra : Wiring) (form : Bool) (m n : ℕ) → IsDifference one other missing → IsDifference other one extra
-    → HasSize missing m → HasSize extra n → IsTrue form ↔ SameForm one.tape other.tape
+    → HasSize missing m → HasSize extra n → form ≡ same_form one.tape other.tape
     → IsTrue (form && (nat_eq m 0 && nat_eq n 0)) ↔ IsSameSetup one other
 same-tells one other missing extra form m n less more size size_too tells = (there, back)
   where
@@ -91,9 +93,15 @@ same-tells one other missing extra form m n less more size size_too tells = (the
         let outer = and_parts form _ is in
         let inner = and_parts (nat_eq m 0) (nat_eq n 0) outer.1 in
         same-from one other missing extra less more (subst (HasSize missing) (eqb-true m 0 inner.0) size)
-        (subst (HasSize extra) (eqb-true n 0 inner.1) size_too) (tells.0 outer.0)
+        (subst (HasSize extra) (eqb-true n 0 inner.1) size_too) (sym tells ∙ outer.0)
 
     back : IsSameSetup one other → IsTrue (form && (nat_eq m 0 && nat_eq n 0))
     back same =
-        and_from form _ (tells.1 (record { lines = same.tape.lines; first = same.tape.first; overflow = same.tape.overflow }))
+        and_from form _ (tells ∙ one_form)
         (and_from (nat_eq m 0) (nat_eq n 0) (eq-eqb m 0 (same-missing same less size)) (eq-eqb n 0 (same-extra same more size_too)))
+      where
+        one_form : same_form one.tape other.tape ≡ true
+        one_form =
+            and_from (one.tape.lines == other.tape.lines) _ (eq-eqb one.tape.lines other.tape.lines (sym same.tape.lines))
+            (and_from (one.tape.first == other.tape.first) _ (eq-eqb one.tape.first other.tape.first (sym same.tape.first))
+            (eq-eqb one.tape.overflow other.tape.overflow (sym same.tape.overflow)))

@@ -1,6 +1,6 @@
 -- The stops of a difference, line by line and channel by channel.
-use Rattle.std.proofs.Common.{◌≡◌, ◌∙◌, ◌≢◌, ℕ, ◌+◌, ◌<◌, ◌≤◌, ◌⊎◌, inl, inr, Bool, true, false, eqb, refl, sym, ap, arith, true≢false, List, []}
-use Rattle.std.proofs.lemmas.Bool.{cases_lt, false_from_ne_true}
+use Rattle.std.proofs.Common.{◌≡◌, ◌∙◌, ℕ, ◌+◌, ◌<◌, ◌≤◌, ◌⊎◌, inl, inr, true, sym, ap, arith, []}
+use Rattle.std.proofs.lemmas.Bool.{cases_lt}
 use Rattle.jacks_and_tape.specs.HelperJacks.{Punches}
 use Rattle.setups.specs.Tapes.{AddsStop, CarriageTape, HasStops, IsCarriageTape, has_stop}
 use Rattle.differences.specs.Helper.{IsTapeDifference, LacksHole, LacksIn, LacksInBefore, LacksInLower, LacksStopAt}

@@ -5,7 +5,7 @@ use Rattle.hubs.specs.Jacks.{jack_place}
 use Rattle.hubs.specs.declared.hub.Hub.{Hub}
 use Rattle.hubs.specs.declared.jack.Jack.{Jack}
 use Rattle.setups.specs.Tapes.{CarriageTape, has_stop}
-use Rattle.setups.specs.Wiring.{Wiring, HasWire, HasJack}
+use Rattle.setups.specs.Wiring.{Wiring, HasWire}
 use Rattle.differences.specs.Differences.{LacksJack, LacksWire}
 
 -- a wire that is lacking leads from an exit to the entry of a number

@@ -56,9 +56,3 @@ pub record StopIn (tape : CarriageTape) (channel : ℕ) (stop : ℕ × ℕ) : Ty
 pub record StopBefore (tape : CarriageTape) (channel : ℕ) (stop : ℕ × ℕ) : Type 0 where
   pub lower : stop.0 < channel
   pub there : has_stop tape stop.0 stop.1 ≡ true
-
--- two tapes have one form
-pub record SameForm (one other : CarriageTape) : Type 0 where
-  pub lines : other.lines ≡ one.lines
-  pub first : other.first ≡ one.first
-  pub overflow : other.overflow ≡ one.overflow

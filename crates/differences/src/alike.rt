@@ -2,22 +2,13 @@
 
 ghost use Rattle.std.specs.Prelude.{◌≡◌, ◌↔◌, ◌&&◌, IsTrue, nat_eq};
 ghost use Rattle.differences.specs.Differences.{HasSize, IsDifference};
-ghost use Rattle.differences.specs.HelperSizes.{SameForm};
 ghost use Rattle.setups.specs.Wiring.{IsSameSetup};
 
+use crate::panel_progress::is_same_form;
 use crate::sizes::size;
-use setups::{Setup, Tape};
+use setups::Setup;
 
-// Whether two tapes have one form.
-fn is_same_form(one: &Tape, other: &Tape) -> bool
-    ensures { IsTrue result ↔ SameForm one.now other.now }
-{
-    one.lines() == other.lines()
-        && one.first() == other.first()
-        && one.overflow() == other.overflow()
-}
-
-// Whether tapes have one form, and nothing is missing and nothing too much.
+// Whether tapes have one form, and nothing is missing and nothing extra.
 fn has_none(same_form: bool, missing: u32, extra: u32) -> bool
     ensures { result ≡ (same_form && (nat_eq missing 0 && nat_eq extra 0)) }
 {

@@ -71,17 +71,18 @@ symbol_words received wheel Uncontrolled = uncontrolled_words (character_of rece
 symbol_words received wheel (From giver) = giver_words giver wheel ++ kept_words (character_of received)
 symbol_words received wheel Absent = codes " without significance: it is blank"
 
--- what it did to what a SUPPRESS wheel received
-abbrev pub unchanged_words : List ℕ
-unchanged_words = codes " that received no zero alone: it changes nothing"
+-- what a SUPPRESS wheel does with what is no zero alone
+abbrev pub unchanged_words : ℕ → List ℕ
+unchanged_words character = codes " blanks only a zero, and this is none: " ++ kept_words character
 
+-- what it did to what a SUPPRESS wheel received
 abbrev pub given_words : List Bool → ℕ → Giver → List ℕ
 given_words received wheel giver =
-    if is_zero received then giver_words giver wheel ++ codes "the zero prints" else unchanged_words
+    if is_zero received then giver_words giver wheel ++ codes "the zero prints" else unchanged_words (character_of received)
 
 abbrev pub absent_words : List Bool → List ℕ
 absent_words received =
-    if is_zero received then codes " without significance: the zero is blank" else unchanged_words
+    if is_zero received then codes " without significance: the zero is blank" else unchanged_words (character_of received)
 
 abbrev pub suppress_words : List Bool → ℕ → Significance → List ℕ
 suppress_words received wheel Uncontrolled = uncontrolled_words (character_of received)

@@ -1,6 +1,6 @@
 -- The notes on a way: what its exit stands for, and why each contact on it was closed. They are told by what is kept of the points of the
 -- cycle.
-use Rattle.std.specs.Prelude.{ℕ, ◌+◌, ◌-◌, ◌==◌, ◌||◌, List, [], ◌∷◌, ◌++◌, Option, Some, None, codes, decimal, if◌then◌else◌}
+use Rattle.std.specs.Prelude.{ℕ, ◌+◌, ◌-◌, ◌==◌, ◌||◌, List, [], ◌∷◌, ◌++◌, codes, decimal, if◌then◌else◌}
 use Rattle.std.specs.List.{flat_map, range_with_len}
 use Rattle.hubs.specs.HubText.{hub_text}
 use Rattle.hubs.specs.declared.hub.Group.{Group}
@@ -8,7 +8,7 @@ use Rattle.hubs.specs.declared.hub.Hub.{Hub}
 use Rattle.hubs.specs.declared.hub.Hub.TheVariants.{FR, SR, GX, CO, BAN, BAT, PIN, PIT, SX, IX, CSD, CSZ, EM}
 use Rattle.machine.specs.Kept.{kept_at}
 use Rattle.machine.specs.declared.kept.KeptPoint.{KeptPoint}
-use Rattle.net.specs.Cycles.{level_number, ordinal_number}
+use Rattle.net.specs.Cycles.{level_number}
 use Rattle.net.specs.HubSets.{has_hub}
 use Rattle.net.specs.declared.cycle.Cycle.{Cycle}
 use Rattle.net.specs.declared.cycle.Cycle.TheVariants.{RunIn, Card, Prog, Head}

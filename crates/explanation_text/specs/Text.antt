@@ -1,16 +1,13 @@
 -- The first lines of an explanation, which tell the place, the character and the cycle, and the line of a way.
-use Rattle.std.specs.Prelude.{◌≡◌, ℕ, ◌+◌, ◌-◌, ◌<◌, ◌==◌, Bool, true, false, List, [], ◌∷◌, ◌++◌, Option, Some, None, Vec, codes, decimal, length, String, slice_index_or, if◌then◌else◌, nat_lt}
+use Rattle.std.specs.Prelude.{ℕ, ◌+◌, ◌-◌, ◌==◌, Bool, true, false, List, [], ◌∷◌, ◌++◌, codes, decimal, if◌then◌else◌, nat_lt}
 use Rattle.std.specs.List.{flat_map}
-use Rattle.std.specs.declared.alloc.Global.{Global}
 use Rattle.hubs.specs.HubText.{hub_text}
 use Rattle.hubs.specs.declared.hub.Hub.{Hub}
 use Rattle.hubs.specs.declared.hub.Hub.TheVariants.{CO, BAN, BAT, PIN, PIT, IX, CSD, CSZ}
 use Rattle.net.specs.Cycles.{level_number, ordinal_number}
 use Rattle.net.specs.declared.cycle.Cycle.{Cycle}
 use Rattle.net.specs.declared.cycle.Cycle.TheVariants.{RunIn, Card, Prog, Head}
-use Rattle.setups.specs.Wiring.{Wiring}
 use Rattle.explanations.specs.declared.explanation.Explanation.{Explanation}
-use Rattle.explanation_text.specs.Asked.{asked_lines}
 
 -- whether a hub is the exit of a contact: then the contact leads to it, and no wire
 abbrev pub is_contact_exit : Hub → Bool

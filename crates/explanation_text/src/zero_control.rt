@@ -3,7 +3,7 @@
 ghost use Rattle.std.specs.Prelude.{◌≡◌, ◌++◌, OnOk};
 ghost use Rattle.std.specs.String.{string_bytes};
 ghost use Rattle.print_unit.specs.ZeroControl.{is_zero};
-ghost use Rattle.explanation_text.specs.Closing.{absent_words, given_words, giver_words, kept_words, links_words, suppress_line, suppress_told, suppress_words, symbol_line, symbol_told, symbol_words, uncontrolled_words, zero_control_line};
+ghost use Rattle.explanation_text.specs.Closing.{absent_words, given_words, giver_words, kept_words, links_words, suppress_line, suppress_told, suppress_words, symbol_line, symbol_told, symbol_words, unchanged_words, uncontrolled_words, zero_control_line};
 
 use crate::closing::character_of;
 use explanations::{Explanation, Giver, Significance, count_received};
@@ -117,7 +117,7 @@ fn write_suppress_words(
     match significance {
         Significance::Uncontrolled => write_uncontrolled(text, character_of(received)),
         Significance::From(giver) => write_given(text, received, wheel, giver),
-        Significance::Absent => text.push_str(absent_words(received)),
+        Significance::Absent => write_absent(text, received),
     }
 }
 
@@ -131,21 +131,29 @@ fn write_given(
     ensures { OnOk result (string_bytes text.new ≡ string_bytes text.old ++ given_words received.now wheel giver) }
 {
     if !is_zero(received) {
-        return text.push_str(" that received no zero alone: it changes nothing");
+        return write_unchanged(text, character_of(received));
     }
     write_giver(text, giver, wheel)?;
     text.push_str("the zero prints")
 }
 
 // What a SUPPRESS wheel without significance does.
-fn absent_words(received: &[bool; 12]) -> &'static str
-    ensures { result.now ≡ absent_words received.now }
+fn write_absent(text: &mut String, received: &[bool; 12]) -> Result<(), AllocError>
+    ensures { OnOk result (string_bytes text.new ≡ string_bytes text.old ++ absent_words received.now) }
 {
     if is_zero(received) {
-        " without significance: the zero is blank"
+        text.push_str(" without significance: the zero is blank")
     } else {
-        " that received no zero alone: it changes nothing"
+        write_unchanged(text, character_of(received))
     }
+}
+
+// What a SUPPRESS wheel does with what is no zero alone.
+fn write_unchanged(text: &mut String, character: u8) -> Result<(), AllocError>
+    ensures { OnOk result (string_bytes text.new ≡ string_bytes text.old ++ unchanged_words character) }
+{
+    text.push_str(" blanks only a zero, and this is none: ")?;
+    text.push_str(kept_words(character))
 }
 
 // That the cycle has no zero control.

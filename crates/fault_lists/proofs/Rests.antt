@@ -16,7 +16,7 @@ use Rattle.chart_faults.specs.FaultWords.Entries.{entries_text}
 module _ {U E : Type 0} (result : Result U E) (source : List ℕ) where
   -- the rules that lines break whatever other lines say
   pub own_written : (chart : Chart) (list own : List BrokenRule) (old new : Option (List ℕ)) → HasAllListed chart list → AllPairs ComesBefore list
-      → own ≡ filter (is_own chart.end) list → OnOk result (Appends old new (entries_text source chart own)) → OnOk result (ListsOwn source chart old new)
+      → own ≡ filter (is_own chart) list → OnOk result (Appends old new (entries_text source chart own)) → OnOk result (ListsOwn source chart old new)
   own_written chart list own old new all ordered is = by result
     where
       by : (r : Result U E) → OnOk r (Appends old new (entries_text source chart own)) → OnOk r (ListsOwn source chart old new)

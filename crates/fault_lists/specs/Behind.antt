@@ -11,8 +11,13 @@ use Rattle.chart_text.specs.ChartText.{Reads}
 use Rattle.chart_text.specs.TextFaults.{HasTextFault}
 use Rattle.chart_text.specs.declared.fault.TextFault.TheVariants as text
 use Rattle.charts.specs.Chart.{Chart}
+use Rattle.charts.specs.declared.chart.Line.{Line}
+use Rattle.charts.specs.declared.statement.After.TheVariants as after
+use Rattle.charts.specs.declared.statement.Statement.{Statement}
+use Rattle.charts.specs.declared.statement.Statement.TheVariants as says
 use Rattle.fault_lists.specs.TextEntries.{no_end_entry}
 use Rattle.chart_faults.specs.FaultWords.Entries.{entries_text}
+use Rattle.chart_faults.specs.FaultWords.Parts.{has_stops}
 use Rattle.line_marks.specs.Below.card_code.Deck.{line_at}
 use Rattle.line_marks.specs.Emptied.{emptied}
 use Rattle.line_marks.specs.Spans.{word}
@@ -26,24 +31,34 @@ emptied_lines (line ∷ lines) source = emptied_lines lines (emptied line source
 abbrev pub with_end : List ℕ → List ℕ
 with_end source = source ++ codes "\nEND\n"
 
--- whether a rule asks for another line: it may be one that has no form
-abbrev pub asks_for_another : Rule → Bool
-asks_for_another rule.UnknownName = true
-asks_for_another rule.NoControl = true
-asks_for_another rule.TotalTextNotControl = true
-asks_for_another rule.PrintKind = true
-asks_for_another other = false
+-- whether a line asks for a TAPE line: it skips to a channel that can have stops; a TAPE line of any other channel would itself be wrong
+abbrev pub asks_for_tape : Statement → Bool
+asks_for_tape (says.After line (after.Skip channel)) = has_stops channel
+asks_for_tape other = false
 
--- Whether a line breaks a rule whatever the lines of no form say: the rule asks for no other line, and it isn't told at END, as what is missing is.
-abbrev pub is_own : (end : ℕ) → BrokenRule → Bool
-is_own end broken = not (broken.line == end) && not (asks_for_another broken.rule)
+-- whether the line with a number does
+abbrev pub asks_for_tape_at : List Line → ℕ → Bool
+asks_for_tape_at lines number = list_any (λ line. (line.number == number) && asks_for_tape line.statement) lines
+
+-- whether the line with a number, which breaks a rule, asks by it for another line: that may be one that has no form
+abbrev pub asks_for_another : List Line → ℕ → Rule → Bool
+asks_for_another lines number rule.UnknownName = true
+asks_for_another lines number rule.NoControl = true
+asks_for_another lines number rule.TotalTextNotControl = true
+asks_for_another lines number rule.PrintKind = true
+asks_for_another lines number rule.Tape = asks_for_tape_at lines number
+asks_for_another lines number other = false
+
+-- Whether a line breaks a rule whatever the lines of no form say: it asks for no other line, and the rule isn't told at END, as what is missing is.
+abbrev pub is_own : Chart → BrokenRule → Bool
+is_own chart broken = not (broken.line == chart.end) && not (asks_for_another chart.lines broken.line broken.rule)
 
 -- What is told of a chart that is left: all rules that its lines break so, in order.
 pub record TellsOwn (source : List ℕ) (chart : Chart) (told : List ℕ) : Type 0 where
   pub list : List BrokenRule
   pub all : HasAllListed chart list
   pub ordered : AllPairs ComesBefore list
-  pub spelled : told ≡ entries_text source chart (filter (is_own chart.end) list)
+  pub spelled : told ≡ entries_text source chart (filter (is_own chart) list)
 
 -- so it was written
 pub record ListsOwn (source : List ℕ) (chart : Chart) (old new : Option (List ℕ)) : Type 0 where

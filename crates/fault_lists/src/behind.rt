@@ -12,36 +12,61 @@ use crate::rules::write_rules;
 use chart_faults::{BrokenRule, broken_rules};
 use chart_rules::Rule;
 use chart_text::{TextFault, read_chart};
-use charts::RawChart;
+use charts::{After, Line, RawChart, Statement};
 use faults::{Fault, unprinted};
 use line_marks::{emptied, line_numbered, word};
 use std::alloc::{AllocError, Global};
 use std::io::Write;
 
-/// Whether a rule asks for another line, which may be one that has no form.
-fn asks_for_another(rule: Rule) -> bool
-    ensures { result ≡ law.asks_for_another rule }
+/// Whether a line asks for a TAPE line: it skips to a channel that can have stops. A TAPE line of any other channel would itself be wrong.
+fn asks_for_tape(statement: &Statement) -> bool
+    ensures { result ≡ law.asks_for_tape statement.now }
 {
-    match rule {
-        Rule::UnknownName | Rule::NoControl | Rule::TotalTextNotControl | Rule::PrintKind => true,
+    match statement {
+        Statement::After {
+            action: After::Skip(channel),
+            ..
+        } => 2 <= *channel && *channel <= 11,
         _ => false,
     }
 }
 
-/// Whether a line breaks a rule whatever the lines of no form say. `end` is the number of END.
-fn is_own(end: u16, broken: BrokenRule) -> bool
-    ensures { result ≡ law.is_own end broken }
+/// Whether the line with a number does.
+fn asks_for_tape_at(lines: &[Line], number: u16) -> bool
+    ensures { result ≡ law.asks_for_tape_at lines.now number }
 {
-    broken.line != end && !asks_for_another(broken.rule)
+    lines.iter().any(|line| line.number == number && asks_for_tape(&line.statement))
 }
 
-/// The rules of a list that lines break whatever the lines of no form say.
-fn own_rules(alloc: Global, end: u16, list: &[BrokenRule]) -> Result<Vec<BrokenRule>, AllocError>
-    ensures { IfOk result (λ own. own.items ≡ filter (law.is_own end) list.now) }
+/// Whether the line with a number, which breaks a rule, asks by it for another line, which may be one that has no form.
+fn asks_for_another(lines: &[Line], broken: BrokenRule) -> bool
+    ensures { result ≡ law.asks_for_another lines.now broken.line broken.rule }
+{
+    match broken.rule {
+        Rule::UnknownName | Rule::NoControl | Rule::TotalTextNotControl | Rule::PrintKind => true,
+        Rule::Tape => asks_for_tape_at(lines, broken.line),
+        _ => false,
+    }
+}
+
+/// Whether a line breaks a rule whatever the lines of no form say.
+fn is_own(raw: &RawChart, broken: BrokenRule) -> bool
+    ensures { result ≡ law.is_own raw.now broken }
+{
+    broken.line != raw.end() && !asks_for_another(raw.lines(), broken)
+}
+
+/// The rules of a list that lines of a chart break whatever the lines of no form say.
+fn own_rules(
+    alloc: Global,
+    raw: &RawChart,
+    list: &[BrokenRule],
+) -> Result<Vec<BrokenRule>, AllocError>
+    ensures { IfOk result (λ own. own.items ≡ filter (law.is_own raw.now) list.now) }
 {
     list.iter()
         .copied()
-        .filter(|broken| is_own(end, *broken))
+        .filter(|broken| is_own(raw, *broken))
         .collect(alloc)
 }
 
@@ -56,7 +81,7 @@ fn list_own<'a, W: Write>(
     ensures broken_off { IfErr result IsBrokenOff }
 {
     let list = broken_rules(alloc, raw)?;
-    let own = own_rules(alloc, raw.end(), list.as_slice())?;
+    let own = own_rules(alloc, raw, list.as_slice())?;
     write_rules(alloc, out, text, raw, own.as_slice())
 }
 

@@ -10,6 +10,8 @@ use Rattle.setups.specs.Tapes.{CarriageTape, IsFormed, IsStop, has_stop}
 use Rattle.setups.specs.Wiring.{Wiring, HasJack, SameWires}
 use Rattle.hubs.specs.declared.jack.Jack.{Jack}
 use Rattle.hubs.specs.declared.jack.Jack.TheVariants as jack
+use Rattle.jacks_and_tape.specs.declared.panel_jacks.WheelJack.{WheelJack}
+use Rattle.jacks_and_tape.specs.declared.panel_jacks.WheelJack.TheVariants as of_wheel
 use Rattle.wiring_table.specs.Below.report.ChartForm.{form_of, prints_totals, stops_of}
 use Rattle.wiring_table.specs.Figures.{IsFigure, mark_wheel, free_digits}
 
@@ -18,6 +20,12 @@ pub record Plugs (jacks_of : Jack → Type 0) (old new : Wiring) : Type 0 where
   pub jacks : (each : Jack) → HasJack new each ↔ (HasJack old each ⊎ jacks_of each)
   pub wires : SameWires old new
   pub tape : new.tape ≡ old.tape
+
+-- the jack of a wheel
+abbrev pub jack_of : WheelJack → ℕ → Jack
+jack_of of_wheel.Link = jack.Link
+jack_of of_wheel.Suppress = jack.Suppress
+jack_of of_wheel.Symbol = jack.Symbol
 
 -- the jacks of one kind of wheels from one on and before another
 pub data Ranged (make : ℕ → Jack) (from end : ℕ) : Jack → Type 0 where

@@ -55,11 +55,10 @@ pub(crate) fn punch_channel(tape: &mut Tape, channel: u8, stops: &[u16])
 }
 
 // The tape of a chart whose form and stops are those of a tape.
-fn punched_tape(chart: &Chart) -> Tape
-    requires { HasTape chart.now.lines }
-    ensures { IsTapeOf chart.now.lines result }
+fn punched_tape(lines: &[Line]) -> Tape
+    requires { HasTape lines.now }
+    ensures { IsTapeOf lines.now result }
 {
-    let lines = chart.lines();
     let (long, first, overflow) = form_of(lines);
     let mut tape = Tape::new(long as u8, first as u8, overflow as u8, &[]).unwrap();
     for channel in 2..12 {
@@ -72,7 +71,6 @@ fn punched_tape(chart: &Chart) -> Tape
 pub fn tape_of(chart: &Chart) -> Tape
     ensures { IsTapeOf chart.now.lines result }
 {
-    // What is known of every chart is told with its lines: its form and its stops are those of a tape.
-    let _lines = chart.lines();
-    punched_tape(chart)
+    let lines = chart.lines();
+    punched_tape(lines)
 }

@@ -5,7 +5,8 @@ ghost use Rattle.line_rules.specs.PrintRules.Items.{figure_width};
 ghost use Rattle.hubs.specs.declared.jack.Jack.TheVariants as jack;
 ghost use Rattle.wiring_table.specs.Below.report.ChartForm as form;
 ghost use Rattle.wiring_table.specs.Figures.{mark_wheel, free_digits};
-ghost use Rattle.jacks_and_tape.specs.HelperJacks.{FigureJacks, FiguresAre, IsGoodFigure, JacksBefore, LineJacks, Plugs, Ranged, TotalsBelow};
+ghost use Rattle.jacks_and_tape.specs.HelperJacks.{FigureJacks, FiguresAre, IsGoodFigure, JacksBefore, LineJacks, Plugs, Ranged, TotalsBelow, jack_of};
+ghost use Rattle.hubs.specs.Jacks.{is_jack_in_range};
 ghost use Rattle.wiring_table.specs.Jacks.{ChartJack};
 ghost use Rattle.charts.specs.declared.chart.Line.{Line};
 
@@ -13,41 +14,41 @@ use chart_rules::{Chart, Figure};
 use charts::{Line, Printing, Statement};
 use hubs::Jack;
 use line_rules::print_rules::heading_count;
+use line_wires::mark_wheel;
 use setups::Setup;
 
-// Plugs LINK on the wheels from one on and before another.
-fn plug_links(setup: &mut Setup, from: u8, end: u8)
-    requires from { 1 ≤ from }
-    requires order { from ≤ end }
-    requires end { end ≤ 121 }
-    ensures { Plugs (Ranged jack.Link from end) setup.old setup.new }
+/// A jack that each wheel has, for zero control.
+#[derive(Clone, Copy)]
+pub(crate) enum WheelJack {
+    /// LINK.
+    Link,
+    /// SUPPRESS.
+    Suppress,
+    /// SYMBOL.
+    Symbol,
+}
+
+// The jack of a wheel.
+fn jack_of(which: WheelJack, wheel: u8) -> Jack
+    ensures value { result ≡ jack_of which wheel }
+    ensures in_range { 1 ≤ wheel → wheel ≤ 120 → is_jack_in_range result ≡ true }
 {
-    for wheel in from..end {
-        setup.plug(Jack::Link(wheel));
+    match which {
+        WheelJack::Link => Jack::Link(wheel),
+        WheelJack::Suppress => Jack::Suppress(wheel),
+        WheelJack::Symbol => Jack::Symbol(wheel),
     }
 }
 
-// Plugs SUPPRESS on the wheels from one on and before another.
-fn plug_suppresses(setup: &mut Setup, from: u8, end: u8)
+// Plugs a jack of the wheels from one on and before another.
+fn plug_wheels(setup: &mut Setup, which: WheelJack, from: u8, end: u8)
     requires from { 1 ≤ from }
     requires order { from ≤ end }
     requires end { end ≤ 121 }
-    ensures { Plugs (Ranged jack.Suppress from end) setup.old setup.new }
+    ensures { Plugs (Ranged (jack_of which) from end) setup.old setup.new }
 {
     for wheel in from..end {
-        setup.plug(Jack::Suppress(wheel));
-    }
-}
-
-// Plugs SYMBOL on the wheels from one on and before another.
-fn plug_symbols(setup: &mut Setup, from: u8, end: u8)
-    requires from { 1 ≤ from }
-    requires order { from ≤ end }
-    requires end { end ≤ 121 }
-    ensures { Plugs (Ranged jack.Symbol from end) setup.old setup.new }
-{
-    for wheel in from..end {
-        setup.plug(Jack::Symbol(wheel));
+        setup.plug(jack_of(which, wheel));
     }
 }
 
@@ -126,21 +127,11 @@ fn plug_figure(setup: &mut Setup, wheel: usize, figure: Figure)
     let from = wheel as u8;
     let (digits, decimals) = (figure.digits as u8, figure.decimals as u8);
     let end = (wheel + figure.width()) as u8;
-    plug_links(setup, from + 1, end);
-    plug_suppresses(setup, from, from + digits - decimals.max(1));
-    plug_symbols(setup, after_units(from, digits, decimals), end);
-}
-
-// The wheel after the units of an amount.
-fn after_units(wheel: u8, digits: u8, decimals: u8) -> u8
-    requires { mark_wheel wheel digits decimals ≤ 121 }
-    ensures { result ≡ mark_wheel wheel digits decimals }
-{
-    if decimals > 0 {
-        wheel + digits + 1
-    } else {
-        wheel + digits
-    }
+    plug_wheels(setup, WheelJack::Link, from + 1, end);
+    let free = digits - decimals.max(1);
+    plug_wheels(setup, WheelJack::Suppress, from, from + free);
+    let mark = mark_wheel(wheel as u16, figure.digits, figure.decimals);
+    plug_wheels(setup, WheelJack::Symbol, mark as u8, end);
 }
 
 // Plugs zero control on the wheels of the amount of a line, if it puts one on a line of the report.

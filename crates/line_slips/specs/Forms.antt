@@ -5,19 +5,25 @@ use Rattle.line_slips.specs.Near.{is_near}
 use Rattle.line_slips.specs.declared.slip.Slip.{Slip}
 use Rattle.line_slips.specs.declared.slip.Slip.TheVariants as slip
 
--- what is wrong by a slip
-unfoldable pub slip_words : Slip → List ℕ
-slip_words slip.Tab = codes "there is a tab, and only spaces divide words"
-slip_words slip.Comment = codes "a chart has no comments"
-slip_words slip.Quotation = codes "literals stand in apostrophes, '..', and a chart has only ASCII characters"
-slip_words slip.Unclosed = codes "an apostrophe is not closed"
-slip_words slip.Small = codes "a chart has only capital letters"
-slip_words slip.Unprintable = codes "this character can't be printed: a chart has capital letters, digits, blanks and & - / . $ * , % # @"
-slip_words slip.Other = codes "no line of a chart has these words in this order"
-
 -- whether a word, in capital or small letters, is one in capital letters
 abbrev pub is_word : List ℕ → List ℕ → Bool
 is_word word capitals = str_eq_ignore_ascii_case word capitals
+
+-- what is wrong with a line whose bytes tell no slip, by its first word
+unfoldable pub first_words : List ℕ → List ℕ
+first_words word =
+    if is_word word (codes "CHART407") then codes "only the first line of a chart begins with CHART407"
+    else codes "no line of a chart has these words in this order"
+
+-- what is wrong by a slip, with a line whose first word this is
+unfoldable pub slip_words : Slip → List ℕ → List ℕ
+slip_words slip.Tab word = codes "there is a tab, and only spaces divide words"
+slip_words slip.Comment word = codes "a chart has no comments"
+slip_words slip.Quotation word = codes "literals stand in apostrophes, '..', and a chart has only ASCII characters"
+slip_words slip.Unclosed word = codes "an apostrophe is not closed"
+slip_words slip.Small word = codes "a chart has only capital letters"
+slip_words slip.Unprintable word = codes "this character can't be printed: a chart has capital letters, digits, blanks and & - / . $ * , % # @"
+slip_words slip.Other word = first_words word
 
 -- the first word of a line that may be meant
 unfoldable pub near_word : List ℕ → List ℕ
@@ -49,4 +55,5 @@ form_words word =
     else if is_word word (codes "FORM") then codes "FORM takes three numbers, lines, first line and overflow line: FORM 66 6 60"
     else if is_word word (codes "TAPE") then codes "TAPE takes a channel and 1 to 10 stops: TAPE 3 10 20"
     else if is_word word (codes "END") then codes "END stands alone, and nothing behind it"
+    else if is_word word (codes "CHART407") then codes "CHART407 stands on the first line already: take this line out"
     else near_word word

@@ -7,7 +7,7 @@ use Rattle.line_slips.specs.Slips.{slip_of, slip_span}
 
 -- the slip of the line, and the form that it comes nearest to
 unfoldable pub help_lines : List ℕ → List ℕ
-help_lines line = below (slip_words (slip_of line)) ++ below (form_words (word 0 line))
+help_lines line = below (slip_words (slip_of line) (word 0 line)) ++ below (form_words (word 0 line))
 
 -- the entry of a line with a number
 unfoldable pub line_entry : ℕ → List ℕ → List ℕ

@@ -16,8 +16,9 @@ use std::io::Write;
 fn write_help<W: Write>(out: &mut W, line: &[u8]) -> io::Result<()>
     ensures { OnOk result (Appends (W.contents out.old) (W.contents out.new) (law.help_lines line.now)) }
 {
-    write_below(out, slip_words(slip_of(line)).as_bytes())?;
-    write_below(out, form_words(word(line, 0)).as_bytes())
+    let first = word(line, 0);
+    write_below(out, slip_words(slip_of(line), first).as_bytes())?;
+    write_below(out, form_words(first).as_bytes())
 }
 
 /// Writes the entry of a line with a number, one that no form of a chart derives.

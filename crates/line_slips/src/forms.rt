@@ -6,10 +6,22 @@ ghost use Rattle.line_slips.specs.Forms as law;
 use crate::near::is_near;
 use crate::slip::Slip;
 
-/// What is wrong by a slip.
+/// What is wrong with a line whose bytes tell no slip, by its first word.
+#[tactic(auto, unfolding(crate::specs::Forms::first_words))]
+fn first_words(word: &[u8]) -> &'static str
+    ensures { result.now ≡ law.first_words word.now }
+{
+    if is_word(word, b"CHART407") {
+        "only the first line of a chart begins with CHART407"
+    } else {
+        "no line of a chart has these words in this order"
+    }
+}
+
+/// What is wrong by a slip, with a line whose first word this is.
 #[tactic(auto, unfolding(crate::specs::Forms::slip_words))]
-pub(crate) fn slip_words(slip: Slip) -> &'static str
-    ensures { result.now ≡ law.slip_words slip }
+pub(crate) fn slip_words(slip: Slip, word: &[u8]) -> &'static str
+    ensures { result.now ≡ law.slip_words slip word.now }
 {
     match slip {
         Slip::Tab => "there is a tab, and only spaces divide words",
@@ -20,7 +32,7 @@ pub(crate) fn slip_words(slip: Slip) -> &'static str
         Slip::Small => "a chart has only capital letters",
         Slip::Unprintable =>
             "this character can't be printed: a chart has capital letters, digits, blanks and & - / . $ * , % # @",
-        Slip::Other => "no line of a chart has these words in this order",
+        Slip::Other => first_words(word),
     }
 }
 
@@ -90,6 +102,8 @@ pub fn form_words(word: &[u8]) -> &'static str
         "TAPE takes a channel and 1 to 10 stops: TAPE 3 10 20"
     } else if is_word(word, b"END") {
         "END stands alone, and nothing behind it"
+    } else if is_word(word, b"CHART407") {
+        "CHART407 stands on the first line already: take this line out"
     } else {
         near_word(word)
     }

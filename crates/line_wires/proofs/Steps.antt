@@ -1,6 +1,8 @@
 -- Wiring step by step: what one step adds and what the next adds are what both add.
-use Rattle.std.proofs.Common.{◌≡◌, ℕ, ◌+◌, ◌<◌, ◌≤◌, ◌⊎◌, inl, inr, refl, sym, ◌∙◌, subst, arith, true, Option, Some, None}
+use Rattle.std.proofs.Common.{◌≡◌, ℕ, ◌+◌, ◌<◌, ◌≤◌, ◌⊎◌, inl, inr, refl, sym, ap, ◌∙◌, subst, arith, true, List, Option, Some, None, length, get_or, slice_get}
 use Rattle.std.proofs.lemmas.Bool.{cases_lt}
+use Rattle.charts.specs.declared.chart.Line.{Line}
+use Rattle.charts.proofs.Listed.{place-of}
 use Rattle.hubs.specs.declared.hub.Hub.{Hub}
 use Rattle.setups.specs.Wiring.{Wiring, HasWire, AddsWire, SameJacks}
 use Rattle.card_code.specs.CardCode.{has_row, rows_of}
@@ -176,3 +178,9 @@ adds-by {X} {value} {same} {old} {new} of added e =
 -- what holds of what a line says holds of it by another name
 pub by-said : {X : Type 0} (P : X → Type 0) {said same : X} → said ≡ same → P same → P said
 by-said P e holds = subst P (sym e) holds
+
+-- the line to which a loop over the lines of a chart has come stands at its place there
+pub line-there : {lines items : List Line} {place : ℕ} {line : Line} → items ≡ lines → place < length items → line ≡ get_or items place line
+    → slice_get lines place ≡ Some line
+line-there {items = items} {place = place} {line = line} same within is =
+    ap (λ list. slice_get list place) (sym same) ∙ place-of items line place within (sym is)

@@ -3,11 +3,12 @@
 ghost use Rattle.std.specs.Prelude.{◌≡◌, ◌+◌, ◌-◌, ◌≤◌, ◌<◌, OnOk, None, Option, true, length, max};
 ghost use Rattle.wanted.specs.Below.chart_rules.HelperOnCard.{IsOnCard};
 ghost use Rattle.charts.specs.Field.{columns_of, decimals_of};
-ghost use Rattle.wiring_table.specs.Figures.{digit_wheel, mark_wheel};
+ghost use Rattle.wiring_table.specs.Figures.{mark_wheel};
 ghost use Rattle.line_wires.specs.HelperAdds.{Adds};
 ghost use Rattle.line_wires.specs.HelperRows.{TextWires, IndicatedColumn, IndicatedWires, DigitWires, DetailDigits};
 
 use crate::adding::connect;
+use crate::figures::digit_wheel;
 use charts::{ControlLevel, Field};
 use hubs::Hub;
 use plans::Plan;
@@ -75,21 +76,6 @@ pub(crate) fn wire_indicated(
     Ok(())
 }
 
-/// The wheel of a digit of an amount, by its position from the units.
-pub fn digit_wheel(wheel: u16, digits: u16, decimals: u16, position: u16) -> u8
-    requires first { 1 ≤ wheel }
-    requires last { mark_wheel wheel digits decimals ≤ 121 }
-    requires position { (1 ≤ position) × (position ≤ digits) }
-    ensures value { result ≡ digit_wheel wheel digits decimals position }
-    ensures within { (1 ≤ result) × (result ≤ 120) }
-{
-    if decimals < position {
-        (wheel + digits - position) as u8
-    } else {
-        (wheel + digits + 1 - position) as u8
-    }
-}
-
 // Wires a column to the wheel of its digit; where the sign stands in it, through the split of the line.
 fn wire_digit(
     setup: &mut Setup,
@@ -128,12 +114,12 @@ pub(crate) fn wire_digits(
     ensures { OnOk result (Adds (DetailDigits plan.now line wheel field) setup.old setup.new) }
 {
     let (end, kind) = (field.last + 1, field.kind);
-    let digits = field.columns() as u16;
+    let digits = field.columns();
     let (sign, decimals) = (kind.sign_column(), kind.decimals());
     for place in 0..digits {
         let position = place + 1;
-        let entry = digit_wheel(wheel, digits, decimals, position);
-        wire_digit(setup, plan, line, sign, end - position, entry)?;
+        let entry = digit_wheel(wheel, digits, decimals, position) as u8;
+        wire_digit(setup, plan, line, sign, end - position as u16, entry)?;
     }
     Ok(())
 }

@@ -3,7 +3,6 @@
 ghost use Rattle.std.specs.Prelude.{◌≡◌, ◌+◌, ◌≤◌, OnOk};
 ghost use Rattle.wiring_table.specs.Below.line_rules.PrintRules.Items.{mark_shown};
 ghost use Rattle.charts.specs.Field.{columns_of, decimals_of};
-ghost use Rattle.wiring_table.specs.Figures as figures;
 ghost use Rattle.line_wires.specs.HelperAdds.{Adds};
 ghost use Rattle.line_wires.specs.HelperItems.{DetailAmount, DetailMarks, DetailRanges, DetailText, DetailWires, HasFigureWheels, HasWheels, IsGoodDetail};
 ghost use Rattle.line_wires.specs.HelperRanges.{HasWheelsForMark};
@@ -11,6 +10,7 @@ ghost use Rattle.wanted.specs.Below.chart_rules.HelperOnCard.{IsOnCard};
 
 use crate::character::wire_point;
 use crate::detail::{wire_digits, wire_indicated, wire_text};
+use crate::figures::mark_wheel;
 use crate::pilot::{rule_of, wire_detail_mark};
 use charts::{DetailOption, Field, FieldKind, Mark, Name, SignRule};
 use plans::Plan;
@@ -24,18 +24,6 @@ fn mark_shown(shown: DetailOption) -> Option<Mark>
     match shown {
         DetailOption::Marked(mark) => Some(mark),
         DetailOption::Plain | DetailOption::Indicated(_) => None,
-    }
-}
-
-/// The wheel after the units of an amount, where its mark begins.
-pub fn mark_wheel(wheel: u16, digits: u16, decimals: u16) -> u16
-    requires { figures.mark_wheel wheel digits decimals ≤ 121 }
-    ensures { result ≡ figures.mark_wheel wheel digits decimals }
-{
-    if decimals > 0 {
-        wheel + digits + 1
-    } else {
-        wheel + digits
     }
 }
 
@@ -100,7 +88,7 @@ fn wire_detail_amount(
     let kind = field.kind;
     let digits = field.last + 1 - field.first;
     let (decimals, rule) = (kind.decimals(), rule_of(kind));
-    let after = mark_wheel(wheel, digits, decimals);
+    let after = mark_wheel(wheel, digits as u32, decimals) as u16;
     wire_digits(setup, plan, line, wheel, field)?;
     wire_point(setup, 4, wheel, digits, decimals)?;
     wire_detail_marks(setup, plan, name, after, rule, mark)

@@ -43,10 +43,8 @@ pub fn mark_characters(mark: Mark) -> &'static [u8]
 /// The contact of a pilot's position, 1 to 3, that is closed while the sign column of its amount tells negative: by X, while it has row 11;
 /// by NX, while it has none. That of a zero or a blank may tell so too, but its sign never shows.
 pub fn negative_side(rule: SignRule, pilot: u8, position: u8) -> Hub
-    requires pilot { (1 ≤ pilot) × (pilot ≤ 16) }
-    requires position { (1 ≤ position) × (position ≤ 3) }
     ensures value { result ≡ negative_side rule pilot position }
-    ensures exit { is_exit_hub result ≡ true }
+    ensures exit { 1 ≤ pilot → pilot ≤ 16 → 1 ≤ position → position ≤ 3 → is_exit_hub result ≡ true }
     ensures ring { carry_out_of result ≡ None }
 {
     match rule {
@@ -57,10 +55,8 @@ pub fn negative_side(rule: SignRule, pilot: u8, position: u8) -> Hub
 
 /// The contact of a pilot's position, 1 to 3, that is closed while the sign column of its amount doesn't tell negative.
 pub fn positive_side(rule: SignRule, pilot: u8, position: u8) -> Hub
-    requires pilot { (1 ≤ pilot) × (pilot ≤ 16) }
-    requires position { (1 ≤ position) × (position ≤ 3) }
     ensures value { result ≡ positive_side rule pilot position }
-    ensures exit { is_exit_hub result ≡ true }
+    ensures exit { 1 ≤ pilot → pilot ≤ 16 → 1 ≤ position → position ≤ 3 → is_exit_hub result ≡ true }
     ensures ring { carry_out_of result ≡ None }
 {
     match rule {

@@ -18,7 +18,7 @@ use wire_gen::wire;
 
 /// What is found of a setup beside a chart, of which a plan is given. `Matched` tells a plan of the chart by which the setup is wired for
 /// it, and where there is such a plan, one is found. `Differs` tells a plan by which the setup is not wired for the chart, and exactly what
-/// is missing and what is too much by this plan. If the setup differs from one that is wired for the chart by some plan only in wires that
+/// is missing and what is extra by this plan. If the setup differs from one that is wired for the chart by some plan only in wires that
 /// name no part, in jacks and in its tape, the plan told is one by which that one is wired: so exactly what was changed is told. Its only
 /// refusal is memory.
 pub fn match_setup(

@@ -1,5 +1,5 @@
 -- Which columns and wheels the panel has.
-use Rattle.std.proofs.Common.{◌≡◌, ◌≤◌, ℕ, ◌+◌, Bool, true, false, Option, Some, None, if◌then◌else◌, nat_le, option_map, refl}
+use Rattle.std.proofs.Common.{◌≡◌, ◌≤◌, ℕ, ◌+◌, Bool, true, false, Some, None, if◌then◌else◌, nat_le, option_map, refl}
 use Rattle.std.proofs.lemmas.Bool.{and_parts, leb-true}
 use Rattle.std.proofs.lemmas.Option.{none-some}
 use Rattle.hub_table.specs.Ranges.{is_within}

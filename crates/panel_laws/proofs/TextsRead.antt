@@ -1,5 +1,5 @@
 -- The texts of the line of a card are read off each panel that is wired for their chart.
-use Rattle.std.proofs.Common.{◌≡◌, ◌∙◌, ◌⊎◌, ◌<◌, ◌≤◌, ◌||◌, inl, inr, refl, sym, ap, subst, arith, ℕ, ◌+◌, Bool, true, false, List, [], ◌∷◌, Contains, Option, Some, None, option_map, not}
+use Rattle.std.proofs.Common.{◌≡◌, ◌∙◌, ◌<◌, ◌≤◌, ◌||◌, inl, inr, refl, sym, ap, subst, arith, ℕ, ◌+◌, Bool, true, false, List, [], ◌∷◌, Contains, Some, option_map, not}
 use Rattle.std.proofs.lemmas.Bool.{or_right}
 use Rattle.std.proofs.lemmas.Option.{same_Some}
 use Rattle.std.specs.List.{list_any}
@@ -19,16 +19,17 @@ use Rattle.charts.specs.declared.statement.Printing.TheVariants as prints
 use Rattle.charts.specs.declared.statement.Statement.{Statement}
 use Rattle.charts.specs.declared.statement.Statement.TheVariants as says
 use Rattle.line_rules.specs.FieldRules.Fields.{field_named, fields_of}
-use Rattle.hubs.specs.declared.hub.Hub.{Hub}
 use Rattle.hubs.specs.declared.hub.Hub.TheVariants as hub
 use Rattle.hubs.specs.declared.jack.Jack.TheVariants as jack
 use Rattle.panel_laws.proofs.DigitWheels.{on_wheels}
 use Rattle.panel_laws.proofs.HubRanges.{column_range, wheel_range}
-use Rattle.panel_laws.proofs.ToWheels.{ColumnOf, column_of, digit_of, of_amount, of_text}
+use Rattle.panel_laws.proofs.ToWheels.{ColumnOf, column_of, of_amount, of_text}
 use Rattle.panel_laws.specs.CardTexts.{PutsColumn, ReadsCardTexts}
+use Rattle.panel_plans.proofs.Asked.{asks}
+use Rattle.panel_plans.proofs.Inverse.{digit-of}
 use Rattle.panel_plans.specs.Wired.{IsWiredBy}
 use Rattle.panel_reader.specs.Shown.{HasUnitsOn, IsAmountWheel, IsColumnOn, ShowsColumn, ShowsColumns}
-use Rattle.panel_reader.specs.Zones.{IsInZone, IsLinked}
+use Rattle.panel_reader.specs.Zones.{IsInZone}
 use Rattle.panel_reader.specs.declared.draft.Draft.{Draft}
 use Rattle.plans.specs.Plans.{Lists}
 use Rattle.line_rules.specs.PrintRules.Items.{detail_item, figure_item, figure_width, item_of, mark_shown, text_item}
@@ -42,7 +43,7 @@ use Rattle.report.specs.ChartForm.{is_print_detail, prints_details}
 use Rattle.setups.specs.Wiring.{HasJack, HasWire, Wiring}
 use Rattle.wiring_table.specs.Figures.{IsFigure, IsText, detail_emitter, on_detail, on_total, total_emitter}
 use Rattle.wiring_table.specs.Jacks.{HasFigure, list}
-use Rattle.wiring_table.specs.Wires.{ChartWire, LineWire}
+use Rattle.wiring_table.specs.Wires.{ChartWire}
 use Rattle.wiring_table.specs.Wires.LineWire.{detail_text}
 
 not-false : (b : Bool) → not b ≡ false → b ≡ true
@@ -109,22 +110,22 @@ module _ (chart : Chart) (plan : Lists) (setup : Wiring) (lawful : IsLawful char
     no-units on =
         let wire : ChartWire chart.lines plan (hub.GX on.group 1) (hub.W wheel) =
         (wired.wired.wires (hub.GX on.group 1) (hub.W wheel)).0 on.units in
-        let digit = digit_of chart.lines plan on.group wheel wire.wire refl refl in
+        let digit = digit-of chart.lines plan on.group wheel wire.wire refl refl in
         let figure : Figure =
-        record { digits = digit.total.digits; decimals = decimals_of digit.field.kind; mark = digit.total.mark } in
-        let wheels = on_wheels digit.total.wheel digit.position figure digit.from digit.to in
-        let emitter : ℕ = total_emitter (level_number digit.total.level) in
-        let has : HasFigure chart.lines digit.total.wheel figure = record {
+        record { digits = digit.asked.digits; decimals = decimals_of digit.field.kind; mark = digit.asked.mark } in
+        let wheels = on_wheels digit.asked.wheel digit.position figure digit.from digit.to in
+        let emitter : ℕ = total_emitter (level_number digit.asked.level) in
+        let has : HasFigure chart.lines digit.asked.wheel figure = record {
           line = wire.line;
           listed = wire.listed;
           emitter = emitter;
           is_figure =
-              subst (λ (s : Statement). IsFigure chart.lines s emitter digit.total.wheel figure) (sym digit.says_total)
-              (on_total digit.total digit.field digit.amount);
+              subst (λ (s : Statement). IsFigure chart.lines s emitter digit.asked.wheel figure) (sym digit.says_total)
+              (on_total digit.asked digit.field digit.amount);
         } in
-        no-figure digit.total.wheel figure (FigureItem-has chart.lines digit.total.wheel figure has)
-        (subst (λ (v : ℕ). digit.total.wheel ≤ v) digit.at wheels.0)
-        (subst (λ (v : ℕ). v < digit.total.wheel + figure_width figure) digit.at wheels.1)
+        no-figure digit.asked.wheel figure (FigureItem-has chart.lines digit.asked.wheel figure has)
+        (subst (λ (v : ℕ). digit.asked.wheel ≤ v) digit.at wheels.0)
+        (subst (λ (v : ℕ). v < digit.asked.wheel + figure_width figure) digit.at wheels.1)
 
     no-amount-on : ¬ IsAmountWheel setup wheel
     no-amount-on (inl zone) = no-zone zone
@@ -162,14 +163,9 @@ module _ (chart : Chart) (plan : Lists) (setup : Wiring) (lawful : IsLawful char
 
     own-wire : HasWire setup (hub.SR column) (hub.W wheel)
     own-wire =
-        let wire : LineWire chart.lines plan puts.line.number puts.line.statement (hub.SR (puts.field.first + puts.place))
-        (hub.W (puts.first + puts.place)) =
-        subst (λ (s : Statement). LineWire chart.lines plan puts.line.number s (hub.SR (puts.field.first + puts.place))
-        (hub.W (puts.first + puts.place))) (sym puts.says_text)
-        (detail_text puts.first puts.name puts.field puts.place puts.is_text puts.within) in
         let there : HasWire setup (hub.SR (puts.field.first + puts.place)) (hub.W (puts.first + puts.place)) =
-        (wired.wired.wires (hub.SR (puts.field.first + puts.place)) (hub.W (puts.first + puts.place))).1
-        (record { line = puts.line; listed = puts.listed; wire = wire }) in
+        asks wired.wired puts.line puts.listed puts.says_text
+        (detail_text puts.first puts.name puts.field puts.place puts.is_text puts.within) in
         subst (λ (w : ℕ). HasWire setup (hub.SR column) (hub.W w)) puts.wheel_is
         (subst (λ (c : ℕ). HasWire setup (hub.SR c) (hub.W (puts.first + puts.place))) puts.column_is there)
 

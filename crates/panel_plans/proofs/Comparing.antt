@@ -1,6 +1,6 @@
 -- On a panel that is wired for a chart by a plan, the positions that compare a column for a level are those of the plan for such a column;
 -- and two of them may change places.
-use Rattle.std.proofs.Common.{◌≡◌, ◌∙◌, refl, sym, ap, subst, ℕ, ◌+◌, ◌<◌, ◌≤◌, ◌==◌, Bool, true, List, [], ◌∷◌, ◌++◌, Contains, Option, Some, None, length, map, flat_map, get_or, slice_get, arith}
+use Rattle.std.proofs.Common.{◌≡◌, ◌∙◌, refl, sym, ap, subst, ℕ, ◌+◌, ◌<◌, ◌≤◌, ◌==◌, true, List, [], ◌∷◌, ◌++◌, Contains, Option, Some, None, length, map, get_or, slice_get, arith}
 use Rattle.std.specs.List.{range_with_len}
 use Rattle.std.proofs.lemmas.Bool.{and_parts}
 use Rattle.std.proofs.lemmas.Bool.Decides.{nat_tests}
@@ -24,8 +24,10 @@ use Rattle.panel_plans.specs.ComparedColumns.{IsCompared, columns_for, columns_o
 use Rattle.panel_plans.specs.Renumbered.{with_kind}
 use Rattle.panel_plans.specs.Wired.{IsWiredBy}
 use Rattle.panel_plans.specs.declared.compared.ComparedColumn.{ComparedColumn}
+use Rattle.panel_plans.proofs.Asked.{asks}
 use Rattle.panel_plans.proofs.Apart.{HasOwnPlaces, number-at, own-place, positions-apart}
 use Rattle.panel_plans.proofs.Exchange.{Exchanged, Goes, Holds, Whose, ahead, back, from-where, goes-all, goes-more, goes-on, numbers-exchanged, stays, turned}
+use Rattle.panel_plans.proofs.Planned.{planned-with}
 use Rattle.panel_plans.proofs.Rewired.{Rewired, kept_wire, of_comparing, other, rewired}
 use Rattle.panel_plans.proofs.Zipped.{get-map, map-get, part-at, parts-many, range-at, range-get}
 use Rattle.plans.specs.PartNumbers.{AreNumbers}
@@ -296,27 +298,16 @@ GoOn chart setup its items = Goes (IsGood chart setup its) (length (compared_col
 module _ (chart : Chart) (setup : Wiring) (lawful : IsLawful chart) (rise : NumbersRise chart.lines chart.end) (its : Lists) where
   planned-by : (numbers others : List ℕ) → ServesChart chart.lines (comparing-by its numbers) → AreNumbers 30 (length its.parts.comparing) others
       → ServesChart chart.lines (comparing-by its others)
-  planned-by numbers others planned numbered = record {
-    counters = planned.counters;
-    parts = planned.parts;
-    numbers = record {
-      pilots = planned.numbers.pilots;
-      comparing = numbered;
-      storage = planned.numbers.storage;
-      splits = planned.numbers.splits;
-      minor = planned.numbers.minor;
-      intermediate = planned.numbers.intermediate;
-      major = planned.numbers.major;
-    };
-    pilots = planned.pilots;
-    comparing = planned.comparing;
-    storage_width = planned.storage_width;
-    storage_units = planned.storage_units;
-    splits = planned.splits;
-    minor = planned.minor;
-    intermediate = planned.intermediate;
-    major = planned.major;
-  }
+  planned-by numbers others planned numbered =
+      planned-with chart.lines planned refl refl (record {
+        pilots = planned.numbers.pilots;
+        comparing = numbered;
+        storage = planned.numbers.storage;
+        splits = planned.numbers.splits;
+        minor = planned.numbers.minor;
+        intermediate = planned.numbers.intermediate;
+        major = planned.numbers.major;
+      })
 
   -- two alike places may change their positions
   pub positions-change : (numbers others : List ℕ) (one other : ℕ) → IsGood chart setup its numbers → AreAlike chart.lines one other
@@ -394,21 +385,11 @@ module _ (chart : Chart) (setup : Wiring) (lawful : IsLawful chart) (rise : Numb
       subst (λ (c : ComparedColumn). IsCompared setup c.column c.level number) both
       (record {
         leads = subst (λ n. HasWire setup (FR n) (CA number)) mine.is_column
-            (asks numbers good mine.line mine.listed mine.says_control
+            (asks good.wired mine.line mine.listed mine.says_control
             (compared_first mine.level mine.name mine.field mine.j number mine.named mine.within served));
-        calls = asks numbers good mine.line mine.listed mine.says_control
+        calls = asks good.wired mine.line mine.listed mine.says_control
             (level_called mine.level mine.name mine.field mine.j number mine.named mine.within served);
       })
-    where
-      asks : (its_numbers : List ℕ) → IsGood chart setup its its_numbers → (line : Line) → Contains chart.lines line → {statement : Statement}
-          → line.statement ≡ statement → {exit entry : Hub} → LineWire chart.lines (comparing-by its its_numbers) line.number statement exit entry
-          → HasWire setup exit entry
-      asks its_numbers its_good line listed says_it {exit} {entry} wire =
-          (its_good.wired.wires exit entry).1 (record {
-            line = line;
-            listed = listed;
-            wire = subst (λ s. LineWire chart.lines (comparing-by its its_numbers) line.number s exit entry) (sym says_it) wire;
-          })
 
   pub go-none : IsWiredBy chart.lines setup its → GoOn chart setup its []
   go-none wired = record {

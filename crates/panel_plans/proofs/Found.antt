@@ -1,5 +1,5 @@
 -- What is shown of each total of a chart on a panel that is wired for it is the counter of the plan.
-use Rattle.std.proofs.Common.{◌≡◌, ◌∙◌, refl, sym, ap, ℕ, ◌<◌, ◌≤◌, false, true≢false, Contains, Option, Some, None, IfNone, IfSome, is_none, arith}
+use Rattle.std.proofs.Common.{◌≡◌, ◌∙◌, refl, sym, ap, ◌<◌, ◌≤◌, false, true≢false, Contains, Option, Some, None, IfNone, IfSome, is_none, arith}
 use Rattle.std.proofs.lemmas.Bool.{not-false}
 use Rattle.chart_rules.specs.Rules.{IsLawful, breaks}
 use Rattle.chart_rules.specs.declared.rule.Rule.TheVariants as rule

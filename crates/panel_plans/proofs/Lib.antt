@@ -1,8 +1,9 @@
-mod Clashes
+pub mod Asked
+pub mod Clashes
 mod Rows
 mod Shown
-mod Inverse
-mod Wheels
+pub mod Inverse
+pub mod Wheels
 mod Unique
 mod Whole
 mod Found

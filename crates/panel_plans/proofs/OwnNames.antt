@@ -1,6 +1,6 @@
 -- No two fields of a lawful chart have one name, so that each amount that wants a pilot stands once among those.
-use Rattle.std.proofs.Common.{◌≡◌, ◌∙◌, refl, sym, ap, subst, ◌⊎◌, inl, inr, ℕ, Bool, true, false, cond, true≢false, List, [], ◌∷◌, ◌++◌, Contains, Option, Some, None, is_some, map, filter, append_assoc}
-use Rattle.std.specs.List.{cons_option, find}
+use Rattle.std.proofs.Common.{◌≡◌, ◌∙◌, refl, sym, ap, subst, Bool, true, false, cond, true≢false, List, [], ◌∷◌, ◌++◌, Contains, Option, Some, None, is_some, map, filter, append_assoc}
+use Rattle.std.specs.List.{cons_option}
 use Rattle.std.proofs.lemmas.List.Elements.{Contains-append_right}
 use Rattle.chart_rules.specs.Rules.{IsLawful}
 use Rattle.chart_rules.specs.declared.rule.Rule.TheVariants as rule
@@ -9,8 +9,6 @@ use Rattle.charts.specs.Chart.{Chart}
 use Rattle.charts.specs.Name.{is_same_name}
 use Rattle.charts.specs.declared.chart.Line.{Line}
 use Rattle.charts.specs.declared.statement.Field.{Field}
-use Rattle.charts.specs.declared.statement.Statement.{Statement}
-use Rattle.charts.specs.declared.statement.Statement.TheVariants as says
 use Rattle.charts.proofs.Listed.{found-passing, given-by, listed-first, listed-given, listed-place}
 use Rattle.line_rules.specs.FieldRules.Fields.{field_of, fields_of, first_named}
 use Rattle.line_rules.specs.FieldRules.Names.{breaks_name_twice}

@@ -1,6 +1,6 @@
 -- On a panel that is wired for a chart by a plan, what tells the pilot of an amount names that of the plan; and something does, since an
 -- amount with a sign bears its mark wherever it is printed.
-use Rattle.std.proofs.Common.{◌≡◌, ◌∙◌, refl, sym, ap, subst, ℕ, ◌+◌, ◌<◌, ◌≤◌, inl, Bool, true, false, List, Contains, Option, Some, None, IfNone, is_some, filter, filter_map, nat_lt, if◌then◌else◌, arith}
+use Rattle.std.proofs.Common.{◌≡◌, ◌∙◌, refl, sym, ap, subst, ℕ, ◌+◌, ◌≤◌, inl, true, false, List, Contains, Option, Some, None, IfNone, is_some, filter, filter_map, arith}
 use Rattle.std.proofs.lemmas.Bool.{and_parts}
 use Rattle.std.proofs.lemmas.Option.{same_Some}
 use Rattle.card_code.specs.CardCode.{code, rows_of}
@@ -36,6 +36,7 @@ use Rattle.panel_plans.specs.Renumbered.{ShowsNoParts}
 use Rattle.panel_plans.specs.Shown.{units_group}
 use Rattle.panel_plans.specs.Wired.{IsWiredBy}
 use Rattle.panel_plans.specs.declared.pilots.SignedAmount.{SignedAmount}
+use Rattle.panel_plans.proofs.Asked.{asks}
 use Rattle.panel_plans.proofs.Apart.{HasOwnPlaces, all-numbers}
 use Rattle.panel_plans.proofs.Lowest.{total-told}
 use Rattle.panel_plans.proofs.OwnNames.{names-apart}
@@ -45,7 +46,7 @@ use Rattle.plans.specs.declared.counter.TotalCounter.{TotalCounter}
 use Rattle.plans.specs.declared.counter.TotalCounter.TheVariants as of
 use Rattle.plans.specs.Plans.{Lists}
 use Rattle.plans.proofs.Numbers.{HasNumber, number-given}
-use Rattle.line_rules.specs.PrintRules.Items.{detail_item, mark_shown}
+use Rattle.line_rules.specs.PrintRules.Items.{detail_item, mark_shown, mark_width}
 use Rattle.line_rules.specs.PrintRules.Marks.{is_mismatched, is_mismatched_kind}
 use Rattle.line_rules.specs.PrintRules.Wheels.{HasWheel}
 use Rattle.printed_lines.proofs.Meeting.{one-line}
@@ -81,22 +82,16 @@ units-of : (counter : TotalCounter) → HasPanelGroup counter (panel_group (unit
 units-of (of.Single group) = refl
 units-of (of.Coupled lower upper) = inl refl
 
+-- a mark takes a wheel at least
+some-wheels : (mark : Mark) → 1 ≤ mark_width (Some mark)
+some-wheels mark_kind.Credit = omega arith
+some-wheels mark_kind.Minus = omega arith
+
 -- the first wheel of a mark is one of its amount
 mark-there : (wheel : ℕ) (mark : Mark) (columns : ℕ) (kind : FieldKind) (rule : SignRule) → rule_of kind ≡ Some rule
     → HasWheel (detail_item wheel (shown.Marked mark) columns kind) (mark_wheel wheel columns (decimals_of kind))
 mark-there wheel mark columns holds.Text rule ruled = cc
-mark-there wheel mark_kind.Credit columns (holds.Amount decimals its) rule ruled = by (nat_lt 0 decimals)
-  where
-    by : (b : Bool) → (wheel ≤ wheel + columns + (if b then 1 else 0))
-        × (wheel + columns + (if b then 1 else 0) < wheel + (columns + (if b then 1 else 0) + 2))
-    by true = (omega arith, omega arith)
-    by false = (omega arith, omega arith)
-mark-there wheel mark_kind.Minus columns (holds.Amount decimals its) rule ruled = by (nat_lt 0 decimals)
-  where
-    by : (b : Bool) → (wheel ≤ wheel + columns + (if b then 1 else 0))
-        × (wheel + columns + (if b then 1 else 0) < wheel + (columns + (if b then 1 else 0) + 1))
-    by true = (omega arith, omega arith)
-    by false = (omega arith, omega arith)
+mark-there wheel mark columns (holds.Amount decimals its) rule ruled = let some = some-wheels mark in (omega arith, omega (arith, some))
 
 -- a row of its first character
 abbrev mark_row : Mark → ℕ
@@ -175,15 +170,6 @@ module _ (lines : List Line) (plan : Lists) where
 
 module _ (chart : Chart) (setup : Wiring) (lawful : IsLawful chart) (rise : NumbersRise chart.lines chart.end) (its : Lists)
     (wired : IsWiredBy chart.lines setup its) where
-  asks : (line : Line) → Contains chart.lines line → {statement : Statement} → line.statement ≡ statement → {exit entry : Hub}
-      → LineWire chart.lines its line.number statement exit entry → HasWire setup exit entry
-  asks line listed says_it {exit} {entry} wire =
-      (wired.wired.wires exit entry).1 (record {
-        line = line;
-        listed = listed;
-        wire = subst (λ s. LineWire chart.lines its line.number s exit entry) (sym says_it) wire;
-      })
-
   -- the pilot that subtracts from the counter of a total is that of its amount
   pub total-tells : (line : Line) (total : TotalLine) (rule : SignRule) (pilot : ℕ) → Contains chart.lines line
       → line.statement ≡ says.TotalAmount total → LeadsToTotal chart.lines its setup rule pilot line.number → pilot_for its total.name ≡ Some pilot
@@ -233,7 +219,7 @@ module _ (chart : Chart) (setup : Wiring) (lawful : IsLawful chart) (rise : Numb
   lowest-told line total rule pilot counter listed said low signed its_pilot served = record {
     counter = counter;
     served = served;
-    leads = asks line listed said
+    leads = asks wired.wired line listed said
         (entry_minus total rule pilot (panel_group (units_group counter)) low
         (record { counter = counter; there = served; has = units-of counter }) signed its_pilot);
   }
@@ -247,7 +233,7 @@ module _ (chart : Chart) (setup : Wiring) (lawful : IsLawful chart) (rise : Numb
       let first : mark_wheel wheel (columns_of field) (decimals_of field.kind) + 0 ≡ mark_wheel wheel (columns_of field) (decimals_of field.kind)
       = omega arith in
       subst (λ w. HasWire setup (negative_side rule pilot 2) (W w)) first
-      (asks line listed said
+      (asks wired.wired line listed said
       (detail_mark_out wheel name mark rule field pilot 0 (mark_row mark) (record { field = field; named = named; ruled = ruled }) named
       its_pilot (mark-punched mark)))
 
@@ -256,7 +242,7 @@ module _ (chart : Chart) (setup : Wiring) (lawful : IsLawful chart) (rise : Numb
       → rule_of field.kind ≡ Some rule → pilot_for its name ≡ Some pilot → HasWire setup (FR (column_of_rule rule)) (PIX pilot)
   picked-up name field rule pilot named ruled served =
       let f = field-line chart.lines name field named in
-      asks f.line f.listed f.is_field (pickup field rule pilot ruled (ap (pilot_for its) f.own_name ∙ served))
+      asks wired.wired f.line f.listed f.is_field (pickup field rule pilot ruled (ap (pilot_for its) f.own_name ∙ served))
 
   -- for an amount by its own name, whatever name a line has
   module _ (amount : SignedAmount) (is : IsSignedOf chart.lines amount) (name : List ℕ) (names : is_same_name name amount.field.name ≡ true) where

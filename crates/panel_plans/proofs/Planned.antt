@@ -5,19 +5,19 @@ use Rattle.plans.proofs.Numbers.{in-order}
 use Rattle.panel_plans.specs.Renumbered.{TakesShown, with_numbers}
 use Rattle.panel_plans.specs.NamingWires.{ShowsPartsOf}
 use Rattle.panel_plans.specs.Wired.{IsWiredBy}
-use Rattle.plans.specs.PartNumbers.{PartNumbers, in_order, renumbered}
+use Rattle.plans.specs.PartNumbers.{AreNumbersOf, PartNumbers, in_order, renumbered}
 use Rattle.plans.specs.declared.part_numbers.PartKind.TheVariants as kind
 use Rattle.charts.specs.declared.level.ControlLevel.TheVariants as control
 use Rattle.setups.specs.Wiring.{Wiring}
 use Rattle.plans.specs.Plans.{IsWithinMachine, Lists, ServesChart}
 
--- a plan of a chart with the counters of another, and the other parts in order
-pub planned-again : (lines : List Line) (own plan : Lists) → ServesChart lines own → IsWithinMachine own.parts → plan.counters ≡ own.counters
-    → plan.parts ≡ own.parts → plan.numbers ≡ in_order own.parts → ServesChart lines plan
-planned-again lines own plan planned within counters parts numbers = record {
+-- a plan with the counters and the parts of another, and with numbers of its own
+pub planned-with : (lines : List Line) {own plan : Lists} → ServesChart lines own → plan.counters ≡ own.counters → plan.parts ≡ own.parts
+    → AreNumbersOf plan.parts plan.numbers → ServesChart lines plan
+planned-with lines planned counters parts numbers = record {
   counters = rw counters planned.counters;
   parts = parts ∙ planned.parts;
-  numbers = rw (numbers, parts) (in-order own.parts within);
+  numbers = numbers;
   pilots = planned.pilots;
   comparing = planned.comparing;
   storage_width = planned.storage_width;
@@ -27,6 +27,12 @@ planned-again lines own plan planned within counters parts numbers = record {
   intermediate = planned.intermediate;
   major = planned.major;
 }
+
+-- one whose other parts are in order
+pub planned-again : (lines : List Line) (own plan : Lists) → ServesChart lines own → IsWithinMachine own.parts → plan.counters ≡ own.counters
+    → plan.parts ≡ own.parts → plan.numbers ≡ in_order own.parts → ServesChart lines plan
+planned-again lines own plan planned within counters parts numbers =
+    planned-with lines planned counters parts (rw (numbers, parts) (in-order own.parts within))
 
 -- numbers of which each kind is shown, one after the other
 module _ {lines : List Line} {setup : Wiring} {none units splits minor intermediate major positions all : PartNumbers} where

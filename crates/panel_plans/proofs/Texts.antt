@@ -1,5 +1,5 @@
 -- On a panel that is wired for a chart by a plan, the wires that name the storage unit of a text on a total line name that of the plan.
-use Rattle.std.proofs.Common.{◌≡◌, ◌∙◌, refl, sym, ap, subst, ℕ, ◌+◌, ◌<◌, ◌≤◌, ◌==◌, Bool, true, false, true≢false, List, [], ◌∷◌, Contains, Option, Some, None, IfNone, IfSome, is_none, is_some, length, map, filter, filter_map, option_map, arith, cond}
+use Rattle.std.proofs.Common.{◌≡◌, ◌∙◌, refl, sym, ap, subst, ℕ, ◌+◌, ◌≤◌, ◌==◌, false, true≢false, List, [], ◌∷◌, Contains, Option, Some, None, IfNone, IfSome, is_none, is_some, map, filter, filter_map, option_map, arith, cond}
 use Rattle.std.specs.List.{cons_option}
 use Rattle.std.specs.Option.{option_and_then}
 use Rattle.std.proofs.lemmas.Bool.Decides.{nat_tests}
@@ -7,7 +7,7 @@ use Rattle.chart_rules.specs.Rules.{IsLawful, breaks}
 use Rattle.chart_rules.specs.declared.rule.Rule.TheVariants as rule
 use Rattle.chart_rules.proofs.Laws.{field-line, good-listed, kept-line}
 use Rattle.charts.specs.Chart.{Chart, NumbersRise}
-use Rattle.charts.specs.Field.{columns_of, is_amount}
+use Rattle.charts.specs.Field.{columns_of}
 use Rattle.charts.specs.Levels.{level_number}
 use Rattle.charts.specs.declared.chart.Line.{Line}
 use Rattle.charts.specs.declared.level.Level.{Level}
@@ -21,6 +21,7 @@ use Rattle.line_rules.specs.FieldRules.Names.{names_amount}
 use Rattle.hubs.specs.declared.hub.Hub.{Hub}
 use Rattle.hubs.specs.declared.hub.Hub.TheVariants.{PX, SO, SX, W}
 use Rattle.panel_plans.specs.NamingWires.{ShowsPartsOf}
+use Rattle.panel_plans.proofs.Asked.{asks}
 use Rattle.panel_plans.proofs.Alike.{back, if-none, if-some, shows-text}
 use Rattle.panel_plans.specs.Shown.{ShowsText}
 use Rattle.panel_plans.specs.Texts.{text_of}
@@ -28,9 +29,8 @@ use Rattle.panel_plans.specs.Wired.{IsWiredBy}
 use Rattle.panel_plans.specs.declared.text_units.TextPlace.{TextPlace}
 use Rattle.panel_plans.proofs.Apart.{HasOwnPlaces, all-numbers, apart-lines, own-place}
 use Rattle.panel_plans.proofs.Unique.{same-line}
-use Rattle.plans.specs.Plans.{Lists, ServesChart}
+use Rattle.plans.specs.Plans.{Lists}
 use Rattle.line_rules.specs.PrintRules.Items.{item_of, text_item}
-use Rattle.line_rules.specs.PrintRules.Wheels.{HasWheel}
 use Rattle.line_rules.specs.declared.print_rules.items.PrintedLine.TheVariants.{Body}
 use Rattle.printed_lines.proofs.Meeting.{one-line}
 use Rattle.setups.specs.Wiring.{HasWire, Wiring}
@@ -38,7 +38,6 @@ use Rattle.wanted.specs.Units.{is_of_kind, is_total_text}
 use Rattle.wanted.specs.Wanted.{Parts}
 use Rattle.wiring_table.specs.Figures.{IsText}
 use Rattle.wiring_table.specs.Parts.{unit_for}
-use Rattle.wiring_table.specs.WiredFor.{WiredFor}
 use Rattle.wiring_table.specs.Wires.{ChartWire, LineWire}
 use Rattle.wiring_table.specs.Wires.LineWire.{detail_mark_out, total_text_given, total_text_out}
 use Rattle.wiring_table.proofs.Parts.{unit-given, unit-own}
@@ -143,14 +142,6 @@ module _ (chart : Chart) (setup : Wiring) (lawful : IsLawful chart) (rise : Numb
 
   module _ (line : Line) (listed : Contains chart.lines line) (level : Level) (wheel : ℕ) (name : List ℕ)
       (says_it : line.statement ≡ says.TotalText level wheel name) where
-    asks : {exit entry : Hub} → LineWire chart.lines its line.number (says.TotalText level wheel name) exit entry → HasWire setup exit entry
-    asks {exit} {entry} wire =
-        (wired.wired.wires exit entry).1 (record {
-          line = line;
-          listed = listed;
-          wire = subst (λ s. LineWire chart.lines its line.number s exit entry) (sym says_it) wire;
-        })
-
     some-columns : (field : Field) → IsText chart.lines name field → 1 ≤ columns_of field
     some-columns field is =
         let card = (good-listed chart lawful field (field-line chart.lines name field is.named).among).card in
@@ -162,9 +153,9 @@ module _ (chart : Chart) (setup : Wiring) (lawful : IsLawful chart) (rise : Numb
         let (field, is) = text-field line level wheel name listed says_it in
         let first : wheel + 0 ≡ wheel = omega arith in
         record {
-          given = asks (total_text_given level wheel name unit served);
+          given = asks wired.wired line listed says_it (total_text_given level wheel name unit served);
           first = subst (λ w. HasWire setup (SX unit 1) (W w)) first
-              (asks (total_text_out level wheel name field unit 0 is (some-columns field is) served));
+              (asks wired.wired line listed says_it (total_text_out level wheel name field unit 0 is (some-columns field is) served));
         }
 
     -- and no other does

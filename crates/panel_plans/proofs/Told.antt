@@ -1,5 +1,5 @@
 -- Numbers that are those of each plan by which one is wired whose parts a setup shows are numbers that it shows.
-use Rattle.std.proofs.Common.{◌≡◌, sym, ap, subst, ℕ, List, Option, Some, None, IfNone, IfSome}
+use Rattle.std.proofs.Common.{◌≡◌, sym, subst, ℕ, List, Option, Some, None, IfNone, IfSome}
 use Rattle.std.specs.Option.{IsSomeAnd}
 use Rattle.charts.specs.declared.chart.Line.{Line}
 use Rattle.panel_plans.specs.Renumbered.{AreShown, ShowsNoParts, with_kind}

@@ -1,5 +1,5 @@
 -- On a panel that is wired for a chart by a plan, the wires that name a counter name that of the plan.
-use Rattle.std.proofs.Common.{◌≡◌, ◌∙◌, refl, sym, ap, subst, ℕ, ◌+◌, ◌<◌, ◌≤◌, true, Contains, Some, ◌⊎◌, inl, inr, arith, if◌then◌else◌, option_map}
+use Rattle.std.proofs.Common.{◌≡◌, ◌∙◌, refl, sym, ap, subst, ℕ, ◌≤◌, true, Contains, Some, inl, inr, arith, option_map}
 use Rattle.std.proofs.lemmas.Option.{same_Some}
 use Rattle.capacity.specs.Capacities.{standard}
 use Rattle.capacity.specs.declared.group.CounterGroup.{CounterGroup}
@@ -16,7 +16,6 @@ use Rattle.charts.specs.declared.statement.Statement.TheVariants as says
 use Rattle.charts.proofs.Rising.{one-line as line-by-number}
 use Rattle.line_rules.specs.FieldRules.Fields.{field_named, fields_of}
 use Rattle.hubs.specs.declared.hub.Group.{Group}
-use Rattle.hubs.specs.declared.hub.Hub.{Hub}
 use Rattle.hubs.specs.declared.hub.Hub.TheVariants.{CI, CO, GX, PX, RO, W}
 use Rattle.plans.specs.Counters.{HasCounter, IsEnoughFor}
 use Rattle.plans.specs.Plans.{Lists, ServesChart}
@@ -29,13 +28,14 @@ use Rattle.printed_lines.proofs.Meeting.{one-line}
 use Rattle.setups.specs.Wiring.{Wiring}
 use Rattle.wanted.specs.ChartTotals.{need_of}
 use Rattle.wiring_table.specs.Figures.{digit_wheel}
-use Rattle.wiring_table.specs.Parts.{ServesPosition, ServesTotal, StandsAt, counter_for, panel_group}
+use Rattle.wiring_table.specs.Parts.{HasPanelGroup, ServesPosition, ServesTotal, StandsAt, counter_for, panel_group}
 use Rattle.wiring_table.specs.WiredFor.{WiredFor}
 use Rattle.wiring_table.specs.Wires.{ChartWire, LineWire}
 use Rattle.wiring_table.specs.Wires.LineWire.{carry_up, read_out, total_digit}
 use Rattle.wiring_table.proofs.Groups.{pair-apart, position-serves, serves-own}
 use Rattle.panel_plans.specs.Wired.{TotalOn, units_wheel}
 use Rattle.panel_plans.specs.Shown.{CarriesTo, IsShown, ShowsUnits, units_group}
+use Rattle.panel_plans.proofs.Asked.{asks}
 use Rattle.panel_plans.proofs.Inverse.{CarryOf, DigitOf, around, carry-of, digit-of, read-out-of, round, up}
 use Rattle.panel_plans.proofs.Rows.{width-most}
 use Rattle.panel_plans.proofs.Wheels.{on-wheels, own-position}
@@ -149,47 +149,32 @@ module _ (chart : Chart) (plan : Lists) (setup : Wiring) (lawful : IsLawful char
         its_own : ServesTotal chart.lines plan line.number (panel_group lower)
         its_own = record { counter = of.Coupled lower upper; there = served; has = inl refl }
 
-        by : {number : ℕ} → CarryOf chart.lines plan number (panel_group lower) (panel_group its) → its ≡ upper
-        by {number} (up low high there is_low is_high) =
+        one-upper : (number : ℕ) (low high : CounterGroup) → counter_for chart.lines plan number ≡ Some (of.Coupled low high)
+            → HasPanelGroup (of.Coupled low high) (panel_group lower) → high ≡ upper
+        one-upper number low high there has =
             let same : number ≡ line.number =
             serves-own chart.lines plan planned number line.number (panel_group lower)
-            (record { counter = of.Coupled low high; there = there; has = inl is_low }) its_own in
+            (record { counter = of.Coupled low high; there = there; has = has }) its_own in
             let counters : Some (of.Coupled low high) ≡ Some (of.Coupled lower upper) =
             sym there ∙ ap (counter_for chart.lines plan) same ∙ served in
-            let uppers : high ≡ upper = cc in
-            sym (same-group high its is_high) ∙ uppers
+            cc
+
+        by : {number : ℕ} → CarryOf chart.lines plan number (panel_group lower) (panel_group its) → its ≡ upper
+        by {number} (up low high there is_low is_high) = sym (same-group high its is_high) ∙ one-upper number low high there (inl is_low)
         by (around same) = absurd (carries.apart (same-group lower its same))
         by {number} (round low high there is_high is_low) =
-            let same : number ≡ line.number =
-            serves-own chart.lines plan planned number line.number (panel_group lower)
-            (record { counter = of.Coupled low high; there = there; has = inr is_high }) its_own in
-            let counters : Some (of.Coupled low high) ≡ Some (of.Coupled lower upper) =
-            sym there ∙ ap (counter_for chart.lines plan) same ∙ served in
-            let uppers : high ≡ upper = cc in
-            absurd (pair-apart chart.lines plan planned line.number lower upper served (sym is_high ∙ ap panel_group uppers))
+            absurd (pair-apart chart.lines plan planned line.number lower upper served
+            (sym is_high ∙ ap panel_group (one-upper number low high there (inr is_high))))
 
     -- the wires that name the group of the units are there
     shows : (group : CounterGroup) → ServesTotal chart.lines plan line.number (panel_group group)
         → ServesPosition chart.lines plan line.number 1 (panel_group group) 1 → 1 ≤ total.asked.digits
         → ShowsUnits setup (level_number total.asked.level) units group
     shows group serves position some = record {
-      read_out = (wired.wires (PX (level_number total.asked.level) 3) (RO (panel_group group))).1 (record {
-        line = line;
-        listed = listed;
-        wire = asks (read_out total.asked (panel_group group) serves);
-      });
-      units = (wired.wires (GX (panel_group group) 1) (W units)).1 (record {
-        line = line;
-        listed = listed;
-        wire = asks (total_digit total.asked total.field (panel_group group) 1 1 position
-            total.amount (omega arith) some);
-      });
+      read_out = asks wired line listed total.says_total (read_out total.asked (panel_group group) serves);
+      units = asks wired line listed total.says_total
+          (total_digit total.asked total.field (panel_group group) 1 1 position total.amount (omega arith) some);
     }
-      where
-        asks : {exit entry : Hub}
-            → LineWire chart.lines plan line.number (says.TotalAmount total.asked) exit entry
-            → LineWire chart.lines plan line.number line.statement exit entry
-        asks {exit} {entry} wire = subst (λ s. LineWire chart.lines plan line.number s exit entry) (sym total.says_total) wire
 
     -- so the counter of the plan is shown
     pub its-shown : (counter : TotalCounter) → 1 ≤ total.asked.digits → counter_for chart.lines plan line.number ≡ Some counter

@@ -1,8 +1,8 @@
 -- On a panel that is wired for a chart by a plan, the splits and the indicate positions of the plan lead to the wheels of what passes
 -- through them, and no others do.
-use Rattle.std.proofs.Common.{◌≡◌, ◌∙◌, refl, sym, ap, subst, ℕ, zero, suc, ◌+◌, ◌-◌, ◌<◌, ◌≤◌, ◌==◌, Bool, true, false, List, [], ◌∷◌, ◌++◌, Contains, Option, Some, None, is_some, length, map, filter, drop, get_or, slice_get, option_map, nat_le, if◌then◌else◌, arith, append_assoc, append-nil}
+use Rattle.std.proofs.Common.{◌≡◌, ◌∙◌, refl, sym, ap, subst, ℕ, suc, ◌+◌, ◌-◌, ◌<◌, ◌≤◌, ◌==◌, Bool, true, false, List, [], ◌∷◌, ◌++◌, Contains, Option, Some, None, is_some, length, map, filter, drop, get_or, slice_get, option_map, nat_le, if◌then◌else◌, arith, append_assoc, append-nil}
 use Rattle.std.specs.List.{range_with_len}
-use Rattle.std.proofs.lemmas.Bool.{and_parts, not-false}
+use Rattle.std.proofs.lemmas.Bool.{and_parts}
 use Rattle.std.proofs.lemmas.Bool.Decides.{nat_tests}
 use Rattle.std.proofs.lemmas.List.{drop_all, length-map}
 use Rattle.std.proofs.lemmas.List.FromFn.{length-range_with_len}
@@ -17,7 +17,6 @@ use Rattle.charts.specs.Levels.{control_number}
 use Rattle.charts.specs.declared.chart.Line.{Line}
 use Rattle.charts.specs.declared.level.ControlLevel.{ControlLevel}
 use Rattle.charts.specs.declared.level.ControlLevel.TheVariants as control
-use Rattle.charts.specs.declared.statement.BodyLine.TheVariants as body
 use Rattle.charts.specs.declared.statement.DetailOption.{DetailOption}
 use Rattle.charts.specs.declared.statement.DetailOption.TheVariants as shown
 use Rattle.charts.specs.declared.statement.Field.{Field}
@@ -33,24 +32,24 @@ use Rattle.panel_plans.specs.WheelParts.{AreLed, LeadsTo, detail_wheel, exit_of,
 use Rattle.panel_plans.specs.Wired.{IsWiredBy}
 use Rattle.panel_plans.specs.declared.wheel_parts.WheelPart.{WheelPart}
 use Rattle.panel_plans.specs.declared.wheel_parts.WheelPart.TheVariants as by_wheel
+use Rattle.panel_plans.proofs.Asked.{asks}
 use Rattle.panel_plans.proofs.Apart.{HasOwnPlaces, apart-lines, number-at, own-place, positions-apart}
 use Rattle.panel_plans.proofs.Wheels.{on-wheels}
 use Rattle.panel_plans.proofs.Zipped.{get-map, given-at, given-many, part-at, parts-many, range-at, range-get}
 use Rattle.plans.specs.PartNumbers.{AreNumbers, numbers_at}
-use Rattle.plans.specs.Plans.{Lists, ServesChart}
+use Rattle.plans.specs.Plans.{Lists}
 use Rattle.line_rules.specs.PrintRules.Items.{detail_item, is_same_line, item_of}
 use Rattle.line_rules.specs.PrintRules.Wheels.{HasWheel}
 use Rattle.printed_lines.proofs.Meeting.{one-line}
 use Rattle.setups.specs.Wiring.{HasWire, Wiring}
 use Rattle.wanted.specs.Positions.{field_used, indicate_of, indicated_field, is_same_position, positions_for}
-use Rattle.wanted.specs.Units.{has_inside_sign, is_inside, is_of_kind, is_split_amount, splits_of}
+use Rattle.wanted.specs.Units.{has_inside_sign, is_inside, is_of_kind, is_split_amount}
 use Rattle.wanted.specs.Wanted.{Parts, indicate_at}
 use Rattle.wanted.specs.declared.position.Position.{Position}
 use Rattle.wiring_table.specs.Figures.{IsAmount, IsText, digit_wheel}
 use Rattle.wiring_table.specs.Parts.{column_on, indicate_for, split_for}
 use Rattle.wiring_table.specs.Wires.{ChartWire, LineWire}
 use Rattle.wiring_table.specs.Wires.LineWire.{detail_mark_out, indicated_text_out, split_digit_out}
-use Rattle.wiring_table.proofs.Parts.{indicate-own, split-own}
 use Rattle.panel_plans.proofs.Clashes.{apart, clash, is_indicate, is_side, is_split, side-is, to_wheel}
 
 -- a field with a sign column is an amount
@@ -261,15 +260,6 @@ module _ (lines : List Line) (plan : Lists) where
 
 module _ (chart : Chart) (setup : Wiring) (lawful : IsLawful chart) (rise : NumbersRise chart.lines chart.end) (its : Lists)
     (wired : IsWiredBy chart.lines setup its) where
-  asks : (line : Line) → Contains chart.lines line → {statement : Statement} → line.statement ≡ statement → {exit entry : Hub}
-      → LineWire chart.lines its line.number statement exit entry → HasWire setup exit entry
-  asks line listed says_it {exit} {entry} wire =
-      (wired.wired.wires exit entry).1 (record {
-        line = line;
-        listed = listed;
-        wire = subst (λ s. LineWire chart.lines its line.number s exit entry) (sym says_it) wire;
-      })
-
   -- a text that is indicated holds characters
   indicated-text : (line : Line) (wheel : ℕ) (name : List ℕ) (level : ControlLevel) (field : Field) → Contains chart.lines line
       → line.statement ≡ says.DetailField wheel name (shown.Indicated level) → field_named chart.lines name ≡ Some field
@@ -318,7 +308,7 @@ module _ (chart : Chart) (setup : Wiring) (lawful : IsLawful chart) (rise : Numb
           leads : HasWire setup (CSD split) (W v)
           leads =
               subst (λ w. HasWire setup (CSD split) (W w)) s.at
-              (asks line listed s.says_detail
+              (asks wired.wired line listed s.says_detail
               (split_digit_out s.wheel s.name s.how s.field s.position split (record { named = s.named; holds_amount = its_amount })
               s.from s.to s.signed served))
 
@@ -421,7 +411,7 @@ module _ (chart : Chart) (setup : Wiring) (lawful : IsLawful chart) (rise : Numb
             leads : HasWire setup (IX (control_number level) x) (W v)
             leads =
                 subst (λ w. HasWire setup (IX (control_number level) x) (W w)) at_wheel
-                (asks line listed i.says_detail
+                (asks wired.wired line listed i.says_detail
                 (indicated_text_out i.wheel i.name level field j x (record { named = i.named; holds_text = text }) inside served))
 
             only : (other : ℕ) → 1 ≤ other → other ≤ 30 → HasWire setup (IX (control_number level) other) (W v) → other ≡ x

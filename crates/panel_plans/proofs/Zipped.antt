@@ -1,5 +1,5 @@
 -- Lists that are made of another one: what they have, and from which element what stands at a place comes.
-use Rattle.std.proofs.Common.{◌≡◌, ◌∙◌, refl, sym, ap, ℕ, zero, suc, ◌+◌, ◌<◌, ◌⊎◌, inl, inr, subst, Bool, true, false, cond, List, [], ◌∷◌, ◌++◌, Contains, Option, Some, None, is_some, length, map, filter, filter_map, flat_map, get_or, slice_get, arith}
+use Rattle.std.proofs.Common.{◌≡◌, ◌∙◌, refl, sym, ap, ℕ, zero, suc, ◌+◌, ◌<◌, inl, inr, subst, Bool, true, false, cond, List, [], ◌∷◌, ◌++◌, Contains, Option, Some, None, is_some, length, map, filter, filter_map, flat_map, slice_get, arith}
 use Rattle.std.specs.List.{cons_option, range_with_len}
 use Rattle.std.proofs.lemmas.List.{length-append}
 use Rattle.std.proofs.lemmas.List.FromFn.{get_or-range_with_len, length-range_with_len}
@@ -20,9 +20,9 @@ module _ {X Y Z : Type 0} (f : X → Option Y) (test : X → Bool) (g : X → Z)
   given-at [] place y at = cc
   given-at (x ∷ xs) place y at = by (f x) refl (tested x) (λ k it. given-at xs k y it) place at
     where
-      further : {k : ℕ} {others : List Z} → GivenAt f xs (map g (filter test xs)) g k y
-          → slice_get others place ≡ slice_get (map g (filter test xs)) k → GivenAt f (x ∷ xs) others g place y
-      further d same = record { x = d.x; listed = listed-after x xs d.listed; gives = d.gives; beside = same ∙ d.beside }
+      further : (at : ℕ) {k : ℕ} {others : List Z} → GivenAt f xs (map g (filter test xs)) g k y
+          → slice_get others at ≡ slice_get (map g (filter test xs)) k → GivenAt f (x ∷ xs) others g at y
+      further at d same = record { x = d.x; listed = listed-after x xs d.listed; gives = d.gives; beside = same ∙ d.beside }
 
       by : (o : Option Y) → f x ≡ o → test x ≡ is_some (f x)
           → ((k : ℕ) → slice_get (filter_map f xs) k ≡ Some y → GivenAt f xs (map g (filter test xs)) g k y)
@@ -31,14 +31,8 @@ module _ {X Y Z : Type 0} (f : X → Option Y) (test : X → Bool) (g : X → Z)
       by None is same later k there =
           let passed : slice_get (filter_map f xs) k ≡ Some y
           = ap (λ o. slice_get (cons_option o (filter_map f xs)) k) (sym is) ∙ there in
-          let d = later k passed in
           let skips : test x ≡ false = same ∙ ap is_some is in
-          record {
-            x = d.x;
-            listed = listed-after x xs d.listed;
-            gives = d.gives;
-            beside = ap (λ b. slice_get (map g (cond b (x ∷ filter test xs) (filter test xs))) k) skips ∙ d.beside;
-          }
+          further k (later k passed) (ap (λ b. slice_get (map g (cond b (x ∷ filter test xs) (filter test xs))) k) skips)
       by (Some z) is same later zero there =
           let own : z ≡ y = cc in
           let takes : test x ≡ true = same ∙ ap is_some is in
@@ -51,14 +45,8 @@ module _ {X Y Z : Type 0} (f : X → Option Y) (test : X → Bool) (g : X → Z)
       by (Some z) is same later (suc k) there =
           let passed : slice_get (filter_map f xs) k ≡ Some y
           = ap (λ o. slice_get (cons_option o (filter_map f xs)) (suc k)) (sym is) ∙ there in
-          let d = later k passed in
           let takes : test x ≡ true = same ∙ ap is_some is in
-          record {
-            x = d.x;
-            listed = listed-after x xs d.listed;
-            gives = d.gives;
-            beside = ap (λ b. slice_get (map g (cond b (x ∷ filter test xs) (filter test xs))) (suc k)) takes ∙ d.beside;
-          }
+          further (suc k) (later k passed) (ap (λ b. slice_get (map g (cond b (x ∷ filter test xs) (filter test xs))) (suc k)) takes)
 
   pub given-many : (xs : List X) → length (map g (filter test xs)) ≡ length (filter_map f xs)
   given-many [] = refl

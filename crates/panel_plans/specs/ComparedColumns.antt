@@ -1,6 +1,6 @@
 -- The columns that a chart compares, each with its level. Where a column is compared twice for a level, the wires of a panel don't tell the
 -- two positions apart: a plan in which they change places is as good.
-use Rattle.std.specs.Prelude.{◌≡◌, ℕ, List, [], Option, Some, None, flat_map, map}
+use Rattle.std.specs.Prelude.{ℕ, List, [], Option, Some, None, flat_map, map}
 use Rattle.std.specs.List.{range_with_len}
 use Rattle.charts.specs.Field.{columns_of}
 use Rattle.charts.specs.Levels.{control_number}

@@ -1,7 +1,7 @@
 -- What the wires of a setup tell of the counter of a total. A total with one group has the one that its level's printing cycle reads out
 -- and whose first place leads to the wheel of the units; a total with two has as the lower one such a group, whose carry leads to the
 -- upper one.
-use Rattle.std.specs.Prelude.{◌≡◌, ◌≢◌, ℕ, ◌<◌, ◌≤◌}
+use Rattle.std.specs.Prelude.{◌≢◌, ℕ, ◌<◌, ◌≤◌}
 use Rattle.capacity.specs.Capacities.{HasGroup, standard}
 use Rattle.capacity.specs.declared.group.CounterGroup.{CounterGroup}
 use Rattle.hubs.specs.declared.hub.Hub.TheVariants.{CI, CO, GX, PX, RO, SO, SX, W}

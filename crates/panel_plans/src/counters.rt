@@ -18,6 +18,7 @@ use crate::groups::{GROUPS, carries_to, group_at, shows_units};
 use capacity::CounterGroup;
 use chart_rules::Chart;
 use charts::{Line, Name, Statement};
+use line_wires::digit_wheel;
 use plans::TotalCounter;
 use setups::Setup;
 use std::alloc::{AllocError, Global};
@@ -39,12 +40,7 @@ fn units_wheel(wheel: u16, digits: u16, decimals: u16) -> Option<u8>
     ensures value { IfSome result (λ units. units ≡ digit_wheel wheel digits decimals 1) }
     ensures none { IfNone result (256 ≤ digit_wheel wheel digits decimals 1) }
 {
-    let end = u32::from(wheel) + u32::from(digits);
-    let units = if decimals < 1 {
-        end.saturating_sub(1)
-    } else {
-        end
-    };
+    let units = digit_wheel(wheel, digits as u32, decimals, 1);
     if units < 256 { Some(units as u8) } else { None }
 }
 

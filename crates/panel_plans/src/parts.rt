@@ -79,6 +79,28 @@ fn with_near(
     }
 }
 
+// The numbers of the parts of a kind that a setup shows; none where it shows none for some thing.
+fn shown_of(
+    alloc: Global,
+    chart: &Chart,
+    setup: &Setup,
+    parts: &Parts,
+    kind: PartKind,
+) -> Result<Option<Vec<u8>>, AllocError>
+    requires { parts.now ≡ parts_of chart.now.lines }
+    ensures there { IfOk result (λ shown. IfSome shown (λ list. AreThere (last_of kind) list.items)) }
+    ensures shown { IfOk result (λ found. IfSome found (λ list. AreShown chart.now.lines setup.now kind list.items)) }
+    ensures none { IfOk result (λ found. IfNone found (ShowsNoParts chart.now.lines setup.now)) }
+{
+    match kind {
+        PartKind::Pilot => shown_pilots(alloc, chart, setup, parts.pilots()),
+        PartKind::Comparing => shown_positions(alloc, chart, setup),
+        PartKind::Storage => shown_units(alloc, chart, setup),
+        PartKind::Split => shown_splits(alloc, chart, setup),
+        PartKind::Indicate(level) => shown_indicates(alloc, chart, setup, level),
+    }
+}
+
 // These numbers, but of a kind those that a setup shows, where it shows some, else near ones.
 fn with_shown(
     alloc: Global,
@@ -87,112 +109,16 @@ fn with_shown(
     parts: &Parts,
     kind: PartKind,
     numbers: PartNumbers,
-    shown: Option<Vec<u8>>,
 ) -> Result<PartNumbers, AllocError>
-    requires there { IfSome shown (λ list. AreThere (last_of kind) list.items) }
-    requires shown { IfSome shown (λ list. AreShown chart.now.lines setup.now kind list.items) }
-    requires none { IfNone shown (ShowsNoParts chart.now.lines setup.now) }
+    requires { parts.now ≡ parts_of chart.now.lines }
     ensures { IfOk result (λ told. (other : Wiring) (its : Lists) → ShowsPartsOf chart.now.lines setup.now other its
         → TakesShown chart.now.lines setup.now kind numbers told) }
 {
+    let shown = shown_of(alloc, chart, setup, parts, kind)?;
     match shown {
         Some(list) => Ok(numbers.with(kind, list)),
         None => with_near(alloc, chart, setup, parts, kind, numbers),
     }
-}
-
-// These numbers, but the indicate positions of a level are those that a setup shows, else near ones.
-fn with_indicates(
-    alloc: Global,
-    chart: &Chart,
-    setup: &Setup,
-    parts: &Parts,
-    level: ControlLevel,
-    numbers: PartNumbers,
-) -> Result<PartNumbers, AllocError>
-    ensures { IfOk result (λ told. (other : Wiring) (its : Lists) → ShowsPartsOf chart.now.lines setup.now other its
-        → TakesShown chart.now.lines setup.now (PartKind.Indicate level) numbers told) }
-{
-    let shown = shown_indicates(alloc, chart, setup, level)?;
-    let kind = PartKind::Indicate(level);
-    with_shown(alloc, chart, setup, parts, kind, numbers, shown)
-}
-
-// These numbers, but the storage units are those that a setup shows, else near ones.
-fn with_units(
-    alloc: Global,
-    chart: &Chart,
-    setup: &Setup,
-    parts: &Parts,
-    numbers: PartNumbers,
-) -> Result<PartNumbers, AllocError>
-    ensures { IfOk result (λ told. (other : Wiring) (its : Lists) → ShowsPartsOf chart.now.lines setup.now other its
-        → TakesShown chart.now.lines setup.now PartKind.Storage numbers told) }
-{
-    let shown = shown_units(alloc, chart, setup)?;
-    with_shown(
-        alloc,
-        chart,
-        setup,
-        parts,
-        PartKind::Storage,
-        numbers,
-        shown,
-    )
-}
-
-// These numbers, but the column splits are those that a setup shows, else near ones.
-fn with_splits(
-    alloc: Global,
-    chart: &Chart,
-    setup: &Setup,
-    parts: &Parts,
-    numbers: PartNumbers,
-) -> Result<PartNumbers, AllocError>
-    ensures { IfOk result (λ told. (other : Wiring) (its : Lists) → ShowsPartsOf chart.now.lines setup.now other its
-        → TakesShown chart.now.lines setup.now PartKind.Split numbers told) }
-{
-    let shown = shown_splits(alloc, chart, setup)?;
-    with_shown(alloc, chart, setup, parts, PartKind::Split, numbers, shown)
-}
-
-// These numbers, but the comparing positions are those that a setup shows, else near ones.
-fn with_positions(
-    alloc: Global,
-    chart: &Chart,
-    setup: &Setup,
-    parts: &Parts,
-    numbers: PartNumbers,
-) -> Result<PartNumbers, AllocError>
-    ensures { IfOk result (λ told. (other : Wiring) (its : Lists) → ShowsPartsOf chart.now.lines setup.now other its
-        → TakesShown chart.now.lines setup.now PartKind.Comparing numbers told) }
-{
-    let shown = shown_positions(alloc, chart, setup)?;
-    with_shown(
-        alloc,
-        chart,
-        setup,
-        parts,
-        PartKind::Comparing,
-        numbers,
-        shown,
-    )
-}
-
-// These numbers, but the pilots are those that a setup shows, else near ones.
-fn with_pilots(
-    alloc: Global,
-    chart: &Chart,
-    setup: &Setup,
-    parts: &Parts,
-    numbers: PartNumbers,
-) -> Result<PartNumbers, AllocError>
-    requires { parts.now ≡ parts_of chart.now.lines }
-    ensures { IfOk result (λ told. (other : Wiring) (its : Lists) → ShowsPartsOf chart.now.lines setup.now other its
-        → TakesShown chart.now.lines setup.now PartKind.Pilot numbers told) }
-{
-    let shown = shown_pilots(alloc, chart, setup, parts.pilots())?;
-    with_shown(alloc, chart, setup, parts, PartKind::Pilot, numbers, shown)
 }
 
 /// The numbers of the parts that a setup shows for what a chart asks for; of a kind of which it shows none for some thing, those that it
@@ -209,25 +135,14 @@ pub(crate) fn shown_numbers(
         → IsWiredBy chart.now.lines other (with_numbers its numbers)) }
 {
     let none = PartNumbers::in_order(alloc, parts)?;
-    let units = with_units(alloc, chart, setup, parts, none)?;
-    let splits = with_splits(alloc, chart, setup, parts, units)?;
-    let minor = with_indicates(alloc, chart, setup, parts, ControlLevel::Minor, splits)?;
-    let intermediate = with_indicates(
-        alloc,
-        chart,
-        setup,
-        parts,
-        ControlLevel::Intermediate,
-        minor,
-    )?;
-    let major = with_indicates(
-        alloc,
-        chart,
-        setup,
-        parts,
-        ControlLevel::Major,
-        intermediate,
-    )?;
-    let positions = with_positions(alloc, chart, setup, parts, major)?;
-    with_pilots(alloc, chart, setup, parts, positions)
+    let units = with_shown(alloc, chart, setup, parts, PartKind::Storage, none)?;
+    let splits = with_shown(alloc, chart, setup, parts, PartKind::Split, units)?;
+    let minor = PartKind::Indicate(ControlLevel::Minor);
+    let minor = with_shown(alloc, chart, setup, parts, minor, splits)?;
+    let intermediate = PartKind::Indicate(ControlLevel::Intermediate);
+    let intermediate = with_shown(alloc, chart, setup, parts, intermediate, minor)?;
+    let major = PartKind::Indicate(ControlLevel::Major);
+    let major = with_shown(alloc, chart, setup, parts, major, intermediate)?;
+    let positions = with_shown(alloc, chart, setup, parts, PartKind::Comparing, major)?;
+    with_shown(alloc, chart, setup, parts, PartKind::Pilot, positions)
 }

@@ -24,8 +24,9 @@ ghost use Rattle.wiring_table.specs.Parts.{negative_side, panel_group, pilot_for
 use crate::counters::shown_on;
 use crate::groups::panel_group;
 use chart_rules::Chart;
-use charts::{DetailOption, Field, FieldKind, Line, Name, SignRule, Statement};
+use charts::{DetailOption, Field, Line, Name, SignRule, Statement};
 use hubs::{Group, Hub};
+use line_wires::{mark_wheel, negative_side, rule_of};
 use plans::{PartKind, TotalCounter};
 use setups::Setup;
 use std::alloc::{AllocError, Global};
@@ -39,16 +40,6 @@ pub struct SignedAmount {
     pub rule: SignRule,
 }
 
-// The sign rule of a field, if it has one.
-fn rule_of(kind: FieldKind) -> Option<SignRule>
-    ensures { result ≡ rule_of kind }
-{
-    match kind {
-        FieldKind::Text => None,
-        FieldKind::Amount { sign, .. } => sign,
-    }
-}
-
 // The amount of a name, if it has a sign rule.
 fn signed_amount(chart: &Chart, name: Name) -> Option<SignedAmount>
     ensures some { IfSome result (λ amount. (field_named chart.now.lines name ≡ Some amount.field) × (rule_of amount.field.kind ≡ Some amount.rule)) }
@@ -57,16 +48,6 @@ fn signed_amount(chart: &Chart, name: Name) -> Option<SignedAmount>
     let field = chart.field(name)?;
     let rule = rule_of(field.kind)?;
     Some(SignedAmount { field, rule })
-}
-
-// The contact of a pilot's position that is closed while the sign column of its amount tells negative.
-fn negative_side(rule: SignRule, pilot: u8, position: u8) -> Hub
-    ensures { result ≡ negative_side rule pilot position }
-{
-    match rule {
-        SignRule::X(_) => Hub::PIT(pilot, position),
-        SignRule::NX(_) => Hub::PIN(pilot, position),
-    }
 }
 
 // The group of the units of a counter.
@@ -94,18 +75,11 @@ fn leads_to_total(chart: &Chart, setup: &Setup, line: &Line, rule: SignRule, pil
 }
 
 // The wheel of the mark of an amount from a wheel on.
-fn mark_wheel(wheel: u16, field: Field) -> u32
+fn wheel_of_mark(wheel: u16, field: Field) -> u32
     ensures { result ≡ mark_wheel wheel (columns_of field) (decimals_of field.kind) }
 {
-    let Field {
-        first,
-        last,
-        kind,
-        ..
-    } = field;
-    let digits = (u32::from(last) + 1).saturating_sub(u32::from(first));
-    let point = if kind.decimals() > 0 { 1 } else { 0 };
-    u32::from(wheel) + digits + point
+    let kind = field.kind;
+    mark_wheel(wheel, field.columns(), kind.decimals())
 }
 
 // Whether a pilot leads to the wheel of a mark while the sign column tells negative.
@@ -130,7 +104,7 @@ fn tells_pilot(chart: &Chart, setup: &Setup, line: &Line, amount: &SignedAmount,
     match &line.statement {
         Statement::DetailField { wheel, name, shown } => match shown {
             DetailOption::Marked(_) => {
-                let mark = mark_wheel(*wheel, amount.field);
+                let mark = wheel_of_mark(*wheel, amount.field);
                 name.is(wanted) && leads_to_mark(setup, mark, rule, pilot)
             }
             _ => false,

@@ -211,7 +211,7 @@ fn near_plan(alloc: Global, chart: &Chart, own: &Plan, setup: &Setup) -> Result<
 
 /// The plan of a chart that the wires of a setup show: if the setup is wired by some plan, one by which it is. If it differs from one that is
 /// wired by some plan only in wires that name no part, in jacks and in its tape, it is a plan by which that one is wired: so what is missing
-/// and what is too much by the plan is exactly the difference. If the wires show no plan, it is one
+/// and what is extra by the plan is exactly the difference. If the wires show no plan, it is one
 /// that is near: a total that shows no counter of its own gets a free one. If that is no plan of the chart, the counters are those of the
 /// plan that is given. Its only refusal is memory.
 pub fn read_plan(

@@ -8,11 +8,11 @@ ghost use Rattle.panel_plans.specs.Renumbered.{AreShown, ShowsNoParts};
 ghost use Rattle.plans.specs.PartNumbers.{AreThere};
 ghost use Rattle.setups.specs.Wiring.{HasWire};
 ghost use Rattle.wanted.specs.Positions.{indicated_field};
-ghost use Rattle.wiring_table.specs.Figures.{digit_wheel};
 
 use chart_rules::Chart;
 use charts::{ControlLevel, DetailOption, Field, Statement};
 use hubs::Hub;
+use line_wires::digit_wheel;
 use plans::PartKind;
 use setups::Setup;
 use std::alloc::{AllocError, Global};
@@ -95,40 +95,17 @@ fn led_numbers(
     Ok(Some(numbers))
 }
 
-// The wheel of a digit of an amount of so many digits and decimals from a wheel on.
-fn digit_wheel(wheel: u16, digits: u32, decimals: u16, position: u32) -> u32
-    requires { digits ≤ 65536 }
-    ensures { result ≡ digit_wheel wheel digits decimals position }
-{
-    let end = u32::from(wheel) + digits;
-    if u32::from(decimals) < position {
-        end.saturating_sub(position)
-    } else {
-        (end + 1).saturating_sub(position)
-    }
-}
-
 // The wheel of the digit in a column of an amount from a wheel on, if the column is one of its own.
 fn wheel_at(wheel: u16, field: Field, column: Option<u16>) -> Option<u32>
     ensures { result ≡ wheel_at wheel field column }
 {
-    let Field {
-        first,
-        last,
-        kind,
-        ..
-    } = field;
-    match column {
-        Some(column) => {
-            if first <= column && column <= last {
-                let digits = (u32::from(last) + 1).saturating_sub(u32::from(first));
-                let position = u32::from(last) + 1 - u32::from(column);
-                Some(digit_wheel(wheel, digits, kind.decimals(), position))
-            } else {
-                None
-            }
-        }
-        None => None,
+    let column = column?;
+    let kind = field.kind;
+    if field.first <= column && column <= field.last {
+        let position = u32::from(field.last) + 1 - u32::from(column);
+        Some(digit_wheel(wheel, field.columns(), kind.decimals(), position))
+    } else {
+        None
     }
 }
 

@@ -28,9 +28,10 @@ fn wire_total_digits(
     requires last { mark_wheel total.now.wheel total.now.digits decimals ≤ 121 }
     ensures { OnOk result (Adds (TotalDigits total.now decimals counter) setup.old setup.new) }
 {
-    for place in 0..total.digits {
+    let digits = total.digits as u32;
+    for place in 0..digits {
         let position = place + 1;
-        let entry = digit_wheel(total.wheel, total.digits, decimals, position);
+        let entry = digit_wheel(total.wheel, digits, decimals, position) as u8;
         let (group, place) = place_of(counter, position as u8);
         connect(setup, Hub::GX(group, place), Hub::W(entry))?;
     }
@@ -145,6 +146,6 @@ pub(crate) fn wire_signed_total(
     let Some(mark) = total.mark else {
         return Ok(());
     };
-    let wheel = mark_wheel(total.wheel, total.digits, decimals);
+    let wheel = mark_wheel(total.wheel, total.digits as u32, decimals) as u16;
     wire_total_mark(setup, total.level, wheel, mark, top_group(counter))
 }

@@ -10,5 +10,5 @@ mod OneLine
 mod KeptFields
 mod KeptLines
 mod KeptTotals
-mod Whole
+pub mod Whole
 mod WholeLines

@@ -18,6 +18,7 @@ first_stage text =
     else if bytes_eq text (codes "AFTER") then Some stage.AfterKind
     else if bytes_eq text (codes "FORM") then Some stage.FormLines
     else if bytes_eq text (codes "TAPE") then Some stage.TapeChannel
+    else if bytes_eq text (codes "END") then Some stage.Nothing
     else None
 
 -- a stage, if a word fits the one before it

@@ -117,6 +117,8 @@ pub(crate) fn first_stage(text: &[u8]) -> Option<Stage>
         Some(Stage::FormLines)
     } else if is(text, b"TAPE") {
         Some(Stage::TapeChannel)
+    } else if is(text, b"END") {
+        Some(Stage::Nothing)
     } else {
         None
     }

@@ -40,7 +40,7 @@ rule_name rule.CoupledMark = codes "CoupledMark"
 -- what is told of a line that breaks a rule: its text with a mark, and what is wrong
 unfoldable pub line_told : Rule → List ℕ → List Field → List Line → List Line → Line → List ℕ
 line_told broken text fields chart earlier line =
-    shown text (span_of (marked_place broken line.statement) text) ++ below (words broken fields chart earlier line.statement)
+    shown text (span_of (marked_place broken chart line.statement) text) ++ below (words broken fields chart earlier line.statement)
 
 -- what is told of END, where a line is missing
 unfoldable pub end_told : Rule → List ℕ → List ℕ

@@ -1,6 +1,7 @@
 -- What stands where on a line of a chart: the name that a line is about, and the words that are marked. Words are counted from 0.
-use Rattle.std.specs.Prelude.{ℕ, ◌&&◌, not, List, Option, Some, nat_le, nat_lt, if◌then◌else◌}
+use Rattle.std.specs.Prelude.{ℕ, ◌+◌, ◌&&◌, Bool, not, List, [], ◌∷◌, Option, Some, nat_le, nat_lt, if◌then◌else◌}
 use Rattle.charts.specs.Field.{columns_of}
+use Rattle.charts.specs.declared.chart.Line.{Line}
 use Rattle.charts.specs.declared.statement.BodyLine.{BodyLine}
 use Rattle.charts.specs.declared.statement.BodyLine.TheVariants as body
 use Rattle.charts.specs.declared.statement.After.TheVariants as after
@@ -9,6 +10,7 @@ use Rattle.charts.specs.declared.statement.Statement.{Statement}
 use Rattle.charts.specs.declared.statement.Statement.TheVariants as says
 use Rattle.line_rules.specs.FieldRules.Columns.{is_column}
 use Rattle.line_rules.specs.FieldRules.Names.{name_used}
+use Rattle.line_rules.specs.PrintRules.Tapes.{form_lines}
 use Rattle.chart_rules.specs.declared.rule.Rule.{Rule}
 use Rattle.chart_rules.specs.declared.rule.Rule.TheVariants as rule
 
@@ -56,32 +58,47 @@ abbrev pub form_place : Statement → ℕ
 form_place (says.Form lines first overflow) = if nat_lt first 1 then 2 else if nat_lt 144 lines then 1 else 3
 form_place other = 3
 
--- where the channel of a TAPE or a SKIP stands
+-- whether a channel can have stops
+abbrev pub has_stops : ℕ → Bool
+has_stops channel = nat_le 2 channel && nat_le channel 11
+
+-- where the channel of a SKIP stands
 abbrev pub skip_place : BodyLine → ℕ
 skip_place body.Detail = 3
 skip_place (body.Total level) = 4
 
-abbrev pub channel_place : Statement → ℕ
-channel_place (says.After line (after.Skip channel)) = skip_place line
-channel_place other = 1
+-- how many stops of a TAPE line stand before its first wrong one: each of them is above the one before it, and a line of the form
+unfoldable pub good_stops : (lines before : ℕ) → List ℕ → ℕ
+good_stops lines before [] = 0
+good_stops lines before (stop ∷ stops) = if nat_lt before stop && nat_le stop lines then 1 + good_stops lines stop stops else 0
 
--- the place of the word that is marked where a line breaks a rule
-abbrev pub marked_place : Rule → Statement → ℕ
-marked_place rule.NameTwice statement = name_place statement
-marked_place rule.Columns statement = column_place statement
-marked_place rule.AmountSize statement = size_place statement
-marked_place rule.UnknownName statement = name_place statement
-marked_place rule.WrongKind statement = name_place statement
-marked_place rule.LineTwice statement = name_place statement
-marked_place rule.NoControl statement = level_place statement
-marked_place rule.TotalTextNotControl statement = name_place statement
-marked_place rule.DigitsRange statement = 4
-marked_place rule.DigitsShrink statement = 4
-marked_place rule.MarkMismatch statement = name_place statement
-marked_place rule.WheelRange statement = wheel_place statement
-marked_place rule.WheelOverlap statement = wheel_place statement
-marked_place rule.WheelClash statement = wheel_place statement
-marked_place rule.PrintKind statement = 0
-marked_place rule.Form statement = form_place statement
-marked_place rule.Tape statement = channel_place statement
-marked_place rule.CoupledMark statement = 4
+-- where the word of a TAPE line stands that is wrong: its channel, or its first wrong stop
+abbrev pub tape_place : (lines channel : ℕ) → List ℕ → ℕ
+tape_place lines channel stops = if has_stops channel then 2 + good_stops lines 0 stops else 1
+
+-- where the channel of a SKIP stands, or the wrong word of a TAPE line
+abbrev pub channel_place : List Line → Statement → ℕ
+channel_place chart (says.After line (after.Skip channel)) = skip_place line
+channel_place chart (says.Tape channel stops) = tape_place (form_lines chart) channel stops
+channel_place chart other = 1
+
+-- the place of the word that is marked where a line of a chart breaks a rule
+abbrev pub marked_place : Rule → List Line → Statement → ℕ
+marked_place rule.NameTwice chart statement = name_place statement
+marked_place rule.Columns chart statement = column_place statement
+marked_place rule.AmountSize chart statement = size_place statement
+marked_place rule.UnknownName chart statement = name_place statement
+marked_place rule.WrongKind chart statement = name_place statement
+marked_place rule.LineTwice chart statement = name_place statement
+marked_place rule.NoControl chart statement = level_place statement
+marked_place rule.TotalTextNotControl chart statement = name_place statement
+marked_place rule.DigitsRange chart statement = 4
+marked_place rule.DigitsShrink chart statement = 4
+marked_place rule.MarkMismatch chart statement = name_place statement
+marked_place rule.WheelRange chart statement = wheel_place statement
+marked_place rule.WheelOverlap chart statement = wheel_place statement
+marked_place rule.WheelClash chart statement = wheel_place statement
+marked_place rule.PrintKind chart statement = 0
+marked_place rule.Form chart statement = form_place statement
+marked_place rule.Tape chart statement = channel_place chart statement
+marked_place rule.CoupledMark chart statement = 4

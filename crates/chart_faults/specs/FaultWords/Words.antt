@@ -1,5 +1,5 @@
 -- What is wrong, in the words of the line that breaks a rule, and what helps.
-use Rattle.std.specs.Prelude.{ℕ, ◌&&◌, Bool, true, false, List, [], ◌++◌, Option, Some, None, codes, decimal, nat_le, if◌then◌else◌}
+use Rattle.std.specs.Prelude.{ℕ, Bool, true, false, List, [], ◌++◌, Option, Some, None, codes, decimal, if◌then◌else◌}
 use Rattle.charts.specs.Field.{columns_of, decimals_of, sign_column}
 use Rattle.charts.specs.Levels.{control_number, level_number}
 use Rattle.charts.specs.Name.{name_text}
@@ -17,7 +17,7 @@ use Rattle.line_rules.specs.FieldRules.Names.{names_amount}
 use Rattle.chart_rules.specs.declared.rule.Rule.{Rule}
 use Rattle.chart_rules.specs.declared.rule.Rule.TheVariants as rule
 use Rattle.chart_faults.specs.FaultWords.FormWords.{form_words}
-use Rattle.chart_faults.specs.FaultWords.Parts.{name_on}
+use Rattle.chart_faults.specs.FaultWords.Parts.{has_stops, name_on}
 use Rattle.chart_faults.specs.FaultWords.Others.{meeting_words, met, number_words, range_text, subject, taken_words}
 
 -- the field that a line is about, if its name has one
@@ -111,10 +111,6 @@ print_words other = codes "PRINT GROUP prints totals alone"
 -- a channel without a TAPE line
 unfoldable pub no_tape : ℕ → List ℕ
 no_tape channel = codes "channel " ++ decimal channel ++ codes " has no TAPE line"
-
--- whether a channel can have stops
-abbrev pub has_stops : ℕ → Bool
-has_stops channel = nat_le 2 channel && nat_le channel 11
 
 -- a skip to a channel that no TAPE line is of, or that can't have one
 unfoldable pub skip_words : ℕ → List ℕ

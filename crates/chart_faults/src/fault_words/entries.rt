@@ -54,8 +54,8 @@ fn write_line<W: Write>(
     ensures { OnOk result (Appends (W.contents out.old) (W.contents out.new)
         (law.line_told rule text.now around.now.fields.now around.now.lines.now around.now.earlier.now line.now)) }
 {
-    let span = token_span(text, marked_place(rule, &line.statement));
-    write_shown(out, text, span)?;
+    let place = marked_place(rule, around.lines, &line.statement);
+    write_shown(out, text, token_span(text, place))?;
     out.write_all(b"  ")?;
     write_words(out, rule, around, &line.statement)?;
     out.write_all(b"\n")

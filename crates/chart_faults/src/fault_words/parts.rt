@@ -1,10 +1,11 @@
 //! What stands where on a line of a chart.
 
-ghost use Rattle.std.specs.Prelude.{◌≡◌};
+ghost use Rattle.std.specs.Prelude.{◌≡◌, ◌≤◌, length};
+ghost use Rattle.line_rules.specs.PrintRules.Tapes.{form_lines};
 ghost use Rattle.chart_faults.specs.FaultWords.Parts as law;
 
 use chart_rules::Rule;
-use charts::{After, BodyLine, Field, Name, Statement};
+use charts::{After, BodyLine, Field, Line, Name, Statement};
 
 /// The name that a line describes or uses, if it has one.
 pub(crate) fn name_on(statement: &Statement) -> Option<Name>
@@ -97,6 +98,13 @@ fn form_place(statement: &Statement) -> usize
     }
 }
 
+/// Whether a channel can have stops.
+pub(crate) fn has_stops(channel: u16) -> bool
+    ensures { result ≡ law.has_stops channel }
+{
+    2 <= channel && channel <= 11
+}
+
 /// Where the channel of a SKIP stands.
 fn skip_place(line: BodyLine) -> usize
     ensures { result ≡ law.skip_place line }
@@ -107,22 +115,66 @@ fn skip_place(line: BodyLine) -> usize
     }
 }
 
-/// Where the channel of a TAPE or a SKIP stands.
-fn channel_place(statement: &Statement) -> usize
-    ensures { result ≡ law.channel_place statement.now }
+/// The lines of a chart's form, by its first FORM line; 0 if there is none.
+fn form_lines(chart: &[Line]) -> u16
+    ensures { result ≡ form_lines chart.now }
+{
+    for line in chart {
+        if let Statement::Form { lines, .. } = &line.statement {
+            return *lines;
+        }
+    }
+    0
+}
+
+/// How many stops of a TAPE line stand before its first wrong one: each of them is above the one before it, and a line of the form.
+#[tactic(auto, unfolding(crate::specs::FaultWords::Parts::good_stops))]
+fn good_stops(lines: u16, before: u16, stops: &[u16]) -> usize
+    ensures value { result ≡ law.good_stops lines before stops.now }
+    ensures within { result ≤ length stops.now }
+{
+    match stops {
+        [] => 0,
+        [stop, others @ ..] => {
+            if before < *stop && *stop <= lines {
+                1 + good_stops(lines, *stop, others)
+            } else {
+                0
+            }
+        }
+    }
+}
+
+/// Where the word of a TAPE line stands that is wrong: its channel, or its first wrong stop.
+fn tape_place(lines: u16, channel: u16, stops: &[u16]) -> usize
+    ensures { result ≡ law.tape_place lines channel stops.now }
+{
+    if has_stops(channel) {
+        2 + good_stops(lines, 0, stops)
+    } else {
+        1
+    }
+}
+
+/// Where the channel of a SKIP stands, or the wrong word of a TAPE line.
+fn channel_place(chart: &[Line], statement: &Statement) -> usize
+    ensures { result ≡ law.channel_place chart.now statement.now }
 {
     match statement {
         Statement::After {
             line,
             action: After::Skip(_),
         } => skip_place(*line),
+        Statement::Tape { channel, stops } => {
+            tape_place(form_lines(chart), *channel, stops.lines())
+        }
         _ => 1,
     }
 }
 
-/// The place of the word that is marked where a line breaks a rule.
-pub(crate) fn marked_place(rule: Rule, statement: &Statement) -> usize
-    ensures { result ≡ law.marked_place rule statement.now }
+/// The place of the word that is marked where a line of a chart breaks a rule.
+pub(crate) fn marked_place(rule: Rule, chart: &[Line], statement: &Statement) -> usize
+    ensures { result ≡ law.marked_place rule chart.now statement.now }
 {
     match rule {
         Rule::NameTwice
@@ -138,6 +190,6 @@ pub(crate) fn marked_place(rule: Rule, statement: &Statement) -> usize
         Rule::WheelRange | Rule::WheelOverlap | Rule::WheelClash => wheel_place(statement),
         Rule::PrintKind => 0,
         Rule::Form => form_place(statement),
-        Rule::Tape => channel_place(statement),
+        Rule::Tape => channel_place(chart, statement),
     }
 }

@@ -13,7 +13,7 @@ use crate::fault_words::form_words::write_form;
 use crate::fault_words::others::{
     met, write_meeting, write_other, write_range, write_subject, write_taken,
 };
-use crate::fault_words::parts::name_on;
+use crate::fault_words::parts::{has_stops, name_on};
 use chart_rules::Rule;
 use charts::{After, ControlLevel, DetailOption, Field, Line, Name, Printing, Statement};
 use line_rules::field_rules::{Fields, first_named};
@@ -280,13 +280,6 @@ fn write_no_tape<W: Write>(out: &mut W, channel: u16) -> io::Result<()>
     ensures { OnOk result (Appends (W.contents out.old) (W.contents out.new) (law.no_tape channel)) }
 {
     write_between(out, "channel ", channel, " has no TAPE line")
-}
-
-/// Whether a channel can have stops.
-fn has_stops(channel: u16) -> bool
-    ensures { result ≡ law.has_stops channel }
-{
-    2 <= channel && channel <= 11
 }
 
 /// Writes that no TAPE line is of the channel of a skip, or can be.

@@ -1,7 +1,7 @@
 -- Lines of a wiring chart, told one after another.
 use Rattle.std.proofs.Common.{◌≡◌, ◌∙◌, sym, subst, ap, ℕ, ◌+◌, Bool, true, false, List, [], ◌∷◌, ◌++◌, None, append-nil, append_assoc, codes, decimal}
 use Rattle.differences.specs.Differences.{HasSize, IsDifference}
-use Rattle.differences.specs.PanelProgress.ExtraLines.{AreToldLines, IsExtra, IsToldLine, alone, is_all_extra}
+use Rattle.differences.specs.PanelProgress.ExtraLines.{AreToldLines, IsExtra, alone, is_all_extra}
 use Rattle.differences.specs.PanelProgress.ExtraLines.AreToldLines.{next, none}
 use Rattle.differences.specs.PanelProgress.ExtraLines.IsToldLine.{is_asked_for, is_too_much, says_nothing}
 use Rattle.differences.specs.PanelProgress.Helper.{GainsTold, GoesOn, SaysAlone}

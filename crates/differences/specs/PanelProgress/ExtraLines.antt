@@ -1,4 +1,4 @@
--- Which lines of a wiring chart say something that is too much.
+-- Which lines of a wiring chart say something that is extra.
 use Rattle.std.specs.Prelude.{◌≡◌, ℕ, ◌+◌, ◌&&◌, Bool, true, false, List, [], ◌∷◌, ◌++◌, codes, decimal, nat_eq, nat_lt}
 use Rattle.differences.specs.Differences.{HasSize, IsDifference}
 use Rattle.setups.specs.Wiring.{Wiring}
@@ -14,7 +14,7 @@ alone version line = ended (title_line version) ++ codes "FORM 144 1 144\n" ++ l
 abbrev pub is_all_extra : (size asked_for : ℕ) → Bool
 is_all_extra size asked_for = nat_lt 0 size && nat_eq asked_for 0
 
--- Whether a setup has something, and all of that is too much.
+-- Whether a setup has something, and all of that is extra.
 pub record IsExtra (one extra : Wiring) (is : Bool) : Type 0 where
   pub size : ℕ
   pub has_size : HasSize one size
@@ -24,7 +24,7 @@ pub record IsExtra (one extra : Wiring) (is : Bool) : Type 0 where
   pub left_size : HasSize left asked_for
   pub so : is ≡ is_all_extra size asked_for
 
--- What is told of the line with a number: if what it says alone is too much, its number and what it says, as a wiring chart spells it. Nothing
+-- What is told of the line with a number: if what it says alone is extra, its number and what it says, as a wiring chart spells it. Nothing
 -- of a line that says nothing, as an empty one, or that the chart asks for.
 pub data IsToldLine (version : Version) (extra : Wiring) (number : ℕ) (line : List ℕ) : (told : List ℕ) → Type 0 where
   says_nothing : ((one : Wiring) → ¬ ReadsAs (alone version line) one) → IsToldLine version extra number line []

@@ -1,4 +1,4 @@
-//! The lines of a wiring chart that are too much.
+//! The lines of a wiring chart that are extra.
 
 ghost use Rattle.std.specs.Prelude.{◌≡◌, ◌++◌, IfOk, OnOk};
 ghost use Rattle.std.specs.String.{string_bytes};
@@ -59,7 +59,7 @@ fn is_all_extra(size: u32, asked_for: u32) -> bool
 }
 
 #[tactic(auto, using(crate::proofs::PanelProgress::Telling::extra_known))]
-// Whether a setup has something, and all of that is too much.
+// Whether a setup has something, and all of that is extra.
 fn is_extra(alloc: Global, one: &Setup, extra: &Setup) -> Result<bool, AllocError>
     ensures { IfOk result (IsExtra one.now extra.now) }
 {
@@ -68,7 +68,7 @@ fn is_extra(alloc: Global, one: &Setup, extra: &Setup) -> Result<bool, AllocErro
 }
 
 #[tactic(auto, using(crate::proofs::PanelProgress::Telling::nothing_said, crate::proofs::PanelProgress::Telling::asked_for, crate::proofs::PanelProgress::Telling::too_much))]
-// Writes the line with a number, if what it says is too much.
+// Writes the line with a number, if what it says is extra.
 fn write_if_extra(
     alloc: Global,
     text: &mut String,
@@ -90,8 +90,8 @@ fn write_if_extra(
 }
 
 #[tactic(auto, using(crate::proofs::PanelProgress::Telling::begins))]
-/// The lines of a wiring chart that say something that is too much, each with its number, from 1, and spelled as in a wiring chart:
-/// `line 14: WIRE FR.5 GE.4.3.1`. `extra` is what is too much of the setup that the text reads as. Its only refusal is memory.
+/// The lines of a wiring chart that say something that is extra, each with its number, from 1, and spelled as in a wiring chart:
+/// `line 14: WIRE FR.5 GE.4.3.1`. `extra` is what is extra of the setup that the text reads as. Its only refusal is memory.
 pub fn extra_lines(
     alloc: Global,
     version: Version,

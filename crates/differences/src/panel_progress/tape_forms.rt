@@ -14,7 +14,7 @@ pub fn is_same_form(one: &Tape, other: &Tape) -> bool
         && one.overflow() == other.overflow()
 }
 
-/// How many forms are missing, and too much: one, where two tapes have not one form.
+/// How many forms are missing, and how many are extra: one, where two tapes have not one form.
 pub fn forms(one: &Tape, other: &Tape) -> u32
     ensures { result ≡ forms one.now other.now }
 {

@@ -1,5 +1,4 @@
-use Rattle.std.proofs.Common.{◌≡◌, sym, subst, List, AllPairs, Ok, Err}
-use Rattle.chart_faults.specs.declared.listing.BrokenRule.{BrokenRule}
+use Rattle.std.proofs.Common.{AllPairs}
 use Rattle.chart_faults.specs.Listed.{HasAllListed, ComesBefore, BeginsAsChecked}
 use Rattle.chart_faults.specs.HelperLists.{faults_of}
 use Rattle.chart_faults.proofs.Answered.{IfOk-list}

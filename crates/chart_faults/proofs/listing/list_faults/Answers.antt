@@ -1,8 +1,8 @@
-use Rattle.std.proofs.Common.{◌≡◌, ◌++◌, ◌∙◌, sym, ap, refl, length, drop, take}
+use Rattle.std.proofs.Common.{◌++◌, ◌∙◌, sym, ap, refl, length, drop, take}
 use Rattle.std.proofs.lemmas.Option.{slice_get_read}
 use Rattle.line_rules.specs.FieldRules.Fields.{fields_of}
 use Rattle.line_rules.proofs.FieldRules.Places.{fields_of-split}
-use Rattle.chart_faults.specs.HelperLists.{faults_of, faults_from, faults_at, faults_at_end}
+use Rattle.chart_faults.specs.HelperLists.{faults_of, faults_at, faults_at_end}
 use Rattle.chart_faults.proofs.Steps.{ListedTo-more, ListedTo-all}
 use Rattle.chart_faults.proofs.listing.list_faults.Goals as goal
 

@@ -1,6 +1,6 @@
 use Rattle.std.proofs.Common.{arith}
 use Rattle.std.proofs.lemmas.Option.{slice_get-get_or}
-use Rattle.line_wires.proofs.Steps.{adds-some, upto-all, upto-more, upto-none}
+use Rattle.line_wires.proofs.Steps.{adds-some, upto-more, upto-none}
 use Rattle.differences.proofs.Wires.{from-all, from-nowhere}
 use Rattle.differences.proofs.between.add_from.Goals as goal
 

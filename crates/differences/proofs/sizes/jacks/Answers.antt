@@ -1,5 +1,5 @@
 use Rattle.std.proofs.Common.{arith}
-use Rattle.differences.proofs.Counting.{jacks-all, jacks-more}
+use Rattle.differences.proofs.Counting.{jacks-more}
 use Rattle.differences.proofs.sizes.jacks.Goals as goal
 
 pub loop-place-preserved : goal.loop-place-preserved

@@ -1,4 +1,4 @@
-use Rattle.std.proofs.Common.{false, sym, true≢false, ◌∙◌}
+use Rattle.std.proofs.Common.{sym, true≢false, ◌∙◌}
 use Rattle.differences.proofs.Counting.{jack-none, jack-one}
 use Rattle.differences.proofs.sizes.jacks_at.Goals as goal
 

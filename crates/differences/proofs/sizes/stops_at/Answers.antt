@@ -1,5 +1,5 @@
 use Rattle.std.proofs.Common.{sym}
-use Rattle.differences.proofs.Counting.{stop-none, stop-one}
+use Rattle.differences.proofs.Counting.{stop-one}
 use Rattle.differences.proofs.sizes.stops_at.Goals as goal
 
 pub returns-then-has_stop-clause-many : goal.returns-then-has_stop-clause-many

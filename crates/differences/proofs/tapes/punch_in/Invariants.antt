@@ -1,4 +1,3 @@
-use Rattle.std.proofs.Common.{◌≡◌}
 use Rattle.differences.specs.Helper.{LacksInBefore}
 use Rattle.jacks_and_tape.specs.HelperJacks.{Punches}
 use Rattle.differences.proofs.tapes.punch_in.Given as goal

@@ -1,9 +1,7 @@
 use Rattle.setups.specs.Tapes.{HasStops}
-use Rattle.wiring_table.specs.Below.report.ChartForm.{form_of, stops_of}
-use Rattle.std.proofs.Common.{ap, arith, subst, ◌∙◌, ◌≡◌}
+use Rattle.std.proofs.Common.{[], arith, subst, ◌∙◌, ◌≡◌}
 use Rattle.std.specs.Prelude.{IfOk}
 use Rattle.jacks_and_tape.proofs.TapeStops.{channels-more, channels-none, stops-within, tape-whole}
-use Rattle.std.proofs.Common.{[]}
 use Rattle.jacks_and_tape.proofs.chart_tape.punched_tape.Goals as goal
 
 pub loop-channel-init : goal.loop-channel-init
@@ -11,30 +9,27 @@ loop-channel-init c = (omega arith, omega arith, channels-none)
 
 pub punch_channel-requires-clause-stops : goal.punch_channel-requires-clause-stops
 punch_channel-requires-clause-stops c =
-    let value = c.lines-lines.ensures.value in
     let long = subst (λ r. IfOk r (λ tape. tape.lines ≡ c.form_of-long.result.0)) c.unwrap-tape.ensures c.new.ensures.lines
-    ∙ c.form_of-long.ensures.lines ∙ ap (λ ls. (form_of ls).lines) value in
-    stops-within c.args.chart.now.lines c.loop-channel.channel c.loop-channel.tape.lines c.stops_of.result.now c.requires
-    (c.stops_of.ensures ∙ ap (λ ls. stops_of ls c.loop-channel.channel) value) (c.loop-channel.invariant.2.lines ∙ long)
+    ∙ c.form_of-long.ensures.lines in
+    stops-within c.args.lines.now c.loop-channel.channel c.loop-channel.tape.lines c.stops_of.result.now c.requires
+    c.stops_of.ensures (c.loop-channel.invariant.2.lines ∙ long)
 
 pub loop-channel-preserved : goal.loop-channel-preserved
-loop-channel-preserved c =
-    let value = c.lines-lines.ensures.value in (
-      omega (arith, c.loop-channel.invariant.0),
-      omega (arith, c.loop-channel-test.true),
-      channels-more c.args.chart.now.lines c.loop-channel.channel c.stops_of.result.now _ _ _ c.loop-channel.invariant.0
-          (c.stops_of.ensures ∙ ap (λ ls. stops_of ls c.loop-channel.channel) value) c.loop-channel.invariant.2 c.punch_channel.ensures,
-    )
+loop-channel-preserved c = (
+  omega (arith, c.loop-channel.invariant.0),
+  omega (arith, c.loop-channel-test.true),
+  channels-more c.args.lines.now c.loop-channel.channel c.stops_of.result.now _ _ _ c.loop-channel.invariant.0
+      c.stops_of.ensures c.loop-channel.invariant.2 c.punch_channel.ensures,
+)
 
 pub returns : goal.returns
 returns c =
-    let value = c.lines-lines.ensures.value in
     let long = subst (λ r. IfOk r (λ tape. tape.lines ≡ c.form_of-long.result.0)) c.unwrap-tape.ensures c.new.ensures.lines
-    ∙ c.form_of-long.ensures.lines ∙ ap (λ ls. (form_of ls).lines) value in
+    ∙ c.form_of-long.ensures.lines in
     let top = subst (λ r. IfOk r (λ tape. tape.first ≡ c.form_of-long.result.1)) c.unwrap-tape.ensures c.new.ensures.first
-    ∙ c.form_of-long.ensures.first ∙ ap (λ ls. (form_of ls).first) value in
+    ∙ c.form_of-long.ensures.first in
     let full = subst (λ r. IfOk r (λ tape. tape.overflow ≡ c.form_of-long.result.2)) c.unwrap-tape.ensures c.new.ensures.overflow
-    ∙ c.form_of-long.ensures.overflow ∙ ap (λ ls. (form_of ls).overflow) value in
+    ∙ c.form_of-long.ensures.overflow in
     let none = subst (λ r. IfOk r (λ tape. HasStops tape [])) c.unwrap-tape.ensures c.new.ensures.stops in
-    tape-whole c.args.chart.now.lines c.unwrap-tape.result c.loop-channel.tape c.loop-channel.channel c.requires long top full none
+    tape-whole c.args.lines.now c.unwrap-tape.result c.loop-channel.tape c.loop-channel.channel c.requires long top full none
     c.loop-channel.invariant.2 (omega (arith, c.loop-channel.invariant.1, c.loop-channel-test.false))

@@ -4,4 +4,4 @@ use Rattle.jacks_and_tape.proofs.chart_tape.punched_tape.Given as goal
 
 abbrev pub invariant-loop-channel : goal.invariant-loop-channel
 invariant-loop-channel l =
-    (2 ≤ l.channel) × (l.channel ≤ 12) × Punches (StopsBefore l.chart.lines l.channel) l.initial.tape l.tape
+    (2 ≤ l.channel) × (l.channel ≤ 12) × Punches (StopsBefore l.lines l.channel) l.initial.tape l.tape

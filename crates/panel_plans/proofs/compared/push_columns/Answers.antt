@@ -1,6 +1,5 @@
-use Rattle.std.proofs.Common.{ℕ, ◌+◌, ◌++◌, ◌∷◌, [], ap, map, sym, ◌∙◌, ◌≡◌, append_assoc}
+use Rattle.std.proofs.Common.{ℕ, ◌+◌, ◌++◌, ◌∷◌, [], ap, map, ◌∙◌, append_assoc}
 use Rattle.std.specs.List.{range_with_len}
-use Rattle.panel_plans.specs.declared.compared.ComparedColumn.{ComparedColumn}
 use Rattle.panel_plans.proofs.Comparing.{compared_in, columns-more}
 use Rattle.panel_plans.proofs.compared.push_columns.Goals as goal
 

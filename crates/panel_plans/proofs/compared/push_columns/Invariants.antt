@@ -1,6 +1,5 @@
 use Rattle.std.proofs.Common.{ℕ, ◌≡◌, ◌++◌, map}
 use Rattle.std.specs.List.{range_with_len}
-use Rattle.panel_plans.specs.declared.compared.ComparedColumn.{ComparedColumn}
 use Rattle.panel_plans.proofs.compared.push_columns.Given as goal
 
 abbrev pub invariant-loop-place : goal.invariant-loop-place

@@ -1,4 +1,4 @@
-use Rattle.std.proofs.Common.{Contains, List, ap, get_or, length, subst, sym, ◌++◌, ◌∷◌, [], ◌+◌, ◌≤◌, ◌∙◌, ◌≡◌, arith}
+use Rattle.std.proofs.Common.{Contains, ap, length, subst, sym, ◌∷◌, [], ◌∙◌, arith}
 use Rattle.std.proofs.lemmas.List.{length-append}
 use Rattle.panel_plans.specs.ComparedColumns.{compared_columns}
 use Rattle.panel_plans.proofs.Alike.{back, is-compared}

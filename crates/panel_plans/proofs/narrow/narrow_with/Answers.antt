@@ -1,4 +1,4 @@
-use Rattle.std.proofs.Common.{arith, refl, subst, sym, ◌∙◌}
+use Rattle.std.proofs.Common.{arith, subst, sym, ◌∙◌}
 use Rattle.std.proofs.lemmas.Bool.{false≢true}
 use Rattle.capacity.specs.declared.group.CounterGroup.{CounterGroup}
 use Rattle.panel_plans.specs.Groups.{group_with}

@@ -12,4 +12,4 @@ if-none {X} {P} o is holds = subst (λ (each : Option X). IfNone each P) is hold
 
 pub returns-in-None : goal.returns-in-None
 returns-in-None c =
-    ok-all c.with_near.result _ (λ told other its shows. absurd (if-none c.args.shown c.in-None.is c.requires.none other its shows))
+    ok-all c.with_near.result _ (λ told other its shows. absurd (if-none c.in_ok-shown.shown c.in-None.is c.in_ok-shown.ensures.none other its shows))

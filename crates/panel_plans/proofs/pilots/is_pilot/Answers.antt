@@ -1,4 +1,4 @@
-use Rattle.std.proofs.Common.{subst, sym, ◌≡◌}
+use Rattle.std.proofs.Common.{subst, sym}
 use Rattle.hubs.specs.declared.hub.Hub.TheVariants.{FR, PIX}
 use Rattle.charts.specs.Field.{column_of_rule}
 use Rattle.panel_plans.specs.NamingWires.NamesPart.{picked_up}

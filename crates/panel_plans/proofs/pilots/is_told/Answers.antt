@@ -1,10 +1,7 @@
-use Rattle.std.proofs.Common.{Contains, List, Some, ◌≡◌, ◌∙◌, ap, arith, get_or, length, refl, subst, sym, true≢false}
+use Rattle.std.proofs.Common.{Contains, List, arith, refl, subst, sym, true≢false}
 use Rattle.charts.specs.declared.chart.Line.{Line}
 use Rattle.panel_plans.specs.PilotWires.{TellsPilot}
-use Rattle.panel_plans.specs.Wired.{IsWiredBy}
 use Rattle.panel_plans.proofs.Steps.{told-more}
-use Rattle.plans.specs.Plans.{Lists}
-use Rattle.wiring_table.specs.Parts.{pilot_for}
 use Rattle.panel_plans.proofs.pilots.is_told.Goals as goal
 
 pub loop-line-preserved : goal.loop-line-preserved

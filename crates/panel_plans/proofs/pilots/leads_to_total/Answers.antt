@@ -1,4 +1,4 @@
-use Rattle.std.proofs.Common.{Option, Some, sym, ap, ◌∙◌, ◌≡◌}
+use Rattle.std.proofs.Common.{Some, sym, ap, ◌∙◌, ◌≡◌}
 use Rattle.panel_plans.specs.Wired.{served_by}
 use Rattle.panel_plans.proofs.Alike.{back, leads-to-total}
 use Rattle.panel_plans.proofs.Found.{found-alike, served-there}
@@ -15,7 +15,7 @@ returns-in-Some c = λ other its total shows listed is.
     let served : counter_for lines its number ≡ Some c.in-Some.counter =
     sym (ap (served_by lines its number) is) ∙ sym found ∙ c.in-Some.is in
     let own = by-counter lines its c.args.setup.now c.args.rule c.args.pilot number c.in-Some.counter c.negative_side.result
-    c.units_group.result served c.negative_side.ensures c.units_group.ensures c.has.ensures.value in (
+    c.units_group.result served c.negative_side.ensures.value c.units_group.ensures c.has.ensures.value in (
       (λ yes. leads-to-total shows.alike lines its c.args.rule c.args.pilot number (own.0 yes)),
       (λ leads. own.1 (leads-to-total (back shows.alike) lines its c.args.rule c.args.pilot number leads)),
     )

@@ -1,7 +1,6 @@
-use Rattle.std.proofs.Common.{IfSome, None, Option, Some, subst, sym, ◌∙◌, ◌≡◌}
-use Rattle.panel_plans.specs.PilotWires.{IsTold}
+use Rattle.std.proofs.Common.{IfSome, Some, subst, ◌≡◌}
 use Rattle.panel_plans.specs.NamingWires.{ShowsPartsOf}
-use Rattle.panel_plans.proofs.PilotsTold.{none-for, same-name, signed-of, told-of, pilot-there, wanting}
+use Rattle.panel_plans.proofs.PilotsTold.{none-for, same-name, signed-of, wanting}
 use Rattle.plans.specs.Plans.{Lists}
 use Rattle.setups.specs.Wiring.{Wiring}
 use Rattle.wiring_table.specs.Parts.{pilot_for}

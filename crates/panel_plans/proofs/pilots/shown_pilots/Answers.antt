@@ -1,4 +1,4 @@
-use Rattle.std.proofs.Common.{Contains, List, ap, append-nil, filter_map, subst, sym, ◌++◌, ◌∙◌, ◌≡◌}
+use Rattle.std.proofs.Common.{Contains, List, ap, append-nil, filter_map, subst, sym, ◌++◌, ◌∙◌}
 use Rattle.std.proofs.lemmas.List.{drop_all}
 use Rattle.panel_plans.specs.Renumbered.{with_kind}
 use Rattle.panel_plans.specs.Wired.{IsWiredBy}
@@ -6,7 +6,6 @@ use Rattle.panel_plans.proofs.PilotsTold.{all-pilots}
 use Rattle.panel_plans.proofs.Steps.{one-more, there-more, there-none}
 use Rattle.plans.specs.PartNumbers.{AreThere}
 use Rattle.plans.specs.declared.part_numbers.PartKind.TheVariants as kind
-use Rattle.wanted.specs.Pilots.{pilots_of}
 use Rattle.wiring_table.specs.Parts.{pilot_for}
 use Rattle.panel_plans.proofs.pilots.shown_pilots.Goals as goal
 

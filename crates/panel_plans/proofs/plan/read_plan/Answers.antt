@@ -1,9 +1,7 @@
 use Rattle.std.proofs.Common.{subst, ◌≡◌}
 use Rattle.std.specs.Option.{IsSomeAnd}
-use Rattle.panel_plans.specs.Wired.{IsWiredBy}
 use Rattle.panel_plans.proofs.Alike.{own-parts}
 use Rattle.panel_plans.proofs.Steps.{if-ok}
-use Rattle.plans.specs.Plans.{Lists}
 use Rattle.panel_plans.proofs.plan.read_plan.Goals as goal
 
 pub returns-in-Some-clause-found : goal.returns-in-Some-clause-found

@@ -1,4 +1,4 @@
-use Rattle.std.proofs.Common.{append-nil, Contains, List, Some, ap, filter_map, length, refl, subst, sym, ◌++◌, ◌∙◌, ◌≡◌}
+use Rattle.std.proofs.Common.{append-nil, Contains, List, ap, filter_map, subst, sym, ◌++◌, ◌∙◌}
 use Rattle.std.proofs.lemmas.List.{drop_all}
 use Rattle.charts.specs.declared.chart.Line.{Line}
 use Rattle.panel_plans.specs.Wired.{served_by, served_on}

@@ -1,4 +1,4 @@
-use Rattle.std.proofs.Common.{append-nil, Contains, IfSome, List, Some, ◌≤◌, ap, filter_map, subst, sym, ◌++◌, ◌∙◌, ◌≡◌}
+use Rattle.std.proofs.Common.{append-nil, Contains, IfSome, List, ◌≤◌, ap, filter_map, subst, sym, ◌++◌, ◌∙◌, ◌≡◌}
 use Rattle.std.specs.Option.{option_and_then}
 use Rattle.std.proofs.lemmas.List.{drop_all}
 use Rattle.charts.specs.declared.chart.Line.{Line}

@@ -1,4 +1,4 @@
-use Rattle.std.proofs.Common.{List, Some, ap, flat_map, sym, ◌++◌, ◌∙◌, ◌≡◌}
+use Rattle.std.proofs.Common.{Some, ap, flat_map, sym, ◌++◌, ◌∙◌}
 use Rattle.charts.specs.declared.chart.Line.{Line}
 use Rattle.panel_plans.specs.WheelParts.{detail_wheel, wheels_from, wheels_on}
 use Rattle.panel_plans.proofs.Steps.{parts-all, parts-more, parts-none}

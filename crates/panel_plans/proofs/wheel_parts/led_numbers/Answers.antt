@@ -1,4 +1,4 @@
-use Rattle.std.proofs.Common.{ap, subst, sym, ◌++◌, ◌∙◌, ◌≡◌}
+use Rattle.std.proofs.Common.{ap, subst, sym, ◌++◌}
 use Rattle.panel_plans.proofs.WheelParts.{led-all, led-more, led-none}
 use Rattle.panel_plans.proofs.Steps.{there-more, there-none}
 use Rattle.plans.specs.PartNumbers.{AreThere}

@@ -1,4 +1,4 @@
-use Rattle.std.proofs.Common.{refl, subst, sym, ◌∙◌, ◌≡◌}
+use Rattle.std.proofs.Common.{refl, subst, sym, ◌∙◌}
 use Rattle.panel_plans.specs.WheelParts.{AreLed, split_wheels}
 use Rattle.panel_plans.specs.declared.wheel_parts.WheelPart.TheVariants as by_wheel
 use Rattle.panel_plans.proofs.Alike.{are-led, back}

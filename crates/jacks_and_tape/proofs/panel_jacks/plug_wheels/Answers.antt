@@ -1,6 +1,6 @@
-use Rattle.std.proofs.Common.{arith}
-use Rattle.jacks_and_tape.proofs.Plugging.{plugs-one, ranged-all, ranged-more, ranged-none}
-use Rattle.jacks_and_tape.proofs.panel_jacks.plug_suppresses.Goals as goal
+use Rattle.std.proofs.Common.{arith, sym, ◌∙◌}
+use Rattle.jacks_and_tape.proofs.Plugging.{plugs-as, plugs-one, ranged-all, ranged-more, ranged-none}
+use Rattle.jacks_and_tape.proofs.panel_jacks.plug_wheels.Goals as goal
 
 pub loop-wheel-init : goal.loop-wheel-init
 loop-wheel-init c = (omega arith, c.requires.order, ranged-none (omega arith))
@@ -10,7 +10,8 @@ loop-wheel-preserved c = (
   omega (arith, c.loop-wheel.invariant.0),
   omega (arith, c.loop-wheel-test.true),
   ranged-more c.loop-wheel.invariant.0 c.loop-wheel.invariant.2
-      (plugs-one c.plug.ensures.plugged c.plug.ensures.wires c.plug.ensures.tape),
+      (plugs-as (λ each is. is ∙ c.jack_of.ensures.value) (λ each is. is ∙ sym c.jack_of.ensures.value)
+      (plugs-one c.plug.ensures.plugged c.plug.ensures.wires c.plug.ensures.tape)),
 )
 
 pub returns : goal.returns

@@ -1,8 +1,0 @@
-use Rattle.std.proofs.Common.{◌≤◌}
-use Rattle.jacks_and_tape.specs.HelperJacks.{Plugs, Ranged}
-use Rattle.hubs.specs.declared.jack.Jack.TheVariants as jack
-use Rattle.jacks_and_tape.proofs.panel_jacks.plug_links.Given as goal
-
-abbrev pub invariant-loop-wheel : goal.invariant-loop-wheel
-invariant-loop-wheel l =
-    (l.from ≤ l.wheel) × (l.wheel ≤ l.end) × Plugs (Ranged jack.Link l.from l.wheel) l.initial.setup l.setup
