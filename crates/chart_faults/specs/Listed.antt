@@ -1,13 +1,15 @@
 -- Which faults of a chart are listed, and in which order: each line with each rule that it breaks, but for a rule that it breaks only
 -- since something else is wrong.
-use Rattle.std.specs.Prelude.{◌≡◌, ℕ, ◌<◌, ◌≤◌, Bool, true, false, List, ◌∷◌, ◌++◌, ◌||◌, ◌&&◌, not, ◌⊎◌, Contains}
+use Rattle.std.specs.Prelude.{◌≡◌, ℕ, ◌<◌, ◌≤◌, Bool, true, false, List, [], ◌∷◌, ◌++◌, ◌||◌, ◌&&◌, not, nat_lt, ◌⊎◌, Contains}
+use Rattle.std.specs.List.{list_any}
 use Rattle.charts.specs.Chart.{Chart}
 use Rattle.charts.specs.declared.chart.Line.{Line}
 use Rattle.charts.specs.declared.statement.Statement.{Statement}
 use Rattle.charts.specs.declared.statement.Statement.TheVariants as says
 use Rattle.line_rules.specs.FieldRules.Fields.{fields_of}
 use Rattle.line_rules.specs.FieldRules.Names.{breaks_unknown_name, breaks_wrong_kind}
-use Rattle.line_rules.specs.PrintRules.Forms.{lacks_form}
+use Rattle.line_rules.specs.PrintRules.Forms.{breaks_form, lacks_form}
+use Rattle.line_rules.specs.PrintRules.Tapes.{is_good_tape}
 use Rattle.chart_rules.specs.declared.rule.Rule.{Rule}
 use Rattle.chart_rules.specs.declared.rule.Rule.TheVariants as rule
 use Rattle.chart_rules.specs.Rules.{breaks_at, lacks, rule_number, Broken, IsFirstBroken}
@@ -17,12 +19,23 @@ use Rattle.chart_faults.specs.declared.listing.BrokenRule.{BrokenRule}
 abbrev pub misnames : Chart → Statement → Bool
 misnames chart statement = breaks_unknown_name (fields_of chart.lines) statement || breaks_wrong_kind (fields_of chart.lines) statement
 
--- Whether a line can break a rule only since something else is wrong. Where a name has no FIELD, or one of the wrong kind, nothing can be
--- said of what it controls and of the counter groups that its total takes; where there is no FORM, nothing of the stops of a tape.
+-- whether a field has no columns, since its last one stands before the first
+abbrev pub has_no_columns : Statement → Bool
+has_no_columns (says.Field field) = nat_lt field.last field.first
+has_no_columns other = false
+
+-- whether a chart has no FORM line, or one that breaks its rule
+abbrev pub lacks_good_form : List Line → Bool
+lacks_good_form lines = lacks_form lines || list_any (λ line. breaks_form lines line.statement) lines
+
+-- Whether a line can break a rule only since something else is wrong. Of a field without columns nothing can be said of its size. Where a name
+-- has no FIELD, or one of the wrong kind, nothing can be said of what it controls and of the counter groups that its total takes; where there is
+-- no good FORM, nothing of a tape that would be good on the largest one, of 144 lines.
 abbrev pub only_follows : Rule → Chart → Statement → Bool
+only_follows rule.AmountSize chart statement = has_no_columns statement
 only_follows rule.TotalTextNotControl chart statement = misnames chart statement
 only_follows rule.CoupledMark chart statement = misnames chart statement
-only_follows rule.Tape chart (says.Tape channel stops) = lacks_form chart.lines
+only_follows rule.Tape chart (says.Tape channel stops) = lacks_good_form chart.lines && is_good_tape 144 channel stops
 only_follows other chart statement = false
 
 -- whether a line breaks a rule, and not only since something else is wrong

@@ -1,10 +1,13 @@
 //! Whether a line is at fault by a rule.
 
 ghost use Rattle.std.specs.Prelude.{◌≡◌, ◌++◌, List};
+ghost use Rattle.std.specs.List.{list_any};
 ghost use Rattle.charts.specs.declared.statement.Field.{Field};
 ghost use Rattle.line_rules.specs.FieldRules.Fields.{fields_of};
+ghost use Rattle.line_rules.specs.PrintRules.Forms.{breaks_form};
+ghost use Rattle.line_rules.specs.PrintRules.Tapes.{are_within, is_good_tape, rise_above};
 ghost use Rattle.chart_rules.specs.Rules as law;
-ghost use Rattle.chart_faults.specs.Listed.{is_at_fault, misnames, only_follows};
+ghost use Rattle.chart_faults.specs.Listed.{has_no_columns, is_at_fault, lacks_good_form, misnames, only_follows};
 
 use chart_rules::Rule;
 use charts::{Line, RawChart, Statement};
@@ -17,6 +20,9 @@ use line_rules::print_rules::{
     breaks_form, breaks_mark_mismatch, breaks_print_kind, breaks_tape, breaks_wheel_clash,
     breaks_wheel_overlap, breaks_wheel_range, lacks_form, lacks_print,
 };
+
+/// As many lines as the largest form has.
+const MOST_LINES: u16 = 144;
 
 /// Whether a line breaks a rule, by the chart and the lines before it.
 fn breaks(rule: Rule, fields: &Fields, raw: &RawChart, earlier: &[Line], line: &Line) -> bool
@@ -67,6 +73,58 @@ fn misnames(fields: &Fields, raw: &RawChart, statement: &Statement) -> bool
     breaks_unknown_name(fields, statement) || breaks_wrong_kind(fields, statement)
 }
 
+/// Whether a field has no columns, since its last one stands before the first.
+fn has_no_columns(statement: &Statement) -> bool
+    ensures { result ≡ has_no_columns statement.now }
+{
+    match statement {
+        Statement::Field(field) => field.last < field.first,
+        _ => false,
+    }
+}
+
+/// Whether a line of a chart is a FORM line that breaks its rule.
+fn has_bad_form(lines: &[Line]) -> bool
+    ensures { result ≡ list_any (λ line. breaks_form lines.now line.statement) lines.now }
+{
+    lines.iter().any(|line| breaks_form(lines, &line.statement))
+}
+
+/// Whether a chart has no FORM line, or one that breaks its rule.
+fn lacks_good_form(lines: &[Line]) -> bool
+    ensures { result ≡ lacks_good_form lines.now }
+{
+    lacks_form(lines) || has_bad_form(lines)
+}
+
+/// Whether stops rise, the first above a given line.
+fn rise_above(before: u16, stops: &[u16]) -> bool
+    ensures { result ≡ rise_above before stops.now }
+{
+    let mut last = before;
+    for stop in stops {
+        if *stop <= last {
+            return false;
+        }
+        last = *stop;
+    }
+    true
+}
+
+/// Whether stops are lines of the largest form.
+fn are_within(stops: &[u16]) -> bool
+    ensures { result ≡ are_within 144 stops.now }
+{
+    stops.iter().all(|stop| *stop <= MOST_LINES)
+}
+
+/// Whether a tape would be good on the largest form.
+fn is_good_somewhere(channel: u16, stops: &[u16]) -> bool
+    ensures { result ≡ is_good_tape 144 channel stops.now }
+{
+    2 <= channel && channel <= 11 && rise_above(0, stops) && are_within(stops)
+}
+
 /// Whether a line can break a rule only since something else is wrong.
 fn only_follows(rule: Rule, fields: &Fields, raw: &RawChart, statement: &Statement) -> bool
     requires { fields.now ≡ fields_of raw.now.lines }
@@ -74,7 +132,10 @@ fn only_follows(rule: Rule, fields: &Fields, raw: &RawChart, statement: &Stateme
 {
     match (rule, statement) {
         (Rule::TotalTextNotControl | Rule::CoupledMark, _) => misnames(fields, raw, statement),
-        (Rule::Tape, Statement::Tape { .. }) => lacks_form(raw.lines()),
+        (Rule::AmountSize, _) => has_no_columns(statement),
+        (Rule::Tape, Statement::Tape { channel, stops }) => {
+            lacks_good_form(raw.lines()) && is_good_somewhere(*channel, stops.lines())
+        }
         _ => false,
     }
 }

@@ -64,7 +64,7 @@ static CHART_TEXTS: [Words; 4] = [
     Words {
         name: "NoFirstLine",
         cause: "the first line is neither CHART407 1 nor CHART407 2",
-        cure: "put one of them there; not even an empty line or a byte order mark may come before it; or the files are in the wrong order; or this is a wiring chart, as replay, chart and check --all take",
+        cure: "put one of them there; no empty line or byte order mark may come before it; or the files are in the wrong order; or this is a wiring chart, as replay, chart and check --all take",
         example: "an empty file",
     },
     Words {
@@ -98,7 +98,7 @@ static FIELD_RULES: [Words; 6] = [
     Words {
         name: "AmountSize",
         cause: "an amount of more than 8 digits, more than 3 decimals, or more decimals than digits",
-        cure: "divide the field",
+        cure: "divide a field of more than 8 digits; give fewer decimals",
         example: "FIELD A AMOUNT 1 9 0",
     },
     Words {
@@ -126,13 +126,13 @@ static TOTAL_RULES: [Words; 5] = [
     Words {
         name: "NoControl",
         cause: "a TOTAL or INDICATE of a level 1 to 3 that has no CONTROL line",
-        cure: "name the level's control field",
+        cure: "write CONTROL, the level and its field",
         example: "TOTAL 1 1 'SUM' without a CONTROL 1 line",
     },
     Words {
         name: "TotalTextNotControl",
         cause: "a text on a total line that is no control field of that level or a higher one",
-        cure: "on a total line only what is the same on all cards of the group can stand",
+        cure: "make it a control field of that level, or print it on the DETAIL line",
         example: "TOTAL 4 1 DEPT",
     },
     Words {
@@ -172,7 +172,7 @@ static WHEEL_RULES: [Words; 3] = [
     Words {
         name: "WheelClash",
         cause: "an item meets an earlier item of another body line, one of the two an amount, and they are not two amounts with the same last wheel, decimals and mark",
-        cure: "the later of the two is told, though the earlier may be the one to move: look among the DETAIL and TOTAL lines above it. Zero control belongs to the wheels: let amounts end on the same wheel, or keep texts off their wheels",
+        cure: "the later of the two is told, and the earlier may be the one to move. Zero control belongs to the wheels: let amounts end on the same wheel, or keep texts off their wheels",
         example: "DETAIL 40 NAME; TOTAL 4 42 AMT 8",
     },
 ];
@@ -182,7 +182,7 @@ static FORM_RULES: [Words; 4] = [
     Words {
         name: "PrintKind",
         cause: "no PRINT line (told at END); PRINT DETAIL without a DETAIL item, PRINT GROUP without a TOTAL item; a DETAIL item under PRINT GROUP; SPACE or AFTER for a line without items",
-        cure: "add what is missing, or take the line out",
+        cure: "write the missing PRINT line or item, or take the line out; DETAIL items need PRINT DETAIL",
         example: "PRINT DETAIL without a DETAIL line",
     },
     Words {
@@ -266,7 +266,7 @@ static CAPACITIES: [Words; 7] = [
     Words {
         name: "Pilots",
         cause: "more than 16 amounts with a sign column stand on DETAIL or TOTAL lines",
-        cure: "drop the sign column of amounts that are never negative, or leave amounts out; an amount counts once, even if it stands on several lines",
+        cure: "drop the sign column of amounts that are never negative, or leave amounts out; an amount on several lines counts once",
         example: "",
     },
     Words {
@@ -278,7 +278,7 @@ static CAPACITIES: [Words; 7] = [
     Words {
         name: "StorageWidth",
         cause: "the text on total line K has more than 16 columns",
-        cure: "print a shorter field there; describe the columns once more as a shorter FIELD, and make that the control field",
+        cure: "describe the columns once more as a shorter FIELD, and make that the control field",
         example: "",
     },
     Words {
@@ -290,7 +290,7 @@ static CAPACITIES: [Words; 7] = [
     Words {
         name: "Splits",
         cause: "more than 16 DETAIL amounts have their sign column among their own columns. Fault 62 comes before it, since each also wants one of the 16 pilots",
-        cure: "drop the sign column of amounts that are never negative, or punch signs in columns of their own",
+        cure: "drop the sign column of amounts that are never negative, or punch signs in a column beside the digits",
         example: "",
     },
     Words {

@@ -26,7 +26,7 @@ capacity_words (exceeded.Pilots wanted there) = codes "more amounts with a sign 
 capacity_words (exceeded.Comparing wanted there) = codes "the CONTROL lines name more columns than the machine compares"
 capacity_words (exceeded.StorageWidth line) = codes "the text on this TOTAL line has more than the 16 columns of a storage unit"
 capacity_words (exceeded.StorageUnits wanted there) = codes "more texts stand on TOTAL lines than the machine has storage units"
-capacity_words (exceeded.Splits wanted there) = codes "more DETAIL amounts have their sign over a column of their own than the machine has splits"
+capacity_words (exceeded.Splits wanted there) = codes "more DETAIL amounts have their sign column among their own columns than the machine has splits"
 capacity_words (exceeded.Indicate level wanted there) = codes "the INDICATE items of this level have more columns than the machine has positions"
 capacity_words exceeded.Memory = []
 
@@ -38,7 +38,7 @@ cure (exceeded.Pilots wanted there) = codes "drop the sign column of amounts tha
 cure (exceeded.Comparing wanted there) = codes "shorten a control field to the columns that tell its groups apart, or drop a level"
 cure (exceeded.StorageWidth line) = codes "describe the columns once more as a shorter FIELD, and make that the control field"
 cure (exceeded.StorageUnits wanted there) = codes "print texts on the DETAIL line with INDICATE, and not on TOTAL lines"
-cure (exceeded.Splits wanted there) = codes "drop the sign column of amounts that are never negative, or punch signs in a column of their own"
+cure (exceeded.Splits wanted there) = codes "drop the sign column of amounts that are never negative, or punch signs in a column beside the digits"
 cure (exceeded.Indicate level wanted there) = codes "print some of them on every card, or shorten them"
 cure exceeded.Memory = []
 

@@ -43,7 +43,7 @@ fn capacity_words(fault: CapacityFault) -> &'static str
         CapacityFault::StorageUnits { .. } =>
             "more texts stand on TOTAL lines than the machine has storage units",
         CapacityFault::Splits { .. } =>
-            "more DETAIL amounts have their sign over a column of their own than the machine has splits",
+            "more DETAIL amounts have their sign column among their own columns than the machine has splits",
         CapacityFault::Indicate { .. } =>
             "the INDICATE items of this level have more columns than the machine has positions",
         CapacityFault::Memory => "",
@@ -66,7 +66,7 @@ fn cure(fault: CapacityFault) -> &'static str
         CapacityFault::StorageUnits { .. } =>
             "print texts on the DETAIL line with INDICATE, and not on TOTAL lines",
         CapacityFault::Splits { .. } =>
-            "drop the sign column of amounts that are never negative, or punch signs in a column of their own",
+            "drop the sign column of amounts that are never negative, or punch signs in a column beside the digits",
         CapacityFault::Indicate { .. } => "print some of them on every card, or shorten them",
         CapacityFault::Memory => "",
     }

@@ -13,8 +13,7 @@ use Rattle.chart_rules.specs.declared.rule.Rule.TheVariants as rule
 use Rattle.chart_faults.specs.declared.listing.BrokenRule.{BrokenRule}
 use Rattle.line_marks.specs.Entries.{below, head_line, shown}
 use Rattle.line_marks.specs.Spans.{span_of}
-use Rattle.chart_faults.specs.FaultWords.Parts.{marked_place}
-use Rattle.chart_faults.specs.FaultWords.Words.{cure, end_words, words}
+use Rattle.chart_faults.specs.FaultWords.Words.{cure, end_cure, end_words, place_on, words}
 
 -- the name of a rule's fault
 abbrev pub rule_name : Rule → List ℕ
@@ -37,14 +36,15 @@ rule_name rule.Form = codes "Form"
 rule_name rule.Tape = codes "Tape"
 rule_name rule.CoupledMark = codes "CoupledMark"
 
--- what is told of a line that breaks a rule: its text with a mark, and what is wrong
+-- what is told of a line that breaks a rule: its text with a mark, what is wrong, and what helps
 unfoldable pub line_told : Rule → List ℕ → List Field → List Line → List Line → Line → List ℕ
 line_told broken text fields chart earlier line =
-    shown text (span_of (marked_place broken chart line.statement) text) ++ below (words broken fields chart earlier line.statement)
+    shown text (span_of (place_on broken fields chart line.statement) text) ++ below (words broken fields chart earlier line.statement)
+    ++ below (cure broken line.statement)
 
 -- what is told of END, where a line is missing
 unfoldable pub end_told : Rule → List ℕ → List ℕ
-end_told broken text = shown text (span_of 0 text) ++ below (end_words broken)
+end_told broken text = shown text (span_of 0 text) ++ below (end_words broken) ++ below (end_cure broken)
 
 -- what is told of the line of a number, where the line of a number is among these or is END
 unfoldable pub told_among : Rule → Chart → List ℕ → ℕ → List Line → List Line → List ℕ
@@ -59,7 +59,6 @@ unfoldable pub entry_text : List ℕ → Chart → BrokenRule → List ℕ
 entry_text source chart fault =
     head_line fault.line (rule_number fault.rule) (rule_name fault.rule)
     ++ told_among fault.rule chart (line_at source fault.line) fault.line [] chart.lines
-    ++ below (cure fault.rule)
 
 -- the entries of faults, one after another
 abbrev pub entries_text : List ℕ → Chart → List BrokenRule → List ℕ

@@ -1,5 +1,5 @@
 -- The other line that a line meets by the rule that it breaks, and what is said of items and their wheels.
-use Rattle.std.specs.Prelude.{ℕ, ◌-◌, Bool, false, List, [], ◌∷◌, ◌++◌, Option, Some, None, codes, decimal, find}
+use Rattle.std.specs.Prelude.{ℕ, ◌-◌, Bool, false, List, [], ◌∷◌, ◌++◌, Option, Some, None, codes, decimal, find, ◌==◌, if◌then◌else◌}
 use Rattle.charts.specs.Name.{is_same_name, name_text}
 use Rattle.charts.specs.declared.chart.Line.{Line}
 use Rattle.charts.specs.declared.statement.Field.{Field}
@@ -53,14 +53,30 @@ named_words (Some name) = name_text name
 unfoldable pub subject : Statement → List ℕ
 subject statement = named_words (name_on statement)
 
--- numbers from one to another, behind words
-unfoldable pub range_text : List ℕ → ℕ → ℕ → List ℕ
-range_text before first last = (before ++ decimal first) ++ (codes " to " ++ decimal last)
+-- a number, behind the word for it
+unfoldable pub one_text : List ℕ → ℕ → List ℕ
+one_text word number = word ++ (codes " " ++ decimal number)
+
+-- numbers from one to another, behind the word for one of them
+unfoldable pub several_text : List ℕ → ℕ → ℕ → List ℕ
+several_text word first last = word ++ (codes "s " ++ decimal first) ++ (codes " to " ++ decimal last)
+
+-- both are one number or several
+abbrev pub range_text : List ℕ → ℕ → ℕ → List ℕ
+range_text word first last = if first == last then one_text word first else several_text word first last
+
+-- the ending of the word for so many things
+abbrev pub plural : ℕ → List ℕ
+plural count = if count == 1 then [] else codes "s"
+
+-- so many things, between words before them and the word for one of them
+unfoldable pub count_text : List ℕ → ℕ → List ℕ → List ℕ
+count_text before count thing = (before ++ decimal count ++ thing) ++ plural count
 
 -- the wheels of an item
 unfoldable pub wheel_words : Option Item → List ℕ
 wheel_words None = []
-wheel_words (Some item) = range_text (codes " takes wheels ") item.first (item.end - 1)
+wheel_words (Some item) = range_text (codes " takes wheel") item.first (item.end - 1)
 
 -- an item with its wheels
 unfoldable pub taken_words : List Field → Statement → List ℕ

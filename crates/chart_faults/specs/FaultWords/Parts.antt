@@ -1,5 +1,5 @@
 -- What stands where on a line of a chart: the name that a line is about, and the words that are marked. Words are counted from 0.
-use Rattle.std.specs.Prelude.{ℕ, ◌+◌, ◌&&◌, Bool, not, List, [], ◌∷◌, Option, Some, nat_le, nat_lt, if◌then◌else◌}
+use Rattle.std.specs.Prelude.{ℕ, ◌+◌, ◌&&◌, Bool, true, false, not, List, [], ◌∷◌, Option, Some, nat_le, nat_lt, if◌then◌else◌}
 use Rattle.charts.specs.Field.{columns_of}
 use Rattle.charts.specs.declared.chart.Line.{Line}
 use Rattle.charts.specs.declared.statement.BodyLine.{BodyLine}
@@ -81,6 +81,11 @@ abbrev pub channel_place : List Line → Statement → ℕ
 channel_place chart (says.After line (after.Skip channel)) = skip_place line
 channel_place chart (says.Tape channel stops) = tape_place (form_lines chart) channel stops
 channel_place chart other = 1
+
+-- where a total is marked that needs COUPLED, or has it and doesn't need it: its digits, or that word
+abbrev pub coupled_place : (needs_two : Bool) → ℕ
+coupled_place true = 4
+coupled_place false = 5
 
 -- the place of the word that is marked where a line of a chart breaks a rule
 abbrev pub marked_place : Rule → List Line → Statement → ℕ

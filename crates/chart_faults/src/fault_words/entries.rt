@@ -6,8 +6,7 @@ ghost use Rattle.line_rules.specs.FieldRules.Fields.{fields_of};
 ghost use Rattle.chart_faults.specs.FaultWords.Entries as law;
 
 use crate::BrokenRule;
-use crate::fault_words::parts::marked_place;
-use crate::fault_words::words::{Around, cure, end_words, write_words};
+use crate::fault_words::words::{Around, cure, end_cure, end_words, place_on, write_words};
 use chart_rules::Rule;
 use charts::{Field, Line, RawChart};
 use line_marks::{line_numbered, token_span, write_below, write_head, write_shown};
@@ -41,7 +40,7 @@ fn rule_name(rule: Rule) -> &'static str
     }
 }
 
-/// Writes what is told of a line that breaks a rule: its text with a mark, and what is wrong.
+/// Writes what is told of a line that breaks a rule: its text with a mark, what is wrong, and what helps.
 #[tactic(auto, unfolding(crate::specs::FaultWords::Entries::line_told))]
 fn write_line<W: Write>(
     out: &mut W,
@@ -54,11 +53,15 @@ fn write_line<W: Write>(
     ensures { OnOk result (Appends (W.contents out.old) (W.contents out.new)
         (law.line_told rule text.now around.now.fields.now around.now.lines.now around.now.earlier.now line.now)) }
 {
-    let place = marked_place(rule, around.lines, &line.statement);
-    write_shown(out, text, token_span(text, place))?;
+    let span = token_span(
+        text,
+        place_on(rule, around.fields, around.lines, &line.statement),
+    );
+    write_shown(out, text, span)?;
     out.write_all(b"  ")?;
     write_words(out, rule, around, &line.statement)?;
-    out.write_all(b"\n")
+    out.write_all(b"\n")?;
+    write_below(out, cure(rule, &line.statement).as_bytes())
 }
 
 /// Writes what is told of END, where a line is missing.
@@ -67,7 +70,8 @@ fn write_end<W: Write>(out: &mut W, rule: Rule, text: &[u8]) -> io::Result<()>
     ensures { OnOk result (Appends (W.contents out.old) (W.contents out.new) (law.end_told rule text.now)) }
 {
     write_shown(out, text, token_span(text, 0))?;
-    write_below(out, end_words(rule).as_bytes())
+    write_below(out, end_words(rule).as_bytes())?;
+    write_below(out, end_cure(rule).as_bytes())
 }
 
 /// Writes what is told of the line with a number.
@@ -116,8 +120,7 @@ fn write_entry<W: Write>(
     let number = u32::from(fault.line);
     let text = line_numbered(source, number);
     write_head(out, number, fault.rule.number(), rule_name(fault.rule))?;
-    write_told(out, text, raw, index, fields, fault)?;
-    write_below(out, cure(fault.rule).as_bytes())
+    write_told(out, text, raw, index, fields, fault)
 }
 
 /// Writes the entries of faults of a chart, one after another. `source` is the text of the chart, `index` and `fields` are its fields.

@@ -10,7 +10,7 @@ use charts::{Field, Line, Name, Statement};
 use line_rules::field_rules::{Fields, breaks_digits_shrink, breaks_line_twice};
 use line_rules::print_rules::{Item, breaks_wheel_clash, breaks_wheel_overlap};
 use line_slips::is_near;
-use numerals::write_numbered;
+use numerals::{write_between, write_numbered};
 use std::io;
 use std::io::Write;
 use std::slice::from_ref;
@@ -87,18 +87,60 @@ pub(crate) fn write_subject<W: Write>(out: &mut W, statement: &Statement) -> io:
     }
 }
 
-/// Writes numbers from one to another, behind words.
-#[tactic(auto, unfolding(crate::specs::FaultWords::Others::range_text))]
+/// Writes a number, behind the word for it.
+#[tactic(auto, unfolding(crate::specs::FaultWords::Others::one_text))]
+fn write_one<W: Write>(out: &mut W, word: &str, number: u64) -> io::Result<()>
+    ensures { OnOk result (Appends (W.contents out.old) (W.contents out.new) (law.one_text word.now number)) }
+{
+    out.write_all(word.as_bytes())?;
+    write_numbered(out, " ", number)
+}
+
+/// Writes numbers from one to another, behind the word for one of them.
+#[tactic(auto, unfolding(crate::specs::FaultWords::Others::several_text))]
+fn write_several<W: Write>(out: &mut W, word: &str, first: u64, last: u64) -> io::Result<()>
+    ensures { OnOk result (Appends (W.contents out.old) (W.contents out.new) (law.several_text word.now first last)) }
+{
+    out.write_all(word.as_bytes())?;
+    write_numbered(out, "s ", first)?;
+    write_numbered(out, " to ", last)
+}
+
+/// Writes one number or several, behind the word for one of them.
 pub(crate) fn write_range<W: Write>(
     out: &mut W,
-    before: &str,
+    word: &str,
     first: u64,
     last: u64,
 ) -> io::Result<()>
-    ensures { OnOk result (Appends (W.contents out.old) (W.contents out.new) (law.range_text before.now first last)) }
+    ensures { OnOk result (Appends (W.contents out.old) (W.contents out.new) (law.range_text word.now first last)) }
 {
-    write_numbered(out, before, first)?;
-    write_numbered(out, " to ", last)
+    if first == last {
+        write_one(out, word, first)
+    } else {
+        write_several(out, word, first, last)
+    }
+}
+
+/// The ending of the word for so many things.
+fn plural(count: u32) -> &'static str
+    ensures { result.now ≡ law.plural count }
+{
+    if count == 1 { "" } else { "s" }
+}
+
+/// Writes so many things, between words before them and the word for one of them.
+#[tactic(auto, unfolding(crate::specs::FaultWords::Others::count_text))]
+pub(crate) fn write_count<W: Write>(
+    out: &mut W,
+    before: &str,
+    count: u32,
+    thing: &str,
+) -> io::Result<()>
+    ensures { OnOk result (Appends (W.contents out.old) (W.contents out.new) (law.count_text before.now count thing.now)) }
+{
+    write_between(out, before, count, thing)?;
+    out.write_all(plural(count).as_bytes())
 }
 
 /// Writes the wheels of an item.
@@ -109,7 +151,7 @@ fn write_wheels<W: Write>(out: &mut W, item: Option<Item>) -> io::Result<()>
     match item {
         Some(item) => {
             let last = item.end.saturating_sub(1);
-            write_range(out, " takes wheels ", item.first as u64, last as u64)
+            write_range(out, " takes wheel", item.first as u64, last as u64)
         }
         None => Ok(()),
     }

@@ -172,6 +172,13 @@ fn channel_place(chart: &[Line], statement: &Statement) -> usize
     }
 }
 
+/// Where a total is marked that needs COUPLED, or has it and doesn't need it.
+pub(crate) fn coupled_place(needs_two: bool) -> usize
+    ensures { result ≡ law.coupled_place needs_two }
+{
+    if needs_two { 4 } else { 5 }
+}
+
 /// The place of the word that is marked where a line of a chart breaks a rule.
 pub(crate) fn marked_place(rule: Rule, chart: &[Line], statement: &Statement) -> usize
     ensures { result ≡ law.marked_place rule chart.now statement.now }

@@ -11,11 +11,11 @@ ghost use Rattle.chart_faults.specs.FaultWords.Words as law;
 
 use crate::fault_words::form_words::write_form;
 use crate::fault_words::others::{
-    met, write_meeting, write_other, write_range, write_subject, write_taken,
+    met, write_count, write_meeting, write_other, write_range, write_subject, write_taken,
 };
-use crate::fault_words::parts::{has_stops, name_on};
+use crate::fault_words::parts::{coupled_place, has_stops, marked_place, name_on};
 use chart_rules::Rule;
-use charts::{After, ControlLevel, DetailOption, Field, Line, Name, Printing, Statement};
+use charts::{After, ControlLevel, DetailOption, Field, Level, Line, Name, Printing, Statement};
 use line_rules::field_rules::{Fields, first_named};
 use numerals::{write_between, write_number, write_numbered};
 use std::io;
@@ -61,7 +61,7 @@ fn write_columns_text<W: Write>(out: &mut W, name: Name, first: u16, last: u16) 
     ensures { OnOk result (Appends (W.contents out.old) (W.contents out.new) (law.columns_text name first last)) }
 {
     out.write_all(name.as_bytes())?;
-    write_range(out, " has columns ", u64::from(first), u64::from(last))
+    write_range(out, " has column", u64::from(first), u64::from(last))
 }
 
 /// Writes the columns of a field.
@@ -84,8 +84,8 @@ fn write_size_text<W: Write>(out: &mut W, name: Name, digits: u32, decimals: u16
     ensures { OnOk result (Appends (W.contents out.old) (W.contents out.new) (law.size_text name digits decimals)) }
 {
     out.write_all(name.as_bytes())?;
-    write_numbered(out, " has ", digits)?;
-    write_between(out, " digits and ", decimals, " decimals")
+    write_count(out, " has ", digits, " digit")?;
+    write_count(out, " and ", u32::from(decimals), " decimal")
 }
 
 /// Writes the size of an amount.
@@ -220,8 +220,8 @@ fn columns_on(field: Option<Field>) -> u32
 fn write_digits_text<W: Write>(out: &mut W, columns: u32, digits: u16) -> io::Result<()>
     ensures { OnOk result (Appends (W.contents out.old) (W.contents out.new) (law.digits_text columns digits)) }
 {
-    write_numbered(out, " has ", columns)?;
-    write_between(out, " columns, and its total ", digits, " digits")
+    write_count(out, " has ", columns, " column")?;
+    write_count(out, ", and its total ", u32::from(digits), " digit")
 }
 
 /// Writes the digits of a total, and the columns of its field.
@@ -373,7 +373,7 @@ fn write_groups<W: Write>(out: &mut W, needs_two: bool) -> io::Result<()>
 fn write_need<W: Write>(out: &mut W, need: u32) -> io::Result<()>
     ensures { OnOk result (Appends (W.contents out.old) (W.contents out.new) (law.need_text need)) }
 {
-    write_between(out, "the total needs ", need, " positions")
+    write_count(out, "the total needs ", need, " position")
 }
 
 /// Writes that, and how many counter groups it takes.
@@ -453,13 +453,87 @@ fn write_wrong_kind<W: Write>(out: &mut W, statement: &Statement, is_amount: boo
     write_kind(out, statement, is_amount)
 }
 
-/// Writes the line of which a chart has one.
-#[tactic(auto, unfolding(crate::specs::FaultWords::Words::said_words))]
-fn write_said<W: Write>(out: &mut W, other: Option<&Line>) -> io::Result<()>
-    ensures { OnOk result (Appends (W.contents out.old) (W.contents out.new) (law.said_words (option_map (λ line. line.now) other.entry))) }
+/// Writes the printed line of an item.
+#[tactic(auto, unfolding(crate::specs::FaultWords::Words::line_of_item))]
+fn write_line_of_item<W: Write>(out: &mut W, statement: &Statement) -> io::Result<()>
+    ensures { OnOk result (Appends (W.contents out.old) (W.contents out.new) (law.line_of_item statement.now)) }
+{
+    match statement {
+        Statement::TotalText { level, .. } => write_numbered(out, "TOTAL ", level.number()),
+        Statement::TotalAmount(total) => write_numbered(out, "TOTAL ", total.level.number()),
+        _ => out.write_all(b"the line of a card"),
+    }
+}
+
+/// Writes a field that is on a printed line already.
+#[tactic(auto, unfolding(crate::specs::FaultWords::Words::item_twice_words))]
+fn write_item_twice<W: Write>(
+    out: &mut W,
+    statement: &Statement,
+    other: Option<&Line>,
+) -> io::Result<()>
+    ensures { OnOk result (Appends (W.contents out.old) (W.contents out.new) (law.item_twice_words statement.now (option_map (λ line. line.now) other.entry))) }
+{
+    write_subject(out, statement)?;
+    out.write_all(b" is on ")?;
+    write_line_of_item(out, statement)?;
+    out.write_all(b" already, by ")?;
+    write_other(out, other)
+}
+
+/// Which line there is already.
+fn line_there(statement: &Statement) -> &'static str
+    ensures { result.now ≡ law.line_there statement.now }
+{
+    match statement {
+        Statement::Print(_) => " is a PRINT line already",
+        Statement::Form { .. } => " is a FORM line already",
+        Statement::Control { .. } => " has this level and field already",
+        Statement::Space { .. } => " spaces this kind of line already",
+        Statement::After { .. } => " says already what follows this kind of line",
+        Statement::Tape { .. } => " is a TAPE line of this channel already",
+        _ => " says this already",
+    }
+}
+
+/// Writes a line of which a chart has one.
+#[tactic(auto, unfolding(crate::specs::FaultWords::Words::line_twice_words))]
+fn write_line_twice<W: Write>(
+    out: &mut W,
+    statement: &Statement,
+    other: Option<&Line>,
+) -> io::Result<()>
+    ensures { OnOk result (Appends (W.contents out.old) (W.contents out.new) (law.line_twice_words statement.now (option_map (λ line. line.now) other.entry))) }
 {
     write_other(out, other)?;
-    out.write_all(b" is such a line already")
+    out.write_all(line_there(statement).as_bytes())
+}
+
+/// Whether a line puts a field on a printed line.
+fn is_field_item(statement: &Statement) -> bool
+    ensures { result ≡ law.is_field_item statement.now }
+{
+    match statement {
+        Statement::DetailField { .. } | Statement::TotalText { .. } | Statement::TotalAmount(_) =>
+            true,
+        _ => false,
+    }
+}
+
+/// Writes what a chart says twice.
+fn write_said<W: Write>(
+    out: &mut W,
+    is_item: bool,
+    statement: &Statement,
+    other: Option<&Line>,
+) -> io::Result<()>
+    ensures { OnOk result (Appends (W.contents out.old) (W.contents out.new) (law.said_words is_item statement.now (option_map (λ line. line.now) other.entry))) }
+{
+    if is_item {
+        write_item_twice(out, statement, other)
+    } else {
+        write_line_twice(out, statement, other)
+    }
 }
 
 /// Writes a text on a total line that is no control field.
@@ -471,6 +545,34 @@ fn write_not_control<W: Write>(out: &mut W, statement: &Statement) -> io::Result
     out.write_all(b" is no control field of level ")?;
     write_total_level(out, statement)?;
     out.write_all(b" or a higher one")
+}
+
+/// Whether a line is a text on the total line of the whole deck.
+fn is_of_deck(statement: &Statement) -> bool
+    ensures { result ≡ law.is_of_deck statement.now }
+{
+    matches!(
+        statement,
+        Statement::TotalText {
+            level: Level::Final,
+            ..
+        }
+    )
+}
+
+/// Writes a text that isn't the same on all cards of its total.
+fn write_total_text<W: Write>(
+    out: &mut W,
+    is_of_deck: bool,
+    statement: &Statement,
+) -> io::Result<()>
+    ensures { OnOk result (Appends (W.contents out.old) (W.contents out.new) (law.total_text_words is_of_deck statement.now)) }
+{
+    if is_of_deck {
+        out.write_all(b"TOTAL 4 has no text of a field: it is of the whole deck")
+    } else {
+        write_not_control(out, statement)
+    }
 }
 
 /// Writes a total that has fewer digits than a lower one.
@@ -536,6 +638,23 @@ impl<'a> Around<'a> {
     }
 }
 
+/// The positions that the total of a line needs.
+fn need_on(fields: &[Field], statement: &Statement) -> u32
+    ensures { result ≡ law.need_on fields.now statement.now }
+{
+    positions_of(field_on(fields, name_on(statement)), digits_of(statement))
+}
+
+/// The place of the word that is marked on a line of a chart.
+pub(crate) fn place_on(rule: Rule, fields: &[Field], chart: &[Line], statement: &Statement) -> usize
+    ensures { result ≡ law.place_on rule fields.now chart.now statement.now }
+{
+    match rule {
+        Rule::CoupledMark => coupled_place(needs_two(need_on(fields, statement))),
+        _ => marked_place(rule, chart, statement),
+    }
+}
+
 /// Writes what is wrong with a line by the rule that it breaks.
 pub(crate) fn write_words<W: Write>(
     out: &mut W,
@@ -561,9 +680,12 @@ pub(crate) fn write_words<W: Write>(
         Rule::WrongKind => {
             write_wrong_kind(out, statement, names_amount(around.field_of(statement)))
         }
-        Rule::LineTwice => write_said(out, around.met_earlier(Rule::LineTwice, statement)),
+        Rule::LineTwice => {
+            let other = around.met_earlier(Rule::LineTwice, statement);
+            write_said(out, is_field_item(statement), statement, other)
+        }
         Rule::NoControl => write_uncontrolled(out, statement, level_needed(statement)),
-        Rule::TotalTextNotControl => write_not_control(out, statement),
+        Rule::TotalTextNotControl => write_total_text(out, is_of_deck(statement), statement),
         Rule::DigitsRange => write_digits(out, around.field_of(statement), statement),
         Rule::DigitsShrink => {
             let other = around.met_anywhere(Rule::DigitsShrink, statement);
@@ -584,10 +706,7 @@ pub(crate) fn write_words<W: Write>(
         Rule::PrintKind => out.write_all(print_words(statement).as_bytes()),
         Rule::Form => write_form(out, around.lines, statement),
         Rule::Tape => write_tape(out, statement),
-        Rule::CoupledMark => {
-            let need = positions_of(around.field_of(statement), digits_of(statement));
-            write_coupled(out, need)
-        }
+        Rule::CoupledMark => write_coupled(out, need_on(around.fields, statement)),
     }
 }
 
@@ -601,22 +720,99 @@ pub(crate) fn end_words(rule: Rule) -> &'static str
     }
 }
 
-/// What helps.
-pub(crate) fn cure(rule: Rule) -> &'static str
-    ensures { result.now ≡ law.cure rule }
+/// What helps an amount: fewer digits, or fewer decimals.
+fn fewer(is_long: bool) -> &'static str
+    ensures { result.now ≡ law.fewer is_long }
+{
+    if is_long {
+        "an amount has 8 digits at most: divide the field"
+    } else {
+        "an amount has 3 decimals at most, and no more than digits: give fewer decimals"
+    }
+}
+
+/// The same of the amount of a line.
+fn size_cure(statement: &Statement) -> &'static str
+    ensures { result.now ≡ law.size_cure statement.now }
+{
+    match statement {
+        Statement::Field(field) => fewer(field.columns() > 8),
+        _ => "",
+    }
+}
+
+/// What helps a level without a CONTROL line.
+fn control_cure(level: Option<ControlLevel>) -> &'static str
+    ensures { result.now ≡ law.control_cure level }
+{
+    match level {
+        Some(ControlLevel::Minor) => {
+            "write CONTROL 1 and the field whose changes end a group of level 1"
+        }
+        Some(ControlLevel::Intermediate) => {
+            "write CONTROL 2 and the field whose changes end a group of level 2"
+        }
+        Some(ControlLevel::Major) => {
+            "write CONTROL 3 and the field whose changes end a group of level 3"
+        }
+        None => "",
+    }
+}
+
+/// What helps a text that isn't the same on all cards of its total.
+fn total_text_cure(is_of_deck: bool) -> &'static str
+    ensures { result.now ≡ law.total_text_cure is_of_deck }
+{
+    if is_of_deck {
+        "take the line out, or print it on the DETAIL line"
+    } else {
+        "make it a control field of that level, or print it on the DETAIL line"
+    }
+}
+
+/// What helps if a line doesn't go with what is printed.
+fn print_cure(statement: &Statement) -> &'static str
+    ensures { result.now ≡ law.print_cure statement.now }
+{
+    match statement {
+        Statement::Print(Printing::Detail) => "write a DETAIL line",
+        Statement::Print(Printing::Group) => "write a TOTAL line",
+        Statement::Space { .. } | Statement::After { .. } => "take the line out, or write the item",
+        _ => "write PRINT DETAIL, or take the DETAIL lines out",
+    }
+}
+
+/// What helps a form.
+fn form_cure() -> &'static str
+    ensures { result.now ≡ law.form_cure }
+{
+    "FORM P T O: P is at most 144, O at most P - 2, and T is 1 or more and less than O; the headings begin on T and must end above O"
+}
+
+/// What helps at END.
+pub(crate) fn end_cure(rule: Rule) -> &'static str
+    ensures { result.now ≡ law.end_cure rule }
+{
+    match rule {
+        Rule::PrintKind => "write PRINT DETAIL or PRINT GROUP",
+        _ => form_cure(),
+    }
+}
+
+/// What helps, by what the line says.
+pub(crate) fn cure(rule: Rule, statement: &Statement) -> &'static str
+    ensures { result.now ≡ law.cure rule statement.now }
 {
     match rule {
         Rule::NameTwice => "give it another name",
         Rule::Columns => "a card has columns 1 to 80, the first column first",
-        Rule::AmountSize =>
-            "an amount has 8 digits and 3 decimals at most, and no more decimals than digits: divide the field",
+        Rule::AmountSize => size_cure(statement),
         Rule::UnknownName => "write the FIELD line, or correct the name",
         Rule::WrongKind =>
             "a total needs its digits, and only amounts have marks; CONTROL and INDICATE take texts",
         Rule::LineTwice => "take one of them out",
-        Rule::NoControl => "name the control field of the level",
-        Rule::TotalTextNotControl =>
-            "on a total line only what is the same on all cards of the group can stand",
+        Rule::NoControl => control_cure(level_needed(statement)),
+        Rule::TotalTextNotControl => total_text_cure(is_of_deck(statement)),
         Rule::DigitsRange =>
             "a total has as many digits as its field or more, 16 at most, and 15 with a sign column",
         Rule::DigitsShrink => "a higher total needs at least as many digits",
@@ -626,9 +822,8 @@ pub(crate) fn cure(rule: Rule) -> &'static str
         Rule::WheelOverlap => "move one of them",
         Rule::WheelClash =>
             "an amount shares wheels only with amounts of the same last wheel, decimals and mark: move one of them",
-        Rule::PrintKind => "add what is missing, or take the line out",
-        Rule::Form =>
-            "FORM P T O: P is at most 144, O at most P - 2, and T is 1 or more and less than O; the headings begin on T and must end above O",
+        Rule::PrintKind => print_cure(statement),
+        Rule::Form => form_cure(),
         Rule::Tape =>
             "write a TAPE line of a channel 2 to 11, its stops in rising order on the form",
         Rule::CoupledMark =>

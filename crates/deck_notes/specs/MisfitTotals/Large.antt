@@ -31,15 +31,15 @@ unfoldable pub sum_number : Field → ℤ → List ℕ
 sum_number field sum = value_told sum (decimals_of field.kind)
 
 -- for how much its line has room
-unfoldable pub room_head : TotalLine → List ℕ
-room_head total = codes ", and " ++ name_text total.name ++ codes " has room for "
+abbrev pub room_head : List ℕ
+room_head = codes ", and its line has room for "
 
 unfoldable pub room_number : TotalLine → Field → List ℕ
 room_number total field = number_told (room_of total) (decimals_of field.kind) ++ codes "\n"
 
 -- a total that a line has no room for, with its decimals
 abbrev pub large_words : TotalLine → (number : ℕ) → Field → ℤ → List ℕ
-large_words total number field sum = head_words total number ++ sum_number field sum ++ room_head total ++ room_number total field
+large_words total number field sum = head_words total number ++ sum_number field sum ++ room_head ++ room_number total field
 
 -- the same of the total of a field over a group that ends with the card of a number, if the line has no room for it
 abbrev pub large_of : TotalLine → (number : ℕ) → (group : List (List ℕ)) → Option Field → List ℕ

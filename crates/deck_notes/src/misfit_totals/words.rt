@@ -49,14 +49,11 @@ fn room_of(digits: u16) -> u64
     10_u64.pow(u32::from(digits)).saturating_sub(1)
 }
 
-#[tactic(auto, unfolding(crate::specs::MisfitTotals::Large::room_head))]
 // Writes that its line has room.
-fn write_room_head(text: &mut Vec<u8>, total: &TotalLine) -> io::Result<()>
-    ensures { OnOk result (text.new.items ≡ text.old.items ++ told.room_head total.now) }
+fn write_room_head(text: &mut Vec<u8>) -> io::Result<()>
+    ensures { OnOk result (text.new.items ≡ text.old.items ++ told.room_head) }
 {
-    text.write_all(b", and ")?;
-    text.write_all(total.name.as_bytes())?;
-    text.write_all(b" has room for ")
+    text.write_all(b", and its line has room for ")
 }
 
 // Writes for how much.
@@ -87,7 +84,7 @@ fn write_large(
 {
     write_head(text, total, number)?;
     write_sum_number(text, field, sum)?;
-    write_room_head(text, total)?;
+    write_room_head(text)?;
     write_room(text, total, field)
 }
 

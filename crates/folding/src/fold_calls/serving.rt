@@ -3,8 +3,9 @@
 ghost use Rattle.std.specs.Prelude.{◌≡◌, ◌≤◌, ◌⊎◌, IsSome, MatchResult, false, true};
 ghost use Rattle.std.specs.Io.KnownBytes.{Appends};
 ghost use Rattle.card_code.specs.CardCode.{rows_of};
+ghost use Rattle.card_code.specs.Deck.{HasDeckFault};
 ghost use Rattle.card_code.specs.Lines.{lines_of};
-ghost use Rattle.folding.specs.FoldCalls.Served.{IsRefused, WritesDeck};
+ghost use Rattle.folding.specs.FoldCalls.Served.{IsRefused, WritesDeck, is_too_long};
 ghost use Rattle.folding.specs.Folded.{folded_text};
 ghost use Rattle.folding.specs.Told.{changes_text};
 
@@ -34,6 +35,13 @@ fn ends(status: u8, told: io::Result<()>) -> Ending
     }
 }
 
+// Whether the fault of a deck is a line that is too long.
+fn is_too_long(fault: DeckFault) -> bool
+    ensures { result ≡ is_too_long fault }
+{
+    matches!(fault, DeckFault::CardTooLong { .. })
+}
+
 // Writes the deck, and tells what was changed.
 fn write_folded<W: Write, V: Write>(
     deck: &[u8],
@@ -48,6 +56,19 @@ fn write_folded<W: Write, V: Write>(
     match put(out, deck) {
         Ok(()) => ends(0, write_changes(faults, changes)),
         Err(fault) => tell(&fault, faults),
+    }
+}
+
+// Tells why a folded text is no deck: each line that is too long, or its other fault.
+fn refuse<V: Write>(deck: &[u8], fault: DeckFault, faults: &mut V) -> Ending
+    requires { HasDeckFault deck.now fault }
+    ensures refused { result.status ≡ 3 → IsRefused deck.now result.is_told (V.contents faults.old) (V.contents faults.new) }
+    ensures statuses { 3 ≤ result.status × result.status ≤ 5 }
+{
+    if is_too_long(fault) {
+        ends(3, write_long_cards(deck, faults))
+    } else {
+        tell(&fault.into(), faults)
     }
 }
 
@@ -75,7 +96,6 @@ pub fn fold_to_end<W: Write, V: Write>(
     };
     match check_deck(deck.as_slice()) {
         Ok(()) => write_folded(deck.as_slice(), &changes, out, faults),
-        Err(DeckFault::CardTooLong { .. }) => ends(3, write_long_cards(deck.as_slice(), faults)),
-        Err(fault) => tell(&fault.into(), faults),
+        Err(fault) => refuse(deck.as_slice(), fault, faults),
     }
 }
