@@ -23,6 +23,6 @@ pub use laws::{
     written_setups_begin_reports, written_setups_print_reports,
 };
 pub use misfits::Misfit;
-pub use running::{first_misfit, run};
+pub use running::{check_run, first_misfit, run};
 pub use streamed_runs::{StreamCause, StreamFault};
 pub use streaming::run_stream;

@@ -56,23 +56,35 @@ fn check_totals(compiled: &Compiled, cards: &[Card]) -> Result<(), RunFault>
     }
 }
 
-/// The report of a deck of cards: what the machine prints, wired as compiled, as the bytes of its pages.
+/// Whether a compiled chart can be run with a deck of cards.
 ///
 /// # Errors
 ///
 /// `TooManyCards` for more than 999,999 cards, else `NotText` or `NotAmount` for the first card that is not valid for
-/// the chart, else `DoesNotFit` for the first total that does not fit; `Memory` where a growth
-/// was refused.
-pub fn run(alloc: Global, compiled: &Compiled, cards: &[Card]) -> Result<Vec<u8>, RunFault>
-    ensures report { IfOk result (λ bytes. bytes.items ≡ Report compiled.now.chart cards.now) }
+/// the chart, else `DoesNotFit` for the first total that does not fit.
+pub fn check_run(compiled: &Compiled, cards: &[Card]) -> Result<(), RunFault>
     ensures served { OnOk result (IsRunnable compiled.now.chart cards.now) }
-    ensures refused { IfErr result (λ fault. fault ≢ deck.Memory → HasRunFault compiled.now.chart cards.now fault) }
+    ensures refused { IfErr result (HasRunFault compiled.now.chart cards.now) }
 {
     if cards.len() > MOST_CARDS {
         return Err(RunFault::TooManyCards);
     }
     check_cards(compiled.chart(), cards)?;
     check_totals(compiled, cards)?;
+    Ok(())
+}
+
+/// The report of a deck of cards: what the machine prints, wired as compiled, as the bytes of its pages.
+///
+/// # Errors
+///
+/// Those of [`check_run`]; `Memory` where a growth was refused.
+pub fn run(alloc: Global, compiled: &Compiled, cards: &[Card]) -> Result<Vec<u8>, RunFault>
+    ensures report { IfOk result (λ bytes. bytes.items ≡ Report compiled.now.chart cards.now) }
+    ensures served { OnOk result (IsRunnable compiled.now.chart cards.now) }
+    ensures refused { IfErr result (λ fault. fault ≢ deck.Memory → HasRunFault compiled.now.chart cards.now fault) }
+{
+    check_run(compiled, cards)?;
     let lines = simulate(alloc, compiled.setup(), cards)?;
     let long = compiled.setup().tape().lines();
     let bytes = page_bytes(alloc, &lines, u32::from(long))?;

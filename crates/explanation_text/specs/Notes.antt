@@ -5,7 +5,7 @@ use Rattle.std.specs.List.{flat_map, range_with_len}
 use Rattle.hubs.specs.HubText.{hub_text}
 use Rattle.hubs.specs.declared.hub.Group.{Group}
 use Rattle.hubs.specs.declared.hub.Hub.{Hub}
-use Rattle.hubs.specs.declared.hub.Hub.TheVariants.{FR, SR, GX, CO, BAN, BAT, PIN, PIT, SX, IX, CSD, CSZ, EM}
+use Rattle.hubs.specs.declared.hub.Hub.TheVariants.{FR, SR, GX, BAN, BAT, PIN, PIT, SX, IX, CSD, CSZ, EM}
 use Rattle.machine.specs.Kept.{kept_at}
 use Rattle.machine.specs.declared.kept.KeptPoint.{KeptPoint}
 use Rattle.net.specs.Cycles.{level_number}
@@ -90,7 +90,7 @@ exit_words card cycle points row (GX group position) = read_out_words points gro
 exit_words card cycle points row (SX unit column) = stored_words unit column row
 exit_words card cycle points row exit = []
 
--- Why the contact that leads to an exit was closed.
+-- Why the contact that leads to an exit was closed. That of a carry exit is closed at no row.
 abbrev pub reason_words : Hub → List ℕ
 reason_words (BAT group position) = codes ": the balance latch of group " ++ group_name group ++ codes " is set"
 reason_words (BAN group position) = codes ": the balance latch of group " ++ group_name group ++ codes " is not set"
@@ -99,7 +99,6 @@ reason_words (PIN pilot position) = codes ": pilot " ++ decimal pilot ++ codes "
 reason_words (IX level position) = codes ": the card is the first of a group of level " ++ decimal level
 reason_words (CSD split) = codes ": split " ++ decimal split ++ codes " leads there at the rows 9 to 0"
 reason_words (CSZ split) = codes ": split " ++ decimal split ++ codes " leads there at the rows 11 and 12"
-reason_words (CO group) = codes ": group " ++ group_name group ++ codes " is at nines"
 reason_words exit = []
 
 -- the note on an exit that emitted at the row of a place, and the one on the contact from a hub to an exit

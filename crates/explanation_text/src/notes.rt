@@ -296,7 +296,6 @@ fn write_reason(text: &mut String, exit: Hub) -> Result<(), AllocError>
             split,
             " leads there at the rows 11 and 12",
         ),
-        Hub::CO(group) => write_of_group(text, ": group ", group, " is at nines"),
         _ => Ok(()),
     }
 }

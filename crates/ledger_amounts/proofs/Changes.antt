@@ -1,6 +1,7 @@
 -- The entries of a ledger are all changes of its number since it was cleared.
-use Rattle.std.proofs.Common.{◌≡◌, ◌∙◌, refl, sym, ap, subst, ℕ, ◌+◌, ◌<◌, nat_lt, Bool, true, false, List, [], ◌∷◌, if◌then◌else◌, arith}
+use Rattle.std.proofs.Common.{◌≡◌, ◌∙◌, refl, sym, ap, subst, ℕ, ◌+◌, ◌<◌, ◌++◌, nat_lt, Bool, true, false, List, [], ◌∷◌, if◌then◌else◌, arith}
 use Rattle.std.proofs.lemmas.Bool.Decides.{nat_tests}
+use Rattle.std.proofs.lemmas.List.{append-nil}
 use Rattle.std.proofs.lemmas.List.Elements.{All-append, All-cons, All-nil, All-weaker, Contains-append_left, Contains-append_right}
 use Rattle.std.specs.List.{All, Contains}
 use Rattle.ledgers.proofs.Places.{comes-to, goes-one, places-one}
@@ -14,7 +15,7 @@ use Rattle.ledgers.specs.declared.entry.Movement.{Movement}
 use Rattle.machine.specs.Machine.{MachineState}
 use Rattle.net.specs.declared.cycle.Cycle.{Cycle}
 use Rattle.setups.specs.Wiring.{Wiring}
-use Rattle.ledger_amounts.specs.Changes.{IsSince, LedgersHoldAllChanges, LedgersHoldNoOthers, StandsSince, movement_in}
+use Rattle.ledger_amounts.specs.Changes.{IsSince, LedgersHoldAllChanges, LedgersHoldNoOthers, LedgersRise, Rise, StandsSince, movement_in}
 
 -- The last cycle of a ledger, behind those before it.
 module _ (wiring : Wiring) (deck : List (List ℕ)) (account : Account) (cycle : Cycle) (along : Along) (entries : List Entry)
@@ -112,6 +113,7 @@ module _ (wiring : Wiring) (deck : List (List ℕ)) (account : Account) (cycle :
       All-weaker (IsSince wiring deck account along.passed) (IsSince wiring deck account (along.passed + 1))
       (λ entry since. record {
         before = (let before = since.before in omega (arith, before));
+        has = since.has;
         added = since.added;
         stands = stands-on entry.passed is since.stands;
       }) entries all
@@ -125,7 +127,8 @@ module _ (wiring : Wiring) (deck : List (List ℕ)) (account : Account) (cycle :
       (entry_of cycle (card_in cycle along.card) along.passed (movement_of behind.groups cycle account)) []
       (record {
         before = omega arith;
-        added = λ has. ap is_added (last-entry has).0 ∙ is;
+        has = last;
+        added = is;
         stands = λ later has after before. absurd (omega (arith, after, before));
       })
       (All-nil (IsSince wiring deck account (along.passed + 1)))
@@ -156,3 +159,33 @@ hold-none wiring deck account (more cycle along entries behind ledger goes) =
 
 pub ledgers-hold-no-others : LedgersHoldNoOthers
 ledgers-hold-no-others wiring deck account along entries ledger = hold-none wiring deck account ledger
+
+rise-later : (entries : List Entry) (from until : ℕ) → Rise from entries until → Rise from entries (until + 1)
+rise-later [] from until rise = omega (arith, rise)
+rise-later (entry ∷ entries) from until rise = (rise.0, rise-later entries (entry.passed + 1) until rise.1)
+
+rise-push : (entries : List Entry) (from until : ℕ) (entry : Entry) → Rise from entries until → entry.passed ≡ until
+    → Rise from (entries ++ entry ∷ []) (until + 1)
+rise-push [] from until entry rise at = (omega (arith, rise, at), omega (arith, at))
+rise-push (first ∷ entries) from until entry rise at = (rise.0, rise-push entries (first.passed + 1) until entry rise.1 at)
+
+rise-left : (entries : List Entry) (until : ℕ) (cleared : Bool) → Rise 0 entries until → Rise 0 (if cleared then [] else entries) until
+rise-left entries until true rise = omega arith
+rise-left entries until false rise = rise
+
+rise-gained : (entries : List Entry) (until : ℕ) (entry : Entry) (added : Bool) → Rise 0 entries until → entry.passed ≡ until
+    → Rise 0 (entries ++ (if added then entry ∷ [] else [])) (until + 1)
+rise-gained entries until entry true rise at = rise-push entries 0 until entry rise at
+rise-gained entries until entry false rise at =
+    subst (λ (l : List Entry). Rise 0 l (until + 1)) (sym (append-nil entries)) (rise-later entries 0 until rise)
+
+rises : (wiring : Wiring) (deck : List (List ℕ)) (account : Account) {along : Along} {entries : List Entry}
+    → IsLedger wiring deck account along entries → Rise 0 entries along.passed
+rises wiring deck account begun = omega arith
+rises wiring deck account (more cycle along entries behind ledger goes) =
+    let moved = movement_of behind.groups cycle account in
+    rise-gained (entries_left moved entries) along.passed (entry_of cycle (card_in cycle along.card) along.passed moved) (is_added moved)
+    (rise-left entries along.passed (is_cleared moved) (rises wiring deck account ledger)) refl
+
+pub ledgers-rise : LedgersRise
+ledgers-rise wiring deck account along entries ledger = rises wiring deck account ledger

@@ -1,5 +1,5 @@
 -- The entries of a ledger are all changes of its number since it was cleared.
-use Rattle.std.specs.Prelude.{◌≡◌, ℕ, ◌<◌, true, false, List, All, Contains}
+use Rattle.std.specs.Prelude.{◌≡◌, ℕ, ◌+◌, ◌<◌, ◌≤◌, true, false, List, [], ◌∷◌, All, Contains}
 use Rattle.ledgers.specs.Accounts.{movement_of}
 use Rattle.ledgers.specs.Entries.{entry_of, is_added, is_cleared}
 use Rattle.ledgers.specs.Ledgers.{Along, IsLedger, card_in}
@@ -27,10 +27,11 @@ LedgersHoldAllChanges =
     → StandsSince wiring deck account passed along.passed
     → Contains entries (entry_of has.cycle (card_in has.cycle has.along.card) passed (movement_in account has))
 
--- An entry is of such a cycle.
+-- An entry is of such a cycle of the run.
 pub record IsSince (wiring : Wiring) (deck : List (List ℕ)) (account : Account) (until : ℕ) (entry : Entry) : Type 0 where
   pub before : entry.passed < until
-  pub added : (has : HasCycle wiring deck entry.passed) → is_added (movement_in account has) ≡ true
+  pub has : HasCycle wiring deck entry.passed
+  pub added : is_added (movement_in account has) ≡ true
   pub stands : StandsSince wiring deck account entry.passed until
 
 -- A ledger has no other entries.
@@ -38,3 +39,15 @@ abbrev pub LedgersHoldNoOthers : Type 0
 LedgersHoldNoOthers =
     (wiring : Wiring) (deck : List (List ℕ)) (account : Account) (along : Along) (entries : List Entry)
     → IsLedger wiring deck account along entries → All (IsSince wiring deck account along.passed) entries
+
+-- Each entry is of a later cycle than the one before it, the first of one behind so many others or later, the last of one before so many are
+-- over.
+abbrev pub Rise : (from : ℕ) → List Entry → (until : ℕ) → Type 0
+Rise from [] until = from ≤ until
+Rise from (entry ∷ entries) until = (from ≤ entry.passed) × Rise (entry.passed + 1) entries until
+
+-- A ledger has each entry once.
+abbrev pub LedgersRise : Type 0
+LedgersRise =
+    (wiring : Wiring) (deck : List (List ℕ)) (account : Account) (along : Along) (entries : List Entry)
+    → IsLedger wiring deck account along entries → Rise 0 entries along.passed

@@ -1,7 +1,7 @@
 //! Laws of ledgers. Each function does nothing: its contract is the law.
 
 ghost use Rattle.ledger_amounts.specs.Amounts.{KeptLedgersAreAmounts, LedgersAreAmounts};
-ghost use Rattle.ledger_amounts.specs.Changes.{LedgersHoldAllChanges, LedgersHoldNoOthers};
+ghost use Rattle.ledger_amounts.specs.Changes.{LedgersHoldAllChanges, LedgersHoldNoOthers, LedgersRise};
 ghost use Rattle.ledger_amounts.specs.CoupledSums.{CoupledEntriesAreSums, CoupledLedgersAreSums};
 ghost use Rattle.ledger_amounts.specs.Examples.{AddUp};
 ghost use Rattle.ledger_amounts.specs.Found.{TotalsAreFound};
@@ -17,10 +17,11 @@ pub fn ledgers_are_amounts()
 {}
 
 /// On every panel the entries of a ledger are those of all cycles in which something came to its number and behind which it wasn't cleared,
-/// and of no other.
+/// and of no other, each once and in the order of the run.
 pub fn ledgers_hold_all_changes()
     ensures all { LedgersHoldAllChanges }
     ensures others { LedgersHoldNoOthers }
+    ensures once { LedgersRise }
 {}
 
 /// On every panel each entry of two groups as one is a sum, unless the groups did different things, and if they never did and the number

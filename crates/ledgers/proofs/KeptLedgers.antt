@@ -211,6 +211,9 @@ only-kept wiring deck ends asked kept one same all is =
     subst (λ (a : AskedLedger). IsKeptLedger wiring deck a.passed ends a.account one.ledger) own
     (subst (IsKept wiring deck ends) (sym is) (all 0 one low))
 
+pub max-least : (a b m bound : ℕ) → m ≡ ord_max nat_cmp a b → a ≤ bound → b ≤ bound → m ≤ bound
+max-least a b m bound is first second = grind (arith, nat_tests, is, first, second)
+
 pub max-left : (a b m : ℕ) → m ≡ ord_max nat_cmp a b → a ≤ m
 max-left a b m is = grind (arith, nat_tests, is)
 

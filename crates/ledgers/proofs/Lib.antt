@@ -11,4 +11,5 @@ pub mod Keeping
 mod KeptLedgers
 mod SoughtLines
 mod InCycle
+mod CycleReadOuts
 pub mod LedgerText

@@ -185,4 +185,15 @@ entry-tells wiring deck account entry past has =
 
 pub entries-tell : EntriesTellCycles
 entries-tell wiring deck account along entries ledger = λ k d low.
-    entry-tells wiring deck account (get_or entries k d) (all-of-run wiring deck account ledger k d low)
+    let past = all-of-run wiring deck account ledger k d low in
+    record {
+      has = record {
+        along = past.along;
+        comes = past.comes;
+        counted = sym (ap (λ (e : Entry). e.passed) past.told);
+        cycle = past.cycle;
+        behind = past.behind;
+        goes = past.goes;
+      };
+      tells = entry-tells wiring deck account (get_or entries k d) past;
+    }

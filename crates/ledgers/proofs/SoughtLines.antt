@@ -19,7 +19,7 @@ use Rattle.page_text.specs.declared.placed_lines.placed_line.PlacedLine.{PlacedL
 use Rattle.setups.specs.Wiring.{Wiring}
 use Rattle.ledgers.specs.Ledgers.{Along, card_in}
 use Rattle.ledgers.specs.Running.{IsFoundAt, IsPast, IsSought, PlacesAt, PlacesLine, Stands, along_of, sought_at}
-use Rattle.ledgers.specs.SoughtLines.{IsUnfound, found_after, found_of, is_found, noted}
+use Rattle.ledgers.specs.SoughtLines.{IsUnfound, found_after, found_at, found_of, is_found, noted}
 use Rattle.ledgers.specs.declared.found.EndedCycle.{EndedCycle}
 use Rattle.ledgers.specs.declared.found.FoundCycle.{FoundCycle}
 use Rattle.ledgers.specs.declared.found.LinePlace.{LinePlace}
@@ -179,3 +179,19 @@ only-sought wiring deck at sought one same all is =
     let own : one.at ≡ at =
     ap sought_at is ∙ sym (get_or-map sought_at sought 0 one at low) ∙ ap (λ (l : List LinePlace). get_or l 0 at) same in
     subst (λ (a : LinePlace). IsFoundAt wiring deck a one.found) own (subst (IsSought wiring deck) (sym is) (all 0 one low))
+
+-- a cycle that placed no line changes nothing
+after-none : (one : EndedCycle) (at : LinePlace) (found : Option FoundCycle) → one.placed ≡ None → found_after one at found ≡ found
+after-none one at (Some found) none = refl
+after-none one at None none = ap (found_at one at) none
+
+pub none-noted : (one : EndedCycle) (sought : List SoughtLine) → one.placed ≡ None → sought ≡ map (noted one) sought
+none-noted one [] none = refl
+none-noted one (line ∷ lines) none =
+    ap (λ (l : List SoughtLine). line ∷ l) (none-noted one lines none)
+    ∙ ap (λ (f : Option FoundCycle). record line { found = f } ∷ map (noted one) lines)
+    (sym (after-none one line.at line.found none))
+
+pub nothing-placed : (placed : Option PlacedLine) → is_some placed ≡ false → placed ≡ None
+nothing-placed (Some line) is = absurd (false≢true (sym is))
+nothing-placed None is = refl

@@ -13,12 +13,17 @@ abbrev pub TellsCycle : Account → {wiring : Wiring} {deck : List (List ℕ)} {
 TellsCycle account {passed = passed} entry has =
     entry ≡ entry_of has.cycle (card_in has.cycle has.along.card) passed (movement_of has.behind.groups has.cycle account)
 
--- Each entry of a ledger tells of the cycle that it names: the one behind so many others.
+-- An entry names a cycle of the run, the one behind so many others, and tells of it.
+pub record TellsOfRun (wiring : Wiring) (deck : List (List ℕ)) (account : Account) (entry : Entry) : Type 0 where
+  pub has : HasCycle wiring deck entry.passed
+  pub tells : (any : HasCycle wiring deck entry.passed) → TellsCycle account entry any
+
+-- Each entry of a ledger does.
 abbrev pub EntriesTellCycles : Type 0
 EntriesTellCycles =
     (wiring : Wiring) (deck : List (List ℕ)) (account : Account) (along : Along) (entries : List Entry)
     → IsLedger wiring deck account along entries
-    → All (λ entry. (has : HasCycle wiring deck entry.passed) → TellsCycle account entry has) entries
+    → All (TellsOfRun wiring deck account) entries
 
 -- Of a run over a deck there is one place behind so many cycles.
 abbrev pub PlacesAreOne : Type 0

@@ -8,4 +8,5 @@ pub mod SoughtLines
 pub mod KeptLedgers
 pub mod Cycles
 pub mod InCycle
+pub mod CycleReadOuts
 pub mod LedgerText

@@ -99,23 +99,18 @@ fn found_at(one: &EndedCycle, at: LinePlace) -> Option<FoundCycle>
 
 impl SoughtLine {
     ghost use Rattle.std.specs.Prelude.{◌≡◌};
-    ghost use Rattle.ledgers.specs.SoughtLines.{found_after, noted};
-
-    // The cycle that placed the line: the one that was found before, or else this one.
-    fn found_after(&self, one: &EndedCycle) -> Option<FoundCycle>
-        ensures { result ≡ found_after one.now self.now.at self.now.found }
-    {
-        match self.found {
-            Some(found) => Some(found),
-            None => found_at(one, self.at),
-        }
-    }
+    ghost use Rattle.ledgers.specs.SoughtLines.{noted};
 
     // Notes the cycle, if it placed the line and none was found before.
     fn note(&mut self, one: &EndedCycle)
         ensures { self.new ≡ noted one.now self.old }
     {
-        self.found = self.found_after(one);
+        if self.found.is_some() {
+            return;
+        }
+        if let Some(found) = found_at(one, self.at) {
+            self.found = Some(found);
+        }
     }
 }
 
@@ -123,6 +118,9 @@ impl SoughtLine {
 fn note_all(sought: &mut [SoughtLine], one: &EndedCycle)
     ensures { sought.new ≡ map (noted one.now) sought.old }
 {
+    if one.placed.is_none() {
+        return;
+    }
     for line in sought.iter_mut() {
         line.note(one);
     }

@@ -14,7 +14,7 @@ use setups::Setup;
 use std::alloc::{AllocError, Global};
 
 // The cycle that is due, where one is.
-fn next_cycle(machine: &SteppedMachine) -> Cycle
+pub(crate) fn next_cycle(machine: &SteppedMachine) -> Cycle
     requires { cycle_due machine.now.machine ≡ None → ⊥ }
     ensures { cycle_due machine.now.machine ≡ Some result }
 {

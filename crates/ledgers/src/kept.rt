@@ -1,6 +1,6 @@
 //! The ledgers of accounts along a run.
 
-ghost use Rattle.std.specs.Prelude.{◌≡◌, ◌≤◌, All, IfOk, OnOk, length, map};
+ghost use Rattle.std.specs.Prelude.{◌≡◌, ◌≤◌, ℕ, All, IfOk, OnOk, length, map};
 ghost use Rattle.card_code.specs.MostCards.{most_cards};
 ghost use Rattle.counters.specs.Laws.{IsCounter};
 ghost use Rattle.ledgers.specs.Accounts.{IsAccount};
@@ -9,6 +9,7 @@ ghost use Rattle.ledgers.specs.Running.{HasCycle, IsKept, IsKeptLedger, asked_of
 ghost use Rattle.ledgers.specs.declared.kept.AskedLedger.{AskedLedger};
 
 use crate::account::Account;
+use crate::in_cycle::next_cycle;
 use crate::ledger::Ledger;
 use crate::run::{card_in, make_ready, move_on};
 use card_code::Card;
@@ -125,7 +126,8 @@ fn take_all(
 
 // How many cycles come before the last one up to which a ledger is told.
 fn last_of(asked: &[AskedLedger]) -> u64
-    ensures { All (λ (one : AskedLedger). one.passed ≤ result) asked.now }
+    ensures high { All (λ (one : AskedLedger). one.passed ≤ result) asked.now }
+    ensures least { (bound : ℕ) → All (λ (one : AskedLedger). one.passed ≤ bound) asked.now → result ≤ bound }
 {
     let mut last = 0;
     for one in asked {
@@ -156,10 +158,7 @@ pub fn ledgers_before(
     let mut card = 0;
     let last = last_of(asked);
     for passed in 0..last {
-        let Some(cycle) = machine.cycle_due() else {
-            // No ledger is told beyond the end of the run.
-            return Ok(kept);
-        };
+        let cycle = next_cycle(&machine);
         hopper = make_ready(&mut machine, cycle, hopper);
         card = card_in(cycle, card);
         machine.run_points(cycle);

@@ -4,3 +4,4 @@ pub mod Printing
 pub mod Texts
 mod Leaving
 pub mod Standing
+mod Carriage

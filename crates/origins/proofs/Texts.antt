@@ -197,3 +197,13 @@ page-line (Ok x) wiring cycle asked old mid new told is begun ended =
     ∙ ap (λ (l : List ℕ). l ++ wire_words cycle (codes "RS")) begun
     ∙ append_assoc old (codes ", a new page") (wire_words cycle (codes "RS"))
     ∙ ap (λ (b : Bool). old ++ (if b then codes ", a new page" ++ wire_words cycle (codes "RS") else [])) (sym is ∙ told)
+
+-- three parts, one behind the other, of which the last has two
+pub three-parts : {X E : Type 0} (result : Result X E) (old one two new a b c d : List ℕ) → one ≡ old ++ a → two ≡ one ++ b
+    → OnOk result (new ≡ two ++ (c ++ d)) → OnOk result (new ≡ old ++ (((a ++ b) ++ c) ++ d))
+three-parts (Err e) old one two new a b c d first second third = tt
+three-parts (Ok x) old one two new a b c d first second third =
+    third
+    ∙ ap (λ (l : List ℕ). l ++ (c ++ d)) (second ∙ ap (λ (l : List ℕ). l ++ b) first ∙ append_assoc old a b)
+    ∙ append_assoc old (a ++ b) (c ++ d)
+    ∙ ap (λ (l : List ℕ). old ++ l) (sym (append_assoc (a ++ b) c d))

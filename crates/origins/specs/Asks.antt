@@ -1,9 +1,8 @@
 -- What the carriage is asked for by wires straight from the exit that emits at the control point of a cycle. What comes to it through contacts
--- no word tells.
-use Rattle.std.specs.Prelude.{ℕ, ◌&&◌, ◌||◌, nat_le, nat_lt, Bool, false, List, [], ◌++◌, Option, Some, None, codes, decimal, if◌then◌else◌}
+-- no word tells, and by a wire nothing is told that could be overruled so.
+use Rattle.std.specs.Prelude.{ℕ, zero, suc, ◌==◌, ◌&&◌, ◌||◌, nat_le, nat_lt, not, Bool, false, List, [], ◌++◌, Option, Some, None, codes, decimal, if◌then◌else◌}
 use Rattle.hubs.specs.declared.hub.Hub.{Hub}
-use Rattle.hubs.specs.declared.hub.Hub.TheVariants.{CC, HX, PX, RS, SP}
-use Rattle.machine.specs.Below.carriage.Asked.{channel_asked}
+use Rattle.hubs.specs.declared.hub.Hub.TheVariants.{CC, HX, PX, RS, SK, SP}
 use Rattle.machine.specs.Below.carriage.Moves.{next_stop}
 use Rattle.net.specs.Cycles.{level_number, ordinal_number}
 use Rattle.net.specs.declared.cycle.Cycle.{Cycle}
@@ -11,6 +10,7 @@ use Rattle.net.specs.declared.cycle.Cycle.TheVariants.{RunIn, Card, Prog, Head}
 use Rattle.net.specs.declared.cycle.Ordinal.TheVariants.{First, Second, Third}
 use Rattle.setups.specs.Tapes.{CarriageTape}
 use Rattle.setups.specs.Wiring.{Wiring, is_wired}
+use Rattle.origins.specs.Levels.{others_lead}
 
 -- a wire leads to an entry from the exit of a cycle
 abbrev pub asks : Wiring → Cycle → Hub → Bool
@@ -18,6 +18,11 @@ asks wiring RunIn entry = false
 asks wiring Card entry = is_wired wiring CC entry
 asks wiring (Prog level ordinal) entry = is_wired wiring (PX (level_number level) (ordinal_number ordinal)) entry
 asks wiring (Head heading) entry = is_wired wiring (HX (ordinal_number heading)) entry
+
+-- Wires lead to an entry from no contact: from none of the exits 161 to 1024. Before them are the brushes, which send nothing at the control
+-- point, and behind them the exits of cycles.
+unfoldable pub is_of_cycles : Wiring → Hub → Bool
+is_of_cycles wiring entry = not (others_lead wiring entry 864)
 
 -- that exit
 abbrev pub source_text : Cycle → List ℕ
@@ -30,12 +35,25 @@ source_text (Head heading) = codes "HX." ++ decimal (ordinal_number heading)
 abbrev pub wire_words : Cycle → (name : List ℕ) → List ℕ
 wire_words cycle name = codes " by " ++ source_text cycle ++ codes " -> " ++ name
 
--- the spacing that a cycle asks for, if it isn't single: triple spacing rules over double spacing
-abbrev pub wide_words : Wiring → Cycle → List ℕ
-wide_words wiring cycle =
+-- The lines of the spacing that a cycle asks for, if it isn't single. Triple spacing rules over double spacing, which is told only if no
+-- contact can ask for the other.
+abbrev pub spacing_of : Wiring → Cycle → Option ℕ
+spacing_of wiring cycle =
     if asks wiring cycle (SP 3)
-    then codes ", triple spacing" ++ wire_words cycle (codes "SP.3")
-    else if asks wiring cycle (SP 2) then codes ", double spacing" ++ wire_words cycle (codes "SP.2") else []
+    then Some 3
+    else if asks wiring cycle (SP 2) && is_of_cycles wiring (SP 3) then Some 2 else None
+
+-- its name
+abbrev pub spacing_name : ℕ → List ℕ
+spacing_name lines = if lines == 3 then codes "triple" else codes "double"
+
+abbrev pub spacing_by : Cycle → Option ℕ → List ℕ
+spacing_by cycle None = []
+spacing_by cycle (Some lines) =
+    codes ", " ++ spacing_name lines ++ codes " spacing" ++ wire_words cycle (codes "SP.") ++ decimal lines
+
+abbrev pub wide_words : Wiring → Cycle → List ℕ
+wide_words wiring cycle = spacing_by cycle (spacing_of wiring cycle)
 
 -- the first heading cycle begins a page and doesn't space
 abbrev pub spacing_words : Wiring → Cycle → List ℕ
@@ -46,9 +64,17 @@ spacing_words wiring (Head First) = []
 spacing_words wiring (Head Second) = wide_words wiring (Head Second)
 spacing_words wiring (Head Third) = wide_words wiring (Head Third)
 
--- the channel of the skip that a cycle asks for behind its line: the lowest one
+-- the lowest of so many channels, from one on, to which a cycle asks to skip: none if a contact can ask for a lower one
+abbrev pub channel_from : Wiring → Cycle → (channel others : ℕ) → Option ℕ
+channel_from wiring cycle channel zero = None
+channel_from wiring cycle channel (suc others) =
+    if asks wiring cycle (SK channel)
+    then Some channel
+    else if is_of_cycles wiring (SK channel) then channel_from wiring cycle (suc channel) others else None
+
+-- the channel of the skip that a cycle asks for behind its line
 abbrev pub channel_of : Wiring → Cycle → Option ℕ
-channel_of wiring cycle = channel_asked (asks wiring cycle)
+channel_of wiring cycle = channel_from wiring cycle 1 12
 
 -- the stop to which a skip from a line goes, if the form has one below the line
 abbrev pub stop_words : Option ℕ → List ℕ

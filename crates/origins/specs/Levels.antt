@@ -1,7 +1,7 @@
 -- Why the program cycles of a level run: the card was the last one, or it and the next one differ in columns that are compared.
 use Rattle.std.specs.Prelude.{ℕ, zero, suc, ◌+◌, ◌==◌, ◌&&◌, ◌||◌, nat_le, not, Bool, false, List, [], ◌++◌, Option, Some, None, codes, decimal, length, if◌then◌else◌}
 use Rattle.std.specs.List.{flat_map}
-use Rattle.card_code.specs.Rows.{rows}
+use Rattle.card_code.specs.Rows.{row_number, rows}
 use Rattle.card_code.specs.declared.row.Row.{Row}
 use Rattle.hubs.specs.Hubs.{number_of}
 use Rattle.hubs.specs.declared.hub.Hub.{Hub}
@@ -43,17 +43,23 @@ abbrev pub called_by_holes : Wiring → (position from : ℕ) → Option ℕ
 called_by_holes wiring position from =
     if is_of_brushes wiring (CA position) && is_of_brushes wiring (CB position) then called_to wiring position from 3 else None
 
--- a hole of which a wire leads to one entry of a comparing position, while no wire leads to the other entry from a column with that row
-abbrev pub unlike_text : Hole → (card position : ℕ) → (entry other : List ℕ) → List ℕ
-unlike_text hole card position entry other =
-    brush_text hole ++ codes " -> " ++ entry ++ decimal position ++ column_text hole card ++ codes ", and no column to " ++ other
-    ++ decimal position ++ codes "\n"
+-- no hole in a row leads to an entry of a comparing position
+abbrev pub no_row : Row → List ℕ
+no_row row = codes ", and no row " ++ decimal (row_number row) ++ codes " to "
+
+abbrev pub missing_text : (position : ℕ) → Row → (entry : List ℕ) → List ℕ
+missing_text position row entry = no_row row ++ entry ++ decimal position ++ codes "\n"
+
+-- a hole in a row of which a wire leads to one entry of a comparing position, while no hole in that row leads to the other entry
+abbrev pub unlike_text : Hole → (card position : ℕ) → Row → (entry other : List ℕ) → List ℕ
+unlike_text hole card position row entry other =
+    brush_text hole ++ codes " -> " ++ entry ++ decimal position ++ column_text hole card ++ missing_text position row other
 
 -- the line of a row at a comparing position, by the holes of which wires lead to its entries: none if both or neither is reached
 abbrev pub unlike_line : Option Hole → Option Hole → (card position : ℕ) → Row → List ℕ
 unlike_line None None card position row = []
-unlike_line (Some one) None card position row = row_text row ++ unlike_text one card position (codes "CA.") (codes "CB.")
-unlike_line None (Some other) card position row = row_text row ++ unlike_text other card position (codes "CB.") (codes "CA.")
+unlike_line (Some one) None card position row = row_text row ++ unlike_text one card position row (codes "CA.") (codes "CB.")
+unlike_line None (Some other) card position row = row_text row ++ unlike_text other card position row (codes "CB.") (codes "CA.")
 unlike_line (Some one) (Some other) card position row = []
 
 abbrev pub unlike_at : Wiring → List (List ℕ) → (card position : ℕ) → Row → List ℕ

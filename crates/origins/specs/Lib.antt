@@ -8,5 +8,6 @@ pub mod Latches
 pub mod Storage
 pub mod Levels
 pub mod Asks
+pub mod Carriage
 pub mod Placing
 pub mod Told

@@ -1,16 +1,19 @@
 //! What the carriage is asked for by wires straight from the exit that emits at the control point of a cycle.
 
 ghost use Rattle.std.specs.Prelude.{◌≡◌, ◌<◌, ◌+◌, ◌++◌, OnOk};
-ghost use Rattle.machine.specs.Below.carriage.Asked.{lowest_from};
 ghost use Rattle.machine.specs.Below.carriage.Moves.{is_stop_of, next_stop, stop_from};
-ghost use Rattle.origins.specs.Asks.{asks, channel_of, has_overflowed, overflow_by, overflow_words, overflows_to, page_words, skip_end, skip_to, skip_words, source_text, spacing_words, stop_words, wide_words, wire_words};
+ghost use Rattle.origins.specs.Asks.{asks, channel_from, channel_of, has_overflowed, is_of_cycles, overflow_by, overflow_words, overflows_to, page_words, skip_end, skip_to, skip_words, source_text, spacing_name, spacing_of, spacing_words, stop_words, wide_words, wire_words};
 
 use crate::holes::is_wired;
+use crate::levels::others_lead;
 use hubs::Hub;
 use net::{Cycle, Ordinal};
 use setups::{Setup, Tape};
 use std::io;
 use std::io::Write;
+
+/// How many exits are neither brushes nor those of cycles.
+const BETWEEN: u32 = 864;
 
 // Whether a wire leads to an entry from the exit of a cycle.
 fn asks(setup: &Setup, cycle: Cycle, entry: Hub) -> bool
@@ -24,6 +27,14 @@ fn asks(setup: &Setup, cycle: Cycle, entry: Hub) -> bool
         }
         Cycle::Head(heading) => is_wired(setup, Hub::HX(heading.number()), entry),
     }
+}
+
+// Whether wires lead to an entry from no contact.
+#[tactic(auto, unfolding(crate::specs::Asks::is_of_cycles))]
+fn is_of_cycles(setup: &Setup, entry: Hub) -> bool
+    ensures { result ≡ is_of_cycles setup.now entry }
+{
+    !others_lead(setup, entry, BETWEEN)
 }
 
 // That exit.
@@ -55,19 +66,37 @@ fn write_wire(text: &mut Vec<u8>, cycle: Cycle, name: &[u8]) -> io::Result<()>
     text.write_all(name)
 }
 
-// The spacing that a cycle asks for, if it isn't single.
+// The lines of the spacing that a cycle asks for, if it isn't single.
+fn spacing_of(setup: &Setup, cycle: Cycle) -> Option<u8>
+    ensures { result ≡ spacing_of setup.now cycle }
+{
+    if asks(setup, cycle, Hub::SP(3)) {
+        return Some(3);
+    }
+    if asks(setup, cycle, Hub::SP(2)) && is_of_cycles(setup, Hub::SP(3)) {
+        return Some(2);
+    }
+    None
+}
+
+// Its name.
+fn spacing_name(lines: u8) -> &'static [u8]
+    ensures { result.now ≡ spacing_name lines }
+{
+    if lines == 3 { b"triple" } else { b"double" }
+}
+
 fn write_wide(text: &mut Vec<u8>, setup: &Setup, cycle: Cycle) -> io::Result<()>
     ensures { OnOk result (text.new.items ≡ text.old.items ++ wide_words setup.now cycle) }
 {
-    if asks(setup, cycle, Hub::SP(3)) {
-        text.write_all(b", triple spacing")?;
-        return write_wire(text, cycle, b"SP.3");
-    }
-    if asks(setup, cycle, Hub::SP(2)) {
-        text.write_all(b", double spacing")?;
-        return write_wire(text, cycle, b"SP.2");
-    }
-    Ok(())
+    let Some(lines) = spacing_of(setup, cycle) else {
+        return Ok(());
+    };
+    text.write_all(b", ")?;
+    text.write_all(spacing_name(lines))?;
+    text.write_all(b" spacing")?;
+    write_wire(text, cycle, b"SP.")?;
+    write!(text, "{lines}")
 }
 
 // The spacing of a cycle: the first heading cycle begins a page and doesn't space.
@@ -84,10 +113,10 @@ pub(crate) fn write_spacing(text: &mut Vec<u8>, setup: &Setup, cycle: Cycle) -> 
     }
 }
 
-// The lowest of so many channels, from one on, to which a cycle asks to skip.
-fn lowest_from(setup: &Setup, cycle: Cycle, channel: u8, others: u8) -> Option<u8>
+// The lowest of so many channels, from one on, to which a cycle asks to skip: none if a contact can ask for a lower one.
+fn channel_from(setup: &Setup, cycle: Cycle, channel: u8, others: u8) -> Option<u8>
     requires { channel + others < 256 }
-    ensures { result ≡ lowest_from channel others (asks setup.now cycle) }
+    ensures { result ≡ channel_from setup.now cycle channel others }
 {
     if others == 0 {
         return None;
@@ -95,14 +124,17 @@ fn lowest_from(setup: &Setup, cycle: Cycle, channel: u8, others: u8) -> Option<u
     if asks(setup, cycle, Hub::SK(channel)) {
         return Some(channel);
     }
-    lowest_from(setup, cycle, channel + 1, others - 1)
+    if !is_of_cycles(setup, Hub::SK(channel)) {
+        return None;
+    }
+    channel_from(setup, cycle, channel + 1, others - 1)
 }
 
 // The channel of the skip that a cycle asks for behind its line.
 fn channel_of(setup: &Setup, cycle: Cycle) -> Option<u8>
     ensures { result ≡ channel_of setup.now cycle }
 {
-    lowest_from(setup, cycle, 1, 12)
+    channel_from(setup, cycle, 1, 12)
 }
 
 // Whether a channel has a stop at a line: channel 1 at the first line, channel 12 at the overflow line.

@@ -1,6 +1,7 @@
 //! Laws of origins. Each is a function that does nothing: its contract is the law.
 
 ghost use Rattle.origins.specs.Cards.{CardsAreNumbered};
+ghost use Rattle.origins.specs.Carriage.{CarriageIsAskedAsTold};
 ghost use Rattle.origins.specs.Changes.{LatchesAreTested, PilotsArePickedUp, StorageIsKept};
 
 /// A storage unit holds what the last cycle left that changed its text.
@@ -21,4 +22,9 @@ pub fn latches_are_tested()
 /// In each cycle of a run the card at second reading is the one with the number that is told, and at first reading stands the next one.
 pub fn cards_are_numbered()
     ensures { CardsAreNumbered }
+{}
+
+/// What wires tell of spacing, of a skip and of a new page in a cycle is what the carriage is asked for at its control point.
+pub fn carriage_is_asked_as_told()
+    ensures { CarriageIsAskedAsTold }
 {}

@@ -2,7 +2,7 @@
 
 ghost use Rattle.std.specs.Prelude.{◌≡◌, ◌≤◌, ◌++◌, IfOk, OnOk, length};
 ghost use Rattle.card_code.specs.Rows.{rows};
-ghost use Rattle.origins.specs.Levels.{called_by, called_text, card_text, called_to, calling_text, called_by_holes, calls, is_led_from, is_of_brushes, last_text, level_text, or_text, others_lead, position_text, position_text_by, positions_text, runs_text, unlike_at, unlike_line, unlike_lines, unlike_text};
+ghost use Rattle.origins.specs.Levels.{called_by, called_text, card_text, called_to, calling_text, called_by_holes, calls, is_led_from, is_of_brushes, last_text, level_text, missing_text, no_row, or_text, others_lead, position_text, position_text_by, positions_text, runs_text, unlike_at, unlike_line, unlike_lines, unlike_text};
 ghost use Rattle.setups.specs.Wiring.{is_wired};
 
 use crate::holes::{Hole, hole_to, is_wired, write_brush, write_column};
@@ -65,7 +65,7 @@ fn is_led_from(setup: &Setup, entry: Hub, number: u32) -> bool
 
 // Whether one leads there from one of so many exits behind the brushes.
 #[tactic(auto, unfolding(crate::specs::Levels::others_lead))]
-fn others_lead(setup: &Setup, entry: Hub, count: u32) -> bool
+pub(crate) fn others_lead(setup: &Setup, entry: Hub, count: u32) -> bool
     requires { count ≤ 880 }
     ensures { result ≡ others_lead setup.now entry count }
 {
@@ -94,25 +94,40 @@ fn called_by_holes(setup: &Setup, position: u8, from: u8) -> Option<u8>
     }
 }
 
-// A hole of which a wire leads to one entry of a comparing position, while none leads to the other.
+// No hole in a row leads to an entry of a comparing position.
+fn write_no_row(text: &mut Vec<u8>, row: Row) -> io::Result<()>
+    ensures { OnOk result (text.new.items ≡ text.old.items ++ no_row row) }
+{
+    let number = row.number();
+    write!(text, ", and no row {number} to ")
+}
+
+fn write_missing(text: &mut Vec<u8>, position: u8, row: Row, entry: &[u8]) -> io::Result<()>
+    ensures { OnOk result (text.new.items ≡ text.old.items ++ missing_text position row entry.now) }
+{
+    write_no_row(text, row)?;
+    text.write_all(entry)?;
+    write!(text, "{position}\n")
+}
+
+// A hole in a row of which a wire leads to one entry of a comparing position, while none in that row leads to the other.
 fn write_unlike(
     text: &mut Vec<u8>,
     hole: Hole,
     card: u32,
     position: u8,
+    row: Row,
     entry: &[u8],
     other: &[u8],
 ) -> io::Result<()>
-    ensures { OnOk result (text.new.items ≡ text.old.items ++ unlike_text hole card position entry.now other.now) }
+    ensures { OnOk result (text.new.items ≡ text.old.items ++ unlike_text hole card position row entry.now other.now) }
 {
     write_brush(text, hole)?;
     text.write_all(b" -> ")?;
     text.write_all(entry)?;
     write!(text, "{position}")?;
     write_column(text, hole, card)?;
-    text.write_all(b", and no column to ")?;
-    text.write_all(other)?;
-    write!(text, "{position}\n")
+    write_missing(text, position, row, other)
 }
 
 // The line of a row at a comparing position, by the holes of which wires lead to its entries.
@@ -129,11 +144,11 @@ fn write_unlike_line(
     match (one, other) {
         (Some(one), None) => {
             write_row(text, row)?;
-            write_unlike(text, one, card, position, b"CA.", b"CB.")
+            write_unlike(text, one, card, position, row, b"CA.", b"CB.")
         }
         (None, Some(other)) => {
             write_row(text, row)?;
-            write_unlike(text, other, card, position, b"CB.", b"CA.")
+            write_unlike(text, other, card, position, row, b"CB.", b"CA.")
         }
         (Some(_), Some(_)) | (None, None) => Ok(()),
     }

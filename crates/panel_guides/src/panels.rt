@@ -13,7 +13,7 @@ ghost use Rattle.panel_guides.specs.Panels.{HasPanel, is_wiring_text};
 
 use card_code::{Card, read_deck};
 use commands::check;
-use compile407::{Compiled, compile, run};
+use compile407::{Compiled, check_run, compile};
 use faults::Fault;
 use setups::Setup;
 use std::alloc::Global;
@@ -95,8 +95,7 @@ pub fn wired_run<'a>(alloc: Global, wiring: &[u8], deck: &[u8]) -> Result<WiredR
     Ok(WiredRun { setup, cards })
 }
 
-/// The compiled chart and the cards of a chart and a deck. The chart is run with the deck, so that a card or a total which it refuses is
-/// found.
+/// The compiled chart and the cards of a chart and a deck with which it can be run.
 ///
 /// # Errors
 ///
@@ -109,7 +108,7 @@ pub fn planned_run<'a>(alloc: Global, chart: &[u8], deck: &[u8]) -> Result<Plann
 {
     let compiled = compile(alloc, chart)?;
     let cards = read_deck(alloc, deck)?;
-    run(alloc, &compiled, cards.as_slice())?;
+    check_run(&compiled, cards.as_slice())?;
     Ok(PlannedRun { compiled, cards })
 }
 

@@ -9,6 +9,7 @@ use Rattle.explanations.specs.PlacedInRun.{PrintsNoneAt}
 use Rattle.ledgers.specs.Accounts.{IsAccount, positions_of}
 use Rattle.ledgers.specs.LedgerText.Names.{account_text}
 use Rattle.ledgers.specs.Running.{HasCycle, IsFoundAt, IsKept, IsKeptLedger, IsSought, PlacesAt, PlacesLine, asked_of, sought_at}
+use Rattle.ledgers.specs.declared.account.Account.{Account}
 use Rattle.ledgers.specs.declared.found.FoundCycle.{FoundCycle}
 use Rattle.ledgers.specs.declared.found.LinePlace.{LinePlace}
 use Rattle.ledgers.specs.declared.found.SoughtLine.{SoughtLine}
@@ -23,7 +24,7 @@ use Rattle.wheel_ledgers.proofs.Accounts.{is_account_told}
 use Rattle.wheel_ledgers.specs.Totals.{AreAccounts, find_total, has_place}
 use Rattle.wheel_ledgers.specs.declared.chart_totals.TitledAccount.{TitledAccount}
 use Rattle.page_sections.specs.declared.wheel_sections.told.ToldWheel.{ToldWheel}
-use Rattle.sum_sections.specs.Sums.{AreSums}
+use Rattle.sum_sections.specs.Sums.{AreSums, figure_of}
 use Rattle.sum_sections.specs.WantedSums.{AreWantedFor, IsFoundSum, IsSumFor, IsWanted, asked_for, line_place, wanted_of}
 use Rattle.sum_sections.specs.declared.sums.FoundSum.{FoundSum}
 use Rattle.sum_sections.specs.declared.sums.PageSum.{PageSum}
@@ -144,8 +145,9 @@ pub sum-for : (wiring : Wiring) (totals : List TitledAccount) (deck : List (List
     → IsFoundSum wiring deck one → kept.asked ≡ asked_for totals one → IsKept wiring deck 100 kept → sum.at ≡ one.wanted.at
     → sum.total ≡ find_total totals one.wanted.place → sum.found ≡ one.found → sum.ledger ≡ kept.ledger
     → sum.positions ≡ positions_of kept.asked.account → sum.groups.items ≡ account_text kept.asked.account
+    → sum.figure.items ≡ figure_of wiring kept.asked.account one.found.line.text one.wanted.at.wheel
     → sum.why.items ≡ called_by wiring deck one.found.card one.found.cycle → IsSumFor wiring totals deck one.wanted sum
-sum-for wiring totals deck one kept sum is asked told at total found ledger positions groups ran =
+sum-for wiring totals deck one kept sum is asked told at total found ledger positions groups figure ran =
     let account = ap (λ (a : AskedLedger). a.account) asked in
     record {
       at = at;
@@ -161,6 +163,11 @@ sum-for wiring totals deck one kept sum is asked told at total found ledger posi
             (subst (λ (a : AskedLedger). IsKeptLedger wiring deck a.passed 100 a.account kept.ledger) asked told));
         positions = positions ∙ ap positions_of account;
         groups = groups ∙ ap account_text account;
+        figure =
+            figure
+            ∙ ap (λ (a : Account). figure_of wiring a one.found.line.text one.wanted.at.wheel) account
+            ∙ ap (λ (f : FoundCycle). figure_of wiring (account_at totals one.wanted.place) f.line.text one.wanted.at.wheel) (sym found)
+            ∙ ap (λ (p : SumPlace). figure_of wiring (account_at totals one.wanted.place) sum.found.line.text p.wheel) (sym at);
         why_ran = ran ∙ ap (λ (f : FoundCycle). called_by wiring deck f.card f.cycle) (sym found);
       };
     }

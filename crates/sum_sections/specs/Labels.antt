@@ -1,16 +1,11 @@
 -- What a sum is called: the name of its amount, or else its counter group, and the figure that was printed.
-use Rattle.std.specs.Prelude.{ℕ, ◌&&◌, List, [], ◌++◌, Option, Some, None, codes, if◌then◌else◌, nat_le}
+use Rattle.std.specs.Prelude.{ℕ, List, ◌++◌, Option, Some, None, codes}
 use Rattle.charts.specs.Name.{name_text}
 use Rattle.hubs.specs.declared.hub.Group.{Group}
-use Rattle.ledgers.specs.LedgerText.Figures.{figure_at}
 use Rattle.markup.specs.Escapes.{escaped}
 use Rattle.page_links.specs.SumPlaces.Places.{counter_name}
 use Rattle.wheel_ledgers.specs.declared.chart_totals.TitledAccount.{TitledAccount}
 use Rattle.sum_sections.specs.declared.sums.PageSum.{PageSum}
-
--- the figure on a wheel of a line; none if the wheel isn't one of 1 to 120
-abbrev pub figure_of : (line : List ℕ) → (wheel : ℕ) → List ℕ
-figure_of line wheel = if nat_le 1 wheel && nat_le wheel 120 then figure_at line wheel else []
 
 -- the name of a sum
 abbrev pub sum_name_text : Option TitledAccount → Group → List ℕ
@@ -18,4 +13,4 @@ sum_name_text (Some total) group = escaped (name_text total.title.name)
 sum_name_text None group = counter_name group
 
 unfoldable pub label_text : PageSum → List ℕ
-label_text sum = sum_name_text sum.total sum.at.group ++ codes " " ++ escaped (figure_of sum.found.line.text sum.at.wheel)
+label_text sum = sum_name_text sum.total sum.at.group ++ codes " " ++ escaped sum.figure.items

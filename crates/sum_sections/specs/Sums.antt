@@ -1,16 +1,18 @@
 -- The sums behind the figures of a page: for each counter group that is printed on a line the ledger of its number, as the cycle found it
 -- that printed the line.
-use Rattle.std.specs.Prelude.{◌≡◌, ℕ, List, [], ◌∷◌, ◌++◌, Some, None, false, map, true}
+use Rattle.std.specs.Prelude.{◌≡◌, ℕ, ◌&&◌, nat_le, if◌then◌else◌, List, [], ◌∷◌, ◌++◌, Some, None, false, map, true}
 use Rattle.explanations.specs.Explanations.{IsExplanation}
 use Rattle.explanations.specs.declared.explanation.Explanation.{Explanation}
 use Rattle.ledgers.specs.LedgerText.Names.{account_text}
 use Rattle.ledgers.specs.Accounts.{positions_of}
 use Rattle.ledgers.specs.Running.{IsKeptLedger, PlacesLine}
+use Rattle.ledgers.specs.declared.account.Account.{Account}
 use Rattle.origins.specs.Levels.{called_by}
 use Rattle.page_sections.specs.declared.wheel_sections.told.ToldWheel.{ToldWheel}
 use Rattle.setups.specs.Wiring.{Wiring}
 use Rattle.page_links.specs.SumPlaces.Places.{account_at, has_sum, sum_at}
 use Rattle.page_links.specs.declared.sum_places.places.SumPlace.{SumPlace}
+use Rattle.wheel_ledgers.specs.Figures.{figure_on}
 use Rattle.wheel_ledgers.specs.Printed.{place_printed}
 use Rattle.wheel_ledgers.specs.Totals.{find_total}
 use Rattle.wheel_ledgers.specs.declared.chart_totals.TitledAccount.{TitledAccount}
@@ -19,6 +21,10 @@ use Rattle.sum_sections.specs.declared.sums.PageSum.{PageSum}
 -- the wheel is explained
 abbrev pub IsExplained : Wiring → (deck : List (List ℕ)) → Explanation → Type 0
 IsExplained wiring deck why = IsExplanation wiring deck why.line.page why.line.line why.wheel why
+
+-- the figure of an account on a wheel of a line; none if the wheel isn't one of 1 to 120
+abbrev pub figure_of : Wiring → Account → (line : List ℕ) → (wheel : ℕ) → List ℕ
+figure_of wiring account line wheel = if nat_le 1 wheel && nat_le wheel 120 then figure_on wiring account line wheel else []
 
 -- The sum behind a wheel that is printed of the group of a place: the ledger of the account that is told for the place, as the cycle found it
 -- that printed the line.
@@ -32,6 +38,7 @@ pub record IsSumOf (wiring : Wiring) (totals : List TitledAccount) (deck : List 
   pub kept : IsKeptLedger wiring deck sum.found.passed 100 (account_at totals place) sum.ledger
   pub positions : sum.positions ≡ positions_of (account_at totals place)
   pub groups : sum.groups.items ≡ account_text (account_at totals place)
+  pub figure : sum.figure.items ≡ figure_of wiring (account_at totals place) sum.found.line.text sum.at.wheel
   pub why_ran : sum.why.items ≡ called_by wiring deck sum.found.card sum.found.cycle
 
 -- where a sum stands

@@ -2,26 +2,14 @@
 
 ghost use Rattle.std.specs.Prelude.{◌≡◌, ◌++◌, codes, OnOk};
 ghost use Rattle.std.specs.String.{string_bytes};
-ghost use Rattle.sum_sections.specs.Labels.{figure_of, label_text, sum_name_text};
+ghost use Rattle.sum_sections.specs.Labels.{label_text, sum_name_text};
 
 use crate::sums::PageSum;
 use hubs::Group;
-use ledgers::ledger_text::figure_at;
 use markup::push_escaped;
 use page_links::sum_places::write_counter_name;
 use std::alloc::AllocError;
 use wheel_ledgers::TitledAccount;
-
-// The figure on a wheel of a line; none if the wheel isn't one of 1 to 120.
-fn figure_of(line: &[u8; 120], wheel: u8) -> &[u8]
-    ensures { result.now ≡ figure_of line.now wheel }
-{
-    if 1 <= wheel && wheel <= 120 {
-        figure_at(line, wheel as usize)
-    } else {
-        &[]
-    }
-}
 
 // The name of a sum: that of its amount, or else of its counter group.
 fn write_sum_name_text(
@@ -44,5 +32,5 @@ pub(crate) fn write_label(text: &mut String, sum: &PageSum) -> Result<(), AllocE
 {
     write_sum_name_text(text, &sum.total, sum.at.group)?;
     text.push_str(" ")?;
-    push_escaped(text, figure_of(&sum.found.line.text, sum.at.wheel))
+    push_escaped(text, sum.figure.as_slice())
 }

@@ -8,7 +8,7 @@ ghost use Rattle.ledgers.specs.Accounts.{IsAccount};
 ghost use Rattle.ledgers.specs.Running.{IsKept};
 ghost use Rattle.origins.specs.Levels.{called_by};
 ghost use Rattle.wheel_ledgers.specs.Totals.{AreAccounts};
-ghost use Rattle.sum_sections.specs.Sums.{AreSums, IsExplained, place_of};
+ghost use Rattle.sum_sections.specs.Sums.{AreSums, IsExplained, figure_of, place_of};
 ghost use Rattle.sum_sections.specs.WantedSums.{AreWanted, IsFoundSum, IsSumFor, IsWanted, WantsSum, asked_for, line_place, wanted_at, wanted_of};
 
 use card_code::Card;
@@ -22,9 +22,10 @@ use ledgers::{
 use origins::called_by;
 use page_links::sum_places::{SumPlace, has_sum, sum_at};
 use page_sections::wheel_sections::ToldWheel;
+use page_text::placed_lines::LINE_WHEELS;
 use setups::Setup;
 use std::alloc::{AllocError, Global};
-use wheel_ledgers::{TitledAccount, account_told, find_total, place_printed};
+use wheel_ledgers::{TitledAccount, account_told, figure_on, find_total, place_printed};
 
 // How many entries at each end of a long ledger are told.
 const ENDS: usize = 100;
@@ -44,6 +45,8 @@ pub struct PageSum {
     pub positions: u32,
     /// The names of the counter groups.
     pub groups: Vec<u8>,
+    /// The figure as it was printed.
+    pub figure: Vec<u8>,
     /// Why that cycle ran.
     pub why: Vec<u8>,
 }
@@ -76,6 +79,24 @@ fn groups_of(alloc: Global, account: Account) -> Result<Vec<u8>, AllocError>
         Ok(()) => Ok(groups),
         Err(_) => Err(AllocError),
     }
+}
+
+// The figure of an account on a wheel of a line; none if the wheel isn't one of 1 to 120.
+fn figure_of(
+    alloc: Global,
+    setup: &Setup,
+    account: Account,
+    line: &[u8; LINE_WHEELS],
+    wheel: u8,
+) -> Result<Vec<u8>, AllocError>
+    requires { IsAccount account }
+    ensures { IfOk result (λ figure. figure.items ≡ figure_of setup.now account line.now wheel) }
+{
+    let mut figure = Vec::new(alloc);
+    if 1 <= wheel && wheel <= 120 {
+        figure.extend_from_slice(figure_on(setup, account, line, wheel))?;
+    }
+    Ok(figure)
 }
 
 // Why a cycle that printed a line ran.
@@ -271,6 +292,8 @@ fn sum_of(
     let total = find_total(totals, one.wanted.place);
     let KeptLedger { asked, ledger } = kept;
     let groups = groups_of(alloc, asked.account)?;
+    let wheel = one.wanted.at.wheel;
+    let figure = figure_of(alloc, setup, asked.account, &one.found.line.text, wheel)?;
     let ran = why_of(alloc, setup, cards, one.found)?;
     Ok(PageSum {
         at: one.wanted.at,
@@ -279,6 +302,7 @@ fn sum_of(
         ledger,
         positions: positions_of(asked.account),
         groups,
+        figure,
         why: ran,
     })
 }

@@ -1,155 +1,159 @@
 -- Ledgers one behind the other, and those to which they lead.
-use Rattle.std.proofs.Common.{◌≡◌, ◌∙◌, sym, ap, subst, ℕ, zero, suc, ◌+◌, ◌<◌, ◌≤◌, Bool, true, false, Some, None, is_some, if◌then◌else◌, List, [], ◌∷◌, ◌++◌, Option, take, length, get_or, arith}
-use Rattle.std.proofs.lemmas.Bool.{false≢true}
-use Rattle.std.proofs.lemmas.List.{take_all, take_more}
-use Rattle.std.proofs.lemmas.List.Elements.{All-append, All-cons, All-head, All-nil, All-tail}
+use Rattle.std.proofs.Common.{◌≡◌, ◌∙◌, sym, ap, subst, refl, ℕ, ◌+◌, ◌<◌, ◌≤◌, Bool, true, false, if◌then◌else◌, List, [], ◌∷◌, ◌++◌, append-nil, Option, take, drop, length, map, get_or, arith}
+use Rattle.std.proofs.lemmas.List.{append_assoc, drop_all, get_or-map, length-map, take_all, take_more}
+use Rattle.std.proofs.lemmas.List.Elements.{All-append, All-cons, All-head, All-nil, All-same, All-tail}
 use Rattle.std.specs.List.{All}
-use Rattle.std.specs.Prelude.{Vec, slice_get}
+use Rattle.std.specs.Prelude.{Vec}
 use Rattle.std.specs.declared.alloc.Global.{Global}
 use Rattle.explanations.specs.Explanations.{IsExplanation}
 use Rattle.explanations.specs.declared.explanation.Explanation.{Explanation}
 use Rattle.hubs.specs.declared.hub.Hub.{Hub}
-use Rattle.wheel_ledgers.specs.LedgerHoles.Down.{ledger_down}
 use Rattle.ledgers.proofs.Summaries.{length-one}
-use Rattle.ledgers.specs.Running.{IsKeptLedger, PlacesLine}
+use Rattle.ledgers.specs.Accounts.{IsAccount}
+use Rattle.ledgers.specs.Running.{IsKept, IsKeptLedger, PlacesLine, asked_of}
 use Rattle.ledgers.specs.Summaries.{Summary}
-use Rattle.ledgers.specs.declared.account.Account.{Account}
 use Rattle.ledgers.specs.declared.entry.Entry.{Entry}
 use Rattle.ledgers.specs.declared.found.FoundCycle.{FoundCycle}
+use Rattle.ledgers.specs.declared.kept.AskedLedger.{AskedLedger}
+use Rattle.ledgers.specs.declared.kept.KeptLedger.{KeptLedger}
+use Rattle.ledgers.specs.declared.read_outs.ReadOuts.{ReadOuts}
+use Rattle.net.specs.declared.cycle.Cycle.TheVariants.{RunIn}
 use Rattle.setups.specs.Wiring.{Wiring}
-use Rattle.wheel_ledgers.specs.Lower.{AreLower, AreLowerOf, IsAsked, next_entry, no_entry}
-use Rattle.wheel_ledgers.specs.Told.{account_told, words_told}
-use Rattle.wheel_ledgers.specs.Totals.{find_total}
-use Rattle.wheel_ledgers.specs.Whole.{AreDown, AreLowerTold, AreToldTo, IsToldLedger, IsWholeText, TellsNext, TellsWhole, is_among, none_told, one_told, with_lower, with_one}
+use Rattle.wheel_ledgers.specs.LedgerHoles.Down.{ledger_down}
+use Rattle.wheel_ledgers.specs.Lower.{IsAsked}
+use Rattle.wheel_ledgers.specs.Told.{words_told}
+use Rattle.wheel_ledgers.specs.Totals.{AreAccounts, find_total}
+use Rattle.wheel_ledgers.specs.Whole.{AreDown, AreTold, AreToldFrom, IsWholeText, TellsAll, TellsWhole, all_told, is_among, ledger_asked, lower_told, next_told, none_told, one_told, text_asked, with_lower, with_one}
 use Rattle.wheel_ledgers.specs.declared.chart_totals.TitledAccount.{TitledAccount}
-use Rattle.wheel_ledgers.specs.declared.lower.AskedLedger.{AskedLedger}
+use Rattle.wheel_ledgers.specs.declared.lower.AskedGroup.{AskedGroup}
+use Rattle.wheel_ledgers.proofs.Accounts.{is_account_kept}
+use Rattle.wheel_ledgers.proofs.Asked.{asked-account, first-before, last-before, told-asked}
 
--- the first entries of some lead to these ledgers
-pub record LeadTo (wiring : Wiring) (cards : List (List ℕ)) (totals : List TitledAccount) (account : Account) (entries : List Entry)
-    (place : ℕ) (lower : List AskedLedger) : Type 0 where
-  pub are : AreLower wiring cards totals account (take place entries) lower
-  pub asked : All (IsAsked wiring cards) lower
+-- no group of the panel
+abbrev nowhere : AskedGroup
+nowhere = record { place = 0; before = record { cycle = RunIn; card = 0; passed = 0 } }
 
-pub lead-none : (wiring : Wiring) (cards : List (List ℕ)) (totals : List TitledAccount) (account : Account) (entries : List Entry)
-    (lower : List AskedLedger) → lower ≡ [] → LeadTo wiring cards totals account entries 0 lower
-lead-none wiring cards totals account entries lower empty =
-    subst (λ (any : List AskedLedger). LeadTo wiring cards totals account entries 0 any) (sym empty)
-    (record { are = no_entry; asked = All-nil (IsAsked wiring cards) })
+-- the ledgers that are kept of groups that are asked for
+module _ (wiring : Wiring) (cards : List (List ℕ)) (totals : List TitledAccount) (ends count : ℕ) (asked : List AskedGroup)
+    (can : All (IsAsked wiring cards count) asked) (items slice : List KeptLedger) (lent wanted : List AskedLedger) (value : slice ≡ items)
+    (told : map asked_of items ≡ lent) (lends : lent ≡ wanted) (are : wanted ≡ map (ledger_asked totals) asked)
+    (all : All (IsKept wiring cards ends) items) (place : ℕ) (e : KeptLedger) (low : place < length asked)
+  where
+    abbrev here : Summary
+    here = (get_or slice place e).ledger
 
-pub lead-more : (wiring : Wiring) (cards : List (List ℕ)) (totals : List TitledAccount) (account : Account) (entries : List Entry)
-    (place : ℕ) (d entry : Entry) (old next new : List AskedLedger) → place < length entries → entry ≡ get_or entries place d
-    → LeadTo wiring cards totals account entries place old → AreLowerOf wiring cards totals account entry next
-    → All (IsAsked wiring cards) next → new ≡ old ++ next → LeadTo wiring cards totals account entries (place + 1) new
-lead-more wiring cards totals account entries place d entry old next new less item lead of asked put =
-    let taken : take (place + 1) entries ≡ take place entries ++ entry ∷ [] =
-    take_more entries place d less ∙ ap (λ (e : Entry). take place entries ++ e ∷ []) (sym item) in
-    subst (λ (any : List AskedLedger). LeadTo wiring cards totals account entries (place + 1) any) (sym put)
-    (record {
-      are =
-          subst (λ (some : List Entry). AreLower wiring cards totals account some (old ++ next)) (sym taken)
-          (next_entry (take place entries) entry old next lead.are of);
-      asked = All-append (IsAsked wiring cards) old next lead.asked asked;
-    })
+    -- the one at a place is that of the group there
+    pub kept-at : (d : AskedGroup)
+        → IsKeptLedger wiring cards (get_or asked place d).before.passed ends (ledger_asked totals (get_or asked place d)).account here
+    kept-at d =
+        let same : map asked_of slice ≡ map (ledger_asked totals) asked = ap (map asked_of) value ∙ told ∙ lends ∙ are in
+        let many : length slice ≡ length asked =
+        sym (length-map slice asked_of) ∙ ap length same ∙ length-map asked (ledger_asked totals) in
+        let within : place < length slice = omega (arith, many, low) in
+        let own : (get_or slice place e).asked ≡ ledger_asked totals (get_or asked place d) =
+        sym (get_or-map asked_of slice place e (ledger_asked totals d) within)
+        ∙ ap (λ (l : List AskedLedger). get_or l place (ledger_asked totals d)) same
+        ∙ get_or-map (ledger_asked totals) asked place d (ledger_asked totals d) low in
+        subst (λ (a : AskedLedger). IsKeptLedger wiring cards a.passed ends a.account here) own
+        (All-same (IsKept wiring cards ends) slice items value all place e within)
 
-pub lead-all : (wiring : Wiring) (cards : List (List ℕ)) (totals : List TitledAccount) (account : Account) (entries : List Entry)
-    (place : ℕ) (lower : List AskedLedger) → length entries ≤ place → LeadTo wiring cards totals account entries place lower
-    → AreLower wiring cards totals account entries lower
-lead-all wiring cards totals account entries place lower past lead =
-    subst (λ (some : List Entry). AreLower wiring cards totals account some lower) (take_all place entries past) lead.are
+    pub account-at : AreAccounts totals → IsAccount here.account
+    account-at accounts =
+        is_account_kept wiring cards (get_or asked place nowhere).before.passed ends (ledger_asked totals (get_or asked place nowhere)).account
+        here (kept-at nowhere)
+        (asked-account totals (get_or asked place nowhere) accounts (can place nowhere low).place)
 
--- the ledgers to which both ends of a ledger lead
-pub lower-told : (wiring : Wiring) (cards : List (List ℕ)) (totals : List TitledAccount) (account : Account) (summary : Summary)
-    (first last : List Entry) (of_first of_last lower : List AskedLedger) → first ≡ summary.first → last ≡ summary.last
-    → AreLower wiring cards totals account first of_first → AreLower wiring cards totals account last of_last
-    → lower ≡ of_first ++ of_last → AreLowerTold wiring cards totals account summary lower
-lower-told wiring cards totals account summary first last of_first of_last lower is_first is_last are_first are_last put = record {
-  of_first = of_first;
-  first = subst (λ (some : List Entry). AreLower wiring cards totals account some of_first) is_first are_first;
-  of_last = of_last;
-  last = subst (λ (some : List Entry). AreLower wiring cards totals account some of_last) is_last are_last;
-  whole = put;
-}
+    pub first-at : All (λ (entry : Entry). entry.passed < count) here.first
+    first-at =
+        first-before wiring cards (get_or asked place nowhere).before.passed count ends
+        (ledger_asked totals (get_or asked place nowhere)).account here (kept-at nowhere) (can place nowhere low).within
 
--- a ledger that is told
-pub told-ledger : (wiring : Wiring) (cards : List (List ℕ)) (totals : List TitledAccount) (ends : ℕ) (asked : AskedLedger)
-    (total : Option TitledAccount) (account : Account) (summary : Summary) (text : List ℕ) (lower : List AskedLedger)
-    → total ≡ find_total totals asked.place → account ≡ account_told total asked.place
-    → IsKeptLedger wiring cards asked.before.passed ends account summary
-    → text ≡ ledger_down wiring cards summary asked.before.cycle asked.before.card (words_told total)
-    → AreLowerTold wiring cards totals account summary lower → IsToldLedger wiring cards totals ends asked text lower
-told-ledger wiring cards totals ends asked total account summary text lower found told kept written leads =
-    let same : account ≡ account_told (find_total totals asked.place) asked.place =
-    told ∙ ap (λ (one : Option TitledAccount). account_told one asked.place) found in
-    record {
-      summary = summary;
-      is = subst (λ (any : Account). IsKeptLedger wiring cards asked.before.passed ends any summary) same kept;
-      told =
-          written
-          ∙ ap (λ (one : Option TitledAccount). ledger_down wiring cards summary asked.before.cycle asked.before.card (words_told one)) found;
-      leads = subst (λ (any : Account). AreLowerTold wiring cards totals any summary lower) same leads;
-    }
+    pub last-at : All (λ (entry : Entry). entry.passed < count) here.last
+    last-at =
+        last-before wiring cards (get_or asked place nowhere).before.passed count ends
+        (ledger_asked totals (get_or asked place nowhere)).account here (kept-at nowhere) (can place nowhere low).within
+
+-- of ledgers that are asked for the first ones are told behind a text
+pub record ToldSome (wiring : Wiring) (cards : List (List ℕ)) (totals : List TitledAccount) (read_outs : List ReadOuts) (ends : ℕ)
+    (asked : List AskedGroup) (place : ℕ) (old new : List ℕ) (lower : List AskedGroup) : Type 0 where
+  pub texts : List ℕ
+  pub told : AreTold wiring cards totals read_outs ends (take place asked) texts lower
+  pub written : new ≡ old ++ texts
+  pub can : All (IsAsked wiring cards (length read_outs)) lower
+
+module _ (wiring : Wiring) (cards : List (List ℕ)) (totals : List TitledAccount) (read_outs : List ReadOuts) (ends : ℕ) where
+  pub some-none : (asked : List AskedGroup) (old : List ℕ) (lower : List AskedGroup) → lower ≡ []
+      → ToldSome wiring cards totals read_outs ends asked 0 old old lower
+  some-none asked old lower empty =
+      subst (λ (any : List AskedGroup). ToldSome wiring cards totals read_outs ends asked 0 old old any) (sym empty) (record {
+        texts = [];
+        told = none_told;
+        written = sym (append-nil old);
+        can = All-nil (IsAsked wiring cards (length read_outs));
+      })
+
+  pub some-more : (asked : List AskedGroup) (place : ℕ) (d : AskedGroup) (summary : Summary) (total : Option TitledAccount)
+      (old mid new : List ℕ) (lower next : List AskedGroup) → place < length asked
+      → All (IsAsked wiring cards (length read_outs)) asked
+      → IsKeptLedger wiring cards (get_or asked place d).before.passed ends (ledger_asked totals (get_or asked place d)).account summary
+      → total ≡ find_total totals (get_or asked place d).place
+      → new
+      ≡ mid ++ ledger_down wiring cards summary (get_or asked place d).before.cycle (get_or asked place d).before.card (words_told total)
+      → next ≡ lower ++ lower_told wiring totals read_outs summary
+      → ToldSome wiring cards totals read_outs ends asked place old mid lower
+      → ToldSome wiring cards totals read_outs ends asked (place + 1) old new next
+  some-more asked place d summary total old mid new lower next low all kept found written led some =
+      let one = get_or asked place d in
+      let text = text_asked wiring cards totals one summary in
+      let leads = lower_told wiring totals read_outs summary in
+      subst (λ (any : List AskedGroup). ToldSome wiring cards totals read_outs ends asked (place + 1) old new any) (sym led) (record {
+        texts = some.texts ++ text;
+        told =
+            subst (λ (any : List AskedGroup). AreTold wiring cards totals read_outs ends any (some.texts ++ text) (lower ++ leads))
+            (sym (take_more asked place d low))
+            (one_told (take place asked) one some.texts text lower leads some.told (record {
+              summary = summary;
+              is = kept;
+              told = refl;
+              leads = refl;
+            }));
+        written =
+            written
+            ∙ ap (λ (t : Option TitledAccount). mid
+            ++ ledger_down wiring cards summary one.before.cycle one.before.card (words_told t)) found
+            ∙ ap (λ (l : List ℕ). l ++ text) some.written
+            ∙ append_assoc old some.texts text;
+        can =
+            All-append (IsAsked wiring cards (length read_outs)) lower leads some.can
+            (told-asked wiring cards (length read_outs) totals read_outs one.before.passed ends (ledger_asked totals one).account summary
+            kept (all place d low).within);
+      })
+
+  pub some-all : (asked : List AskedGroup) (place : ℕ) (old new : List ℕ) (lower : List AskedGroup) → length asked ≤ place
+      → ToldSome wiring cards totals read_outs ends asked place old new lower
+      → TellsAll wiring cards totals read_outs ends asked old new lower
+  some-all asked place old new lower past some = record {
+    texts = some.texts;
+    told =
+        subst (λ (any : List AskedGroup). AreTold wiring cards totals read_outs ends any some.texts lower) (take_all place asked past)
+        some.told;
+    written = some.written;
+  }
 
 -- ledgers that can be told, with some more
-all-with-one : (wiring : Wiring) (cards : List (List ℕ)) (one : AskedLedger) (asked : List AskedLedger) (among : Bool)
-    → IsAsked wiring cards one → All (IsAsked wiring cards) asked → All (IsAsked wiring cards) (if among then asked else asked ++ one ∷ [])
-all-with-one wiring cards one asked true is all = all
-all-with-one wiring cards one asked false is all =
-    All-append (IsAsked wiring cards) asked (one ∷ []) all (All-cons (IsAsked wiring cards) one [] is (All-nil (IsAsked wiring cards)))
+all-with-one : (P : AskedGroup → Type 0) (one : AskedGroup) (asked : List AskedGroup) (among : Bool) → P one → All P asked
+    → All P (if among then asked else asked ++ one ∷ [])
+all-with-one P one asked true is all = all
+all-with-one P one asked false is all = All-append P asked (one ∷ []) all (All-cons P one [] is (All-nil P))
 
-all-with : (wiring : Wiring) (cards : List (List ℕ)) (lower asked : List AskedLedger) → All (IsAsked wiring cards) lower
-    → All (IsAsked wiring cards) asked → All (IsAsked wiring cards) (with_lower lower asked)
-all-with wiring cards [] asked below all = all
-all-with wiring cards (one ∷ others) asked below all =
-    all-with wiring cards others (with_one one asked) (All-tail (IsAsked wiring cards) one others below)
-    (all-with-one wiring cards one asked (is_among asked one) (All-head (IsAsked wiring cards) one others below) all)
-
--- the one at a place
-one-in : AskedLedger → Option AskedLedger → AskedLedger
-one-in other None = other
-one-in other (Some one) = one
-
-one-same : (one other : AskedLedger) → Some one ≡ Some other → one ≡ other
-unfolding one-in
-one-same one other same = ap (one-in one) same
-
-none-is : (one : AskedLedger) → None ≡ Some one → ⊥
-none-is one same = false≢true (ap is_some same)
-
-pub in-within : (asked : List AskedLedger) (place : ℕ) (one : AskedLedger) → slice_get asked place ≡ Some one → place < length asked
-in-within [] zero one is = absurd (none-is one is)
-in-within [] (suc place) one is = absurd (none-is one is)
-in-within (other ∷ others) zero one is = omega arith
-in-within (other ∷ others) (suc place) one is = let rest = in-within others place one is in omega (arith, rest)
-
-pub in-can : (wiring : Wiring) (cards : List (List ℕ)) (asked : List AskedLedger) (place : ℕ) (one : AskedLedger)
-    → slice_get asked place ≡ Some one → All (IsAsked wiring cards) asked → IsAsked wiring cards one
-in-can wiring cards [] zero one is all = absurd (none-is one is)
-in-can wiring cards [] (suc place) one is all = absurd (none-is one is)
-in-can wiring cards (other ∷ others) zero one is all =
-    subst (IsAsked wiring cards) (one-same other one is) (All-head (IsAsked wiring cards) other others all)
-in-can wiring cards (other ∷ others) (suc place) one is all =
-    in-can wiring cards others place one is (All-tail (IsAsked wiring cards) other others all)
-
-pub in-none : (asked : List AskedLedger) (place : ℕ) → slice_get asked place ≡ None → length asked ≤ place
-in-none [] place is = omega arith
-in-none (other ∷ others) zero is = absurd (none-is other (sym is))
-in-none (other ∷ others) (suc place) is = let rest = in-none others place is in omega (arith, rest)
-
--- of the ledgers that are asked for the first ones are told
-pub record ToldTo (wiring : Wiring) (cards : List (List ℕ)) (totals : List TitledAccount) (ends : ℕ) (first asked : List AskedLedger)
-    (place : ℕ) (text : List ℕ) : Type 0 where
-  pub told : AreToldTo wiring cards totals ends first asked place text
-  pub can : All (IsAsked wiring cards) asked
-  pub within : place ≤ length asked
-
-pub told-none : (wiring : Wiring) (cards : List (List ℕ)) (totals : List TitledAccount) (ends : ℕ) (first : List AskedLedger)
-    (text : List ℕ) → text ≡ [] → All (IsAsked wiring cards) first → ToldTo wiring cards totals ends first first 0 text
-told-none wiring cards totals ends first text empty can =
-    subst (λ (any : List ℕ). ToldTo wiring cards totals ends first first 0 any) (sym empty)
-    (record { told = none_told; can = can; within = omega arith })
+all-with : (P : AskedGroup → Type 0) (lower asked : List AskedGroup) → All P lower → All P asked → All P (with_lower lower asked)
+all-with P [] asked below all = all
+all-with P (one ∷ others) asked below all =
+    all-with P others (with_one one asked) (All-tail P one others below)
+    (all-with-one P one asked (is_among asked one) (All-head P one others below) all)
 
 -- no ledger that is asked for is dropped
-with-longer : (lower asked : List AskedLedger) → length asked ≤ length (with_lower lower asked)
+with-longer : (lower asked : List AskedGroup) → length asked ≤ length (with_lower lower asked)
 with-longer [] asked = omega arith
 with-longer (one ∷ others) asked =
     let rest = with-longer others (with_one one asked) in
@@ -160,27 +164,49 @@ with-longer (one ∷ others) asked =
     by true = omega arith
     by false = let is = length-one asked one in omega (arith, is)
 
-pub told-more : (wiring : Wiring) (cards : List (List ℕ)) (totals : List TitledAccount) (ends : ℕ) (first asked new : List AskedLedger)
-    (place : ℕ) (one : AskedLedger) (old text : List ℕ) → slice_get asked place ≡ Some one
-    → ToldTo wiring cards totals ends first asked place old → TellsNext wiring cards totals ends one asked new old text
-    → ToldTo wiring cards totals ends first new (place + 1) text
-told-more wiring cards totals ends first asked new place one old text item told next =
-    subst (λ (any : List ℕ). ToldTo wiring cards totals ends first new (place + 1) any) (sym next.written)
-    (subst (λ (any : List AskedLedger). ToldTo wiring cards totals ends first any (place + 1) (old ++ next.text)) (sym next.led)
-    (record {
-      told = one_told asked place old next.text one next.lower told.told item next.told;
-      can = all-with wiring cards next.lower asked next.can told.can;
-      within =
-          let longer = with-longer next.lower asked in let less = in-within asked place one item in omega (arith, less, longer);
-    }))
+-- so many depths are told: the text of what is left, behind what is told, is that of all
+pub record DownTo (wiring : Wiring) (cards : List (List ℕ)) (totals : List TitledAccount) (read_outs : List ReadOuts) (ends : ℕ)
+    (first asked : List AskedGroup) (depth told : ℕ) (text : List ℕ) : Type 0 where
+  pub rest :
+      (answer : List ℕ) → AreToldFrom wiring cards totals read_outs ends asked told answer
+      → AreDown wiring cards totals read_outs ends first (text ++ answer)
+  pub can : All (IsAsked wiring cards (length read_outs)) asked
+  pub within : told ≤ length asked
+  pub deep : depth ≤ told
 
-pub told-all : (wiring : Wiring) (cards : List (List ℕ)) (totals : List TitledAccount) (ends : ℕ) (first asked : List AskedLedger)
-    (place : ℕ) (text : List ℕ) → place ≡ length asked → ToldTo wiring cards totals ends first asked place text
-    → AreDown wiring cards totals ends first text
-told-all wiring cards totals ends first asked place text is told = record {
-  asked = asked;
-  all = subst (λ (n : ℕ). AreToldTo wiring cards totals ends first asked n text) is told.told;
-}
+module _ (wiring : Wiring) (cards : List (List ℕ)) (totals : List TitledAccount) (read_outs : List ReadOuts) (ends : ℕ)
+    (first : List AskedGroup)
+  where
+    pub down-none : (text : List ℕ) → text ≡ [] → All (IsAsked wiring cards (length read_outs)) first
+        → DownTo wiring cards totals read_outs ends first first 0 0 text
+    down-none text empty can =
+        subst (λ (any : List ℕ). DownTo wiring cards totals read_outs ends first first 0 0 any) (sym empty)
+        (record { rest = λ answer is. is; can = can; within = omega arith; deep = omega arith })
+
+    pub down-more : (asked next : List AskedGroup) (depth told known : ℕ) (old new : List ℕ) (slice lower : List AskedGroup)
+        → DownTo wiring cards totals read_outs ends first asked depth told old → told < known → known ≡ length asked
+        → slice ≡ drop told asked → TellsAll wiring cards totals read_outs ends slice old new lower
+        → All (IsAsked wiring cards (length read_outs)) lower → next ≡ with_lower lower asked
+        → DownTo wiring cards totals read_outs ends first next (depth + 1) known new
+    down-more asked next depth told known old new slice lower down less all is tells can led =
+        subst (λ (any : List AskedGroup). DownTo wiring cards totals read_outs ends first any (depth + 1) known new) (sym led) (record {
+          rest = λ answer from.
+              subst (AreDown wiring cards totals read_outs ends first)
+              (sym (append_assoc old tells.texts answer) ∙ ap (λ (l : List ℕ). l ++ answer) (sym tells.written))
+              (down.rest (tells.texts ++ answer)
+              (next_told asked told tells.texts lower answer
+              (subst (λ (any : List AskedGroup). AreTold wiring cards totals read_outs ends any tells.texts lower) is tells.told)
+              (subst (λ (n : ℕ). AreToldFrom wiring cards totals read_outs ends (with_lower lower asked) n answer) all from)));
+          can = all-with (IsAsked wiring cards (length read_outs)) lower asked can down.can;
+          within = let longer = with-longer lower asked in omega (arith, longer, all);
+          deep = let deep = down.deep in omega (arith, deep, less);
+        })
+
+    pub down-all : (asked : List AskedGroup) (depth told : ℕ) (text : List ℕ) → length asked ≤ told
+        → DownTo wiring cards totals read_outs ends first asked depth told text → AreDown wiring cards totals read_outs ends first text
+    down-all asked depth told text all down =
+        subst (AreDown wiring cards totals read_outs ends first) (append-nil text)
+        (down.rest [] (all_told asked told (drop_all told asked all)))
 
 -- all of it, for a wheel that is explained, of the line that was found
 pub tells-whole : (wiring : Wiring) (cards : List (List ℕ)) (totals : List TitledAccount) (ends page line wheel : ℕ) (told : Explanation)

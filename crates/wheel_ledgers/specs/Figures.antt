@@ -1,13 +1,13 @@
 -- The figure of an account on a wheel of a line: the characters on the wheel and beside it, up to a blank, or to a wheel to which the number
--- of another group or a text from storage is wired.
-use Rattle.std.specs.Prelude.{ℕ, zero, suc, ◌+◌, ◌-◌, ◌&&◌, ◌||◌, Bool, false, not, List, ◌++◌, codes, drop, slice_index_or, take, if◌then◌else◌}
+-- of another group, a text from storage or a literal is wired.
+use Rattle.std.specs.Prelude.{ℕ, zero, suc, ◌+◌, ◌-◌, ◌&&◌, ◌||◌, nat_eq, Bool, false, not, List, ◌++◌, codes, drop, slice_index_or, take, if◌then◌else◌}
 use Rattle.counters.specs.Counters.{group_of_unit, width_of}
 use Rattle.hubs.specs.declared.hub.Group.{Group}
-use Rattle.hubs.specs.declared.hub.Hub.TheVariants.{GX, SX, W}
-use Rattle.ledgers.specs.LedgerText.Figures.{is_blank}
+use Rattle.hubs.specs.declared.hub.Hub.TheVariants.{EM, GX, SX, W}
+use Rattle.hubs.specs.declared.jack.Jack.TheVariants.{Link}
 use Rattle.ledgers.specs.declared.account.Account.{Account}
 use Rattle.ledgers.specs.declared.account.Account.TheVariants.{One, Coupled}
-use Rattle.setups.specs.Wiring.{Wiring, is_wired}
+use Rattle.setups.specs.Wiring.{Wiring, is_plugged, is_wired}
 
 -- a wire leads to a wheel from one of so many positions of a group
 unfoldable pub digit_to : Wiring → Group → (wheel : ℕ) → (positions : ℕ) → Bool
@@ -38,13 +38,34 @@ unfoldable pub text_to : Wiring → (wheel units : ℕ) → Bool
 text_to wiring wheel zero = false
 text_to wiring wheel (suc unit) = column_to wiring (suc unit) wheel 16 || text_to wiring wheel unit
 
--- the number of another group or a text is wired to a wheel, and the number of the account is not
-unfoldable pub is_other : Wiring → Account → (wheel : ℕ) → Bool
-is_other wiring account wheel = not (is_own wiring account wheel) && (number_to wiring wheel 32 || text_to wiring wheel 4)
+-- from one of so many rows of an emitter
+unfoldable pub row_to : Wiring → (emitter wheel rows : ℕ) → Bool
+row_to wiring emitter wheel zero = false
+row_to wiring emitter wheel (suc row) = is_wired wiring (EM emitter row) (W wheel) || row_to wiring emitter wheel row
+
+-- from one of so many emitters
+unfoldable pub emitter_to : Wiring → (wheel emitters : ℕ) → Bool
+emitter_to wiring wheel zero = false
+emitter_to wiring wheel (suc emitter) = row_to wiring (suc emitter) wheel 13 || emitter_to wiring wheel emitter
+
+-- A character of a literal stands on a wheel: an emitter is wired to it, and it is no part of an amount, neither a point nor linked to the
+-- wheel before it by zero control.
+unfoldable pub is_literal : Wiring → (wheel character : ℕ) → Bool
+is_literal wiring wheel character = emitter_to wiring wheel 8 && not (nat_eq character 46 || is_plugged wiring (Link wheel))
+
+-- the number of another group, a text or a literal is wired to a wheel, and the number of the account is not
+unfoldable pub is_other : Wiring → Account → (wheel character : ℕ) → Bool
+is_other wiring account wheel character =
+    not (is_own wiring account wheel) && (number_to wiring wheel 32 || text_to wiring wheel 4 || is_literal wiring wheel character)
+
+-- whether a character is a blank
+abbrev pub is_blank : ℕ → Bool
+is_blank character = nat_eq character 32
 
 -- the figure has no character at a place of a line: a blank, or one of another figure
 abbrev pub is_beside : Wiring → Account → List ℕ → (place : ℕ) → Bool
-is_beside wiring account text place = is_blank (slice_index_or text place 32) || is_other wiring account (place + 1)
+is_beside wiring account text place =
+    is_blank (slice_index_or text place 32) || is_other wiring account (place + 1) (slice_index_or text place 32)
 
 -- where it begins among the characters before a place
 unfoldable pub begin_of : Wiring → Account → List ℕ → ℕ → ℕ

@@ -2,10 +2,10 @@
 
 ghost use Rattle.std.specs.Prelude.{◌≡◌, ◌≤◌, ◌<◌, ◌+◌, ◌++◌, OnOk, length};
 ghost use Rattle.ledgers.specs.Accounts.{IsAccount};
-ghost use Rattle.wheel_ledgers.specs.Figures.{begin_of, column_to, digit_to, end_of, figure_on, group_to, is_beside, is_other, is_own, number_to, printed_text, text_to};
+ghost use Rattle.wheel_ledgers.specs.Figures.{begin_of, column_to, digit_to, end_of, figure_on, group_to, emitter_to, is_beside, is_literal, is_other, is_own, number_to, row_to, printed_text, text_to};
 
 use counters::group_of_unit;
-use hubs::{Group, Hub};
+use hubs::{Group, Hub, Jack};
 use ledgers::Account;
 use origins::is_wired;
 use page_text::placed_lines::LINE_WHEELS;
@@ -82,13 +82,47 @@ fn text_to(setup: &Setup, wheel: u8, units: u8) -> bool
     column_to(setup, units, wheel, 16) || text_to(setup, wheel, units - 1)
 }
 
-// Whether the number of another group or a text is wired to a wheel, and the number of the account is not.
-#[tactic(auto, unfolding(crate::specs::Figures::is_other))]
-fn is_other(setup: &Setup, account: Account, wheel: u8) -> bool
-    requires { IsAccount account }
-    ensures { result ≡ is_other setup.now account wheel }
+// Whether one leads there from one of so many rows of an emitter.
+#[tactic(auto, unfolding(crate::specs::Figures::row_to))]
+fn row_to(setup: &Setup, emitter: u8, wheel: u8, rows: u8) -> bool
+    ensures { result ≡ row_to setup.now emitter wheel rows }
 {
-    !is_own(setup, account, wheel) && (number_to(setup, wheel, 32) || text_to(setup, wheel, 4))
+    if rows == 0 {
+        return false;
+    }
+    is_wired(setup, Hub::EM(emitter, rows - 1), Hub::W(wheel))
+        || row_to(setup, emitter, wheel, rows - 1)
+}
+
+// Whether one leads there from one of so many emitters.
+#[tactic(auto, unfolding(crate::specs::Figures::emitter_to))]
+fn emitter_to(setup: &Setup, wheel: u8, emitters: u8) -> bool
+    ensures { result ≡ emitter_to setup.now wheel emitters }
+{
+    if emitters == 0 {
+        return false;
+    }
+    row_to(setup, emitters, wheel, 13) || emitter_to(setup, wheel, emitters - 1)
+}
+
+// Whether a character of a literal stands on a wheel: one from an emitter that is no part of an amount.
+#[tactic(auto, unfolding(crate::specs::Figures::is_literal))]
+fn is_literal(setup: &Setup, wheel: u8, character: u8) -> bool
+    ensures { result ≡ is_literal setup.now wheel character }
+{
+    emitter_to(setup, wheel, 8) && !(character == b'.' || setup.has_jack(Jack::Link(wheel)))
+}
+
+// Whether the number of another group, a text or a literal is wired to a wheel, and the number of the account is not.
+#[tactic(auto, unfolding(crate::specs::Figures::is_other))]
+fn is_other(setup: &Setup, account: Account, wheel: u8, character: u8) -> bool
+    requires { IsAccount account }
+    ensures { result ≡ is_other setup.now account wheel character }
+{
+    !is_own(setup, account, wheel)
+        && (number_to(setup, wheel, 32)
+            || text_to(setup, wheel, 4)
+            || is_literal(setup, wheel, character))
 }
 
 // Whether the figure has no character at a place of a line: a blank stands there, or one of another figure.
@@ -97,7 +131,7 @@ fn is_beside(setup: &Setup, account: Account, text: &[u8; LINE_WHEELS], place: u
     requires place { place < 120 }
     ensures { result ≡ is_beside setup.now account text.now place }
 {
-    text[place] == b' ' || is_other(setup, account, place as u8 + 1)
+    text[place] == b' ' || is_other(setup, account, place as u8 + 1, text[place])
 }
 
 // Where the figure begins among the characters before a place.
@@ -136,7 +170,7 @@ fn end_of(
 }
 
 /// The figure of an account on a wheel, 1 to 120, of a line that a setup of the panel printed: the characters on the wheel and beside it, up
-/// to a blank, or to a wheel to which the number of another group or a text from storage is wired.
+/// to a blank, or to a wheel to which the number of another group, a text from storage or a literal is wired.
 pub fn figure_on<'a>(
     setup: &Setup,
     account: Account,

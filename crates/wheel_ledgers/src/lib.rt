@@ -22,7 +22,7 @@ mod whole;
 
 pub use chart_totals::{TitledAccount, find_total, totals_of};
 pub use figures::figure_on;
-pub use lower::AskedLedger;
+pub use lower::AskedGroup;
 pub use printed::place_printed;
 pub use resting::tell_basis;
 pub use scope::{Scope, tell_scope};

@@ -1,27 +1,23 @@
 //! The ledgers to which the entries of another ledger lead.
 
-ghost use Rattle.std.specs.Prelude.{◌≡◌, ◌≤◌, ◌<◌, ◌++◌, All, IfOk, OnOk, length};
-ghost use Rattle.card_code.specs.MostCards.{most_cards};
+ghost use Rattle.std.specs.Prelude.{◌≡◌, ◌≤◌, ◌<◌, ◌++◌, All, OnOk, length};
+ghost use Rattle.std.specs.List.{flat_map};
 ghost use Rattle.ledgers.specs.Accounts.{IsAccount};
-ghost use Rattle.ledgers.specs.Running.{HasCycle};
-ghost use Rattle.wheel_ledgers.specs.Lower.{AreLower, AreLowerOf, IsAsked, cycle_of, has_units, is_cardless, is_lower, lower_at, lower_in, takes_lower};
+ghost use Rattle.wheel_ledgers.specs.Lower.{cycle_of, has_units, is_lower, lower_at, lower_in, lower_of, takes_lower};
 ghost use Rattle.wheel_ledgers.specs.Totals.{AreAccounts};
 
 use crate::chart_totals::{TitledAccount, find_total};
 use crate::ledger_holes::feeds;
 use crate::places::GROUPS;
 use crate::telling::account_told;
-use card_code::Card;
-use counters::Group;
-use ledgers::{Account, Change, Entry, machine_in_cycle};
-use net::Cycle;
+use ledgers::{Account, Change, Entry, ReadOuts};
 use origins::PassedCycle;
 use setups::Setup;
-use std::alloc::{AllocError, Global};
+use std::alloc::AllocError;
 
-/// A ledger that is asked for: that of a counter group, or of the total that it serves, before a cycle.
+/// A counter group whose ledger is asked for before a cycle: that of the group, or of the total that it serves.
 #[derive(Clone, Copy, Debug)]
-pub struct AskedLedger {
+pub struct AskedGroup {
     /// The place of the group.
     pub place: usize,
     /// The cycle.
@@ -42,61 +38,57 @@ fn has_units(account: Account, place: usize) -> bool
 fn is_lower(
     setup: &Setup,
     totals: &[TitledAccount],
-    groups: &[Group],
+    read_outs: &ReadOuts,
     account: Account,
     place: usize,
 ) -> bool
     requires accounts { AreAccounts totals.now }
-    requires groups { length groups.now ≡ 32 }
     requires account { IsAccount account }
     requires place { place < 32 }
-    ensures { result ≡ is_lower setup.now totals.now groups.now account place }
+    ensures { result ≡ is_lower setup.now totals.now read_outs.now.groups account place }
 {
-    feeds(setup, &groups[place], account)
+    feeds(setup, read_outs.groups[place], place, account)
         && has_units(account_told(&find_total(totals, place), place), place)
 }
 
 // Asks for its ledger if it does.
 fn add_lower(
-    lower: &mut Vec<AskedLedger>,
+    lower: &mut Vec<AskedGroup>,
     setup: &Setup,
     totals: &[TitledAccount],
-    groups: &[Group],
+    read_outs: &ReadOuts,
     account: Account,
     before: PassedCycle,
     place: usize,
 ) -> Result<(), AllocError>
     requires accounts { AreAccounts totals.now }
-    requires groups { length groups.now ≡ 32 }
     requires account { IsAccount account }
     requires place { place < 32 }
-    ensures { OnOk result (lower.new.items ≡ lower.old.items ++ lower_at setup.now totals.now groups.now account before place) }
+    ensures { OnOk result (lower.new.items ≡ lower.old.items ++ lower_at setup.now totals.now read_outs.now.groups account before place) }
 {
-    if is_lower(setup, totals, groups, account, place) {
-        lower.push(AskedLedger { place, before })?;
+    if is_lower(setup, totals, read_outs, account, place) {
+        lower.push(AskedGroup { place, before })?;
     }
     Ok(())
 }
 
-// The ledgers of all groups whose numbers come to an account, by the groups in the cycle.
-fn lower_in(
-    alloc: Global,
+// Asks for the ledgers of all groups whose numbers come to an account, by which of them are read out.
+fn add_lower_in(
+    lower: &mut Vec<AskedGroup>,
     setup: &Setup,
     totals: &[TitledAccount],
-    groups: &[Group],
+    read_outs: &ReadOuts,
     account: Account,
     before: PassedCycle,
-) -> Result<Vec<AskedLedger>, AllocError>
+) -> Result<(), AllocError>
     requires accounts { AreAccounts totals.now }
-    requires groups { length groups.now ≡ 32 }
     requires account { IsAccount account }
-    ensures { IfOk result (λ lower. lower.items ≡ lower_in setup.now totals.now groups.now account before) }
+    ensures { OnOk result (lower.new.items ≡ lower.old.items ++ lower_in setup.now totals.now read_outs.now.groups account before) }
 {
-    let mut lower = Vec::new(alloc);
     for place in 0..GROUPS {
-        add_lower(&mut lower, setup, totals, groups, account, before, place)?;
+        add_lower(lower, setup, totals, read_outs, account, before, place)?;
     }
-    Ok(lower)
+    Ok(())
 }
 
 // The cycle of an entry.
@@ -110,77 +102,53 @@ fn cycle_of(entry: &Entry) -> PassedCycle
     }
 }
 
-// Whether no card is read in a cycle.
-fn is_cardless(cycle: Cycle) -> bool
-    ensures { result ≡ is_cardless cycle }
-{
-    match cycle {
-        Cycle::Card => false,
-        Cycle::RunIn | Cycle::Prog(_, _) | Cycle::Head(_) => true,
-    }
-}
-
-// Whether a number of a group can come in by a change in a cycle.
-fn takes_lower(change: Change, cycle: Cycle) -> bool
-    ensures { result ≡ takes_lower change cycle }
+// Whether a number of a group can come in by a change.
+fn takes_lower(change: Change) -> bool
+    ensures { result ≡ takes_lower change }
 {
     match change {
-        Change::Plus | Change::Minus | Change::Apart => is_cardless(cycle),
+        Change::Plus | Change::Minus | Change::Apart => true,
         Change::Turned | Change::Carry => false,
     }
 }
 
-// The ledgers to which an entry leads.
-fn lower_of(
-    alloc: Global,
+// Asks for the ledgers to which an entry leads, by which groups are read out in each cycle.
+fn add_lower_of(
+    lower: &mut Vec<AskedGroup>,
     setup: &Setup,
     totals: &[TitledAccount],
-    cards: &[Card],
+    read_outs: &[ReadOuts],
     account: Account,
     entry: &Entry,
-) -> Result<Vec<AskedLedger>, AllocError>
-    requires few { length cards.now ≤ most_cards }
+) -> Result<(), AllocError>
     requires accounts { AreAccounts totals.now }
     requires account { IsAccount account }
-    requires has { HasCycle setup.now cards.now entry.now.passed }
-    ensures lower { IfOk result (λ lower. AreLowerOf setup.now cards.now totals.now account entry.now lower.items) }
-    ensures asked { IfOk result (λ lower. All (IsAsked setup.now cards.now) lower.items) }
+    requires within { entry.now.passed < length read_outs.now }
+    ensures { OnOk result (lower.new.items ≡ lower.old.items ++ lower_of setup.now totals.now read_outs.now account entry.now) }
 {
-    if !takes_lower(entry.change, entry.cycle) {
-        return Ok(Vec::new(alloc));
+    if takes_lower(entry.change) {
+        let here = &read_outs[entry.passed as usize];
+        add_lower_in(lower, setup, totals, here, account, cycle_of(entry))?;
     }
-    let machine = machine_in_cycle(alloc, setup, cards, entry.passed)?;
-    let lower = lower_in(
-        alloc,
-        setup,
-        totals,
-        machine.groups(),
-        account,
-        cycle_of(entry),
-    )?;
-    Ok(lower)
+    Ok(())
 }
 
-// Those to which some entries lead, in their order.
-pub(crate) fn lower_of_all(
-    alloc: Global,
+// Asks for those to which some entries lead, in their order.
+pub(crate) fn add_lower_of_all(
+    lower: &mut Vec<AskedGroup>,
     setup: &Setup,
     totals: &[TitledAccount],
-    cards: &[Card],
+    read_outs: &[ReadOuts],
     account: Account,
     entries: &[Entry],
-) -> Result<Vec<AskedLedger>, AllocError>
-    requires few { length cards.now ≤ most_cards }
+) -> Result<(), AllocError>
     requires accounts { AreAccounts totals.now }
     requires account { IsAccount account }
-    requires has { All (λ entry. HasCycle setup.now cards.now entry.passed) entries.now }
-    ensures lower { IfOk result (λ lower. AreLower setup.now cards.now totals.now account entries.now lower.items) }
-    ensures asked { IfOk result (λ lower. All (IsAsked setup.now cards.now) lower.items) }
+    requires within { All (λ entry. entry.passed < length read_outs.now) entries.now }
+    ensures { OnOk result (lower.new.items ≡ lower.old.items ++ flat_map (lower_of setup.now totals.now read_outs.now account) entries.now) }
 {
-    let mut lower = Vec::new(alloc);
     for entry in entries {
-        let next = lower_of(alloc, setup, totals, cards, account, entry)?;
-        lower.extend_from_slice(next.as_slice())?;
+        add_lower_of(lower, setup, totals, read_outs, account, entry)?;
     }
-    Ok(lower)
+    Ok(())
 }

@@ -1,21 +1,21 @@
 //! What a wheel is printed of, down to the holes.
 
-ghost use Rattle.std.specs.Prelude.{◌≡◌, ◌≤◌, ◌<◌, ◌⊎◌, ◌++◌, All, Err, IfOk, OnOk, length, slice_get};
+ghost use Rattle.std.specs.Prelude.{◌≡◌, ◌≤◌, ◌<◌, ◌⊎◌, ◌++◌, All, Err, IfOk, OnOk, length, map};
 ghost use Rattle.card_code.specs.MostCards.{most_cards};
 ghost use Rattle.explanations.specs.Explanations.{IsExplanation};
 ghost use Rattle.explanations.specs.PlacedInRun.{PrintsNoneAt};
 ghost use Rattle.explanations.specs.declared.refusal.Refusal.TheVariants.{NoSuchLine, NoSuchWheel};
-ghost use Rattle.wheel_ledgers.specs.LedgerHoles.Down.{ledger_down};
 ghost use Rattle.ledgers.specs.Accounts.{IsAccount};
-ghost use Rattle.ledgers.specs.Running.{HasCycle, PlacesLine};
+ghost use Rattle.ledgers.specs.Running.{PlacesLine};
+ghost use Rattle.wheel_ledgers.specs.LedgerHoles.Down.{ledger_down};
 ghost use Rattle.wheel_ledgers.specs.Lower.{IsAsked};
 ghost use Rattle.wheel_ledgers.specs.Told.{words_told};
-ghost use Rattle.wheel_ledgers.specs.Totals.{AreAccounts, find_total};
-ghost use Rattle.wheel_ledgers.specs.Whole.{AreDown, AreLowerTold, IsToldLedger, IsWholeText, TellsNext, TellsWhole, asked_at, asked_of, cycle_found, is_among, is_same, with_lower, with_one};
+ghost use Rattle.wheel_ledgers.specs.Totals.{AreAccounts};
+ghost use Rattle.wheel_ledgers.specs.Whole.{AreDown, IsWholeText, TellsAll, TellsWhole, asked_at, asked_of, cycle_found, is_among, is_same, ledger_asked, lower_told, with_lower, with_one};
 
 use crate::chart_totals::{TitledAccount, find_total};
 use crate::ledger_holes::write_ledger_down;
-use crate::lower::{AskedLedger, lower_of_all};
+use crate::lower::{AskedGroup, add_lower_of_all};
 use crate::places::GROUPS;
 use crate::resting::is_printed_of;
 use crate::telling::{account_told, cycle_of, title_told};
@@ -23,57 +23,54 @@ use crate::texts::put_together;
 use card_code::Card;
 use explanations::{Explanation, Refusal, explain};
 use hubs::Hub;
-use ledgers::{Account, FoundCycle, Ledger, ledger_before};
+use ledgers::{AskedLedger, FoundCycle, Ledger, ReadOuts, ledgers_before, read_outs_before};
 use origins::{PassedCycle, origins_of};
 use setups::Setup;
 use std::alloc::{AllocError, Global};
 
-// A ledger that was told, and those to which it leads.
-#[derive(Drop)]
-struct Told {
-    text: Vec<u8>,
-    lower: Vec<AskedLedger>,
-}
-
-// The ledgers to which the entries that are told of a ledger lead.
-fn lower_told(
-    alloc: Global,
-    setup: &Setup,
-    totals: &[TitledAccount],
-    cards: &[Card],
-    account: Account,
-    ledger: &Ledger,
-) -> Result<Vec<AskedLedger>, AllocError>
-    requires few { length cards.now ≤ most_cards }
-    requires accounts { AreAccounts totals.now }
-    requires account { IsAccount account }
-    requires first { All (λ entry. HasCycle setup.now cards.now entry.passed) ledger.now.first }
-    requires last { All (λ entry. HasCycle setup.now cards.now entry.passed) ledger.now.last }
-    ensures lower { IfOk result (λ lower. AreLowerTold setup.now cards.now totals.now account ledger.now lower.items) }
-    ensures asked { IfOk result (λ lower. All (IsAsked setup.now cards.now) lower.items) }
+// The ledger that is asked for of a group: that of the total that it serves, or else that of the one group.
+fn ledger_asked(totals: &[TitledAccount], asked: AskedGroup) -> AskedLedger
+    requires { AreAccounts totals.now }
+    ensures { result ≡ ledger_asked totals.now asked }
 {
-    let mut lower = lower_of_all(alloc, setup, totals, cards, account, ledger.first())?;
-    let of_last = lower_of_all(alloc, setup, totals, cards, account, ledger.last())?;
-    lower.extend_from_slice(of_last.as_slice())?;
-    Ok(lower)
+    AskedLedger {
+        account: account_told(&find_total(totals, asked.place), asked.place),
+        passed: asked.before.passed,
+    }
 }
 
-// The text of a ledger down to the holes.
-fn text_down(
+// Those that are asked for of some groups.
+fn ledgers_asked(
     alloc: Global,
+    totals: &[TitledAccount],
+    asked: &[AskedGroup],
+) -> Result<Vec<AskedLedger>, AllocError>
+    requires { AreAccounts totals.now }
+    ensures { IfOk result (λ ledgers. ledgers.items ≡ map (ledger_asked totals.now) asked.now) }
+{
+    let mut ledgers = Vec::new(alloc);
+    for one in asked {
+        ledgers.push(ledger_asked(totals, *one))?;
+    }
+    Ok(ledgers)
+}
+
+// Puts the text of a ledger, down to the holes, behind a text.
+fn write_down(
+    text: &mut Vec<u8>,
     setup: &Setup,
     cards: &[Card],
     ledger: &Ledger,
     before: PassedCycle,
     total: &Option<TitledAccount>,
-) -> Result<Vec<u8>, AllocError>
+) -> Result<(), AllocError>
     requires { IsAccount ledger.now.account }
-    ensures { IfOk result (λ text. text.items ≡ ledger_down setup.now cards.now ledger.now before.cycle before.card (words_told total.now)) }
+    ensures { OnOk result (text.new.items
+        ≡ text.old.items ++ ledger_down setup.now cards.now ledger.now before.cycle before.card (words_told total.now)) }
 {
-    let mut text = Vec::new(alloc);
     let title = title_told(total);
     match write_ledger_down(
-        &mut text,
+        text,
         setup,
         cards,
         ledger,
@@ -81,43 +78,72 @@ fn text_down(
         before.card,
         &title,
     ) {
-        Ok(()) => Ok(text),
+        Ok(()) => Ok(()),
         Err(_) => Err(AllocError),
     }
 }
 
-// A ledger that is asked for, and those to which it leads.
-fn told_ledger(
+// Asks for the ledgers to which the entries that are told of a ledger lead.
+fn add_lower_told(
+    lower: &mut Vec<AskedGroup>,
+    setup: &Setup,
+    totals: &[TitledAccount],
+    read_outs: &[ReadOuts],
+    ledger: &Ledger,
+) -> Result<(), AllocError>
+    requires accounts { AreAccounts totals.now }
+    requires account { IsAccount ledger.now.account }
+    requires first { All (λ entry. entry.passed < length read_outs.now) ledger.now.first }
+    requires last { All (λ entry. entry.passed < length read_outs.now) ledger.now.last }
+    ensures { OnOk result (lower.new.items ≡ lower.old.items ++ lower_told setup.now totals.now read_outs.now ledger.now) }
+{
+    let account = ledger.account();
+    add_lower_of_all(lower, setup, totals, read_outs, account, ledger.first())?;
+    add_lower_of_all(lower, setup, totals, read_outs, account, ledger.last())?;
+    Ok(())
+}
+
+// Puts the ledgers of groups that are asked for behind a text, and answers those to which they lead. The deck runs once.
+fn tell_all(
     alloc: Global,
+    text: &mut Vec<u8>,
     setup: &Setup,
     totals: &[TitledAccount],
     cards: &[Card],
-    asked: AskedLedger,
+    read_outs: &[ReadOuts],
+    asked: &[AskedGroup],
     ends: usize,
-) -> Result<Told, AllocError>
+) -> Result<Vec<AskedGroup>, AllocError>
     requires few { length cards.now ≤ most_cards }
     requires accounts { AreAccounts totals.now }
-    requires asked { IsAsked setup.now cards.now asked }
-    ensures told { IfOk result (λ told. IsToldLedger setup.now cards.now totals.now ends asked told.text.items told.lower.items) }
-    ensures below { IfOk result (λ told. All (IsAsked setup.now cards.now) told.lower.items) }
+    requires asked { All (IsAsked setup.now cards.now (length read_outs.now)) asked.now }
+    ensures told { IfOk result (λ lower.
+        TellsAll setup.now cards.now totals.now read_outs.now ends asked.now text.old.items text.new.items lower.items) }
+    ensures asked { IfOk result (λ lower. All (IsAsked setup.now cards.now (length read_outs.now)) lower.items) }
 {
-    let total = find_total(totals, asked.place);
-    let account = account_told(&total, asked.place);
-    let ledger = ledger_before(alloc, setup, cards, asked.before.passed, account, ends)?;
-    let text = text_down(alloc, setup, cards, &ledger, asked.before, &total)?;
-    let lower = lower_told(alloc, setup, totals, cards, account, &ledger)?;
-    Ok(Told { text, lower })
+    let wanted = ledgers_asked(alloc, totals, asked)?;
+    let kept = ledgers_before(alloc, setup, cards, wanted.as_slice(), ends)?;
+    let ledgers = kept.as_slice();
+    let mut lower = Vec::new(alloc);
+    for place in 0..asked.len() {
+        let one = asked[place];
+        let ledger = &ledgers[place].ledger;
+        let total = find_total(totals, one.place);
+        write_down(text, setup, cards, ledger, one.before, &total)?;
+        add_lower_told(&mut lower, setup, totals, read_outs, ledger)?;
+    }
+    Ok(lower)
 }
 
 // Whether two ledgers that are asked for are one: of the same group before the same cycle.
-fn is_same(one: &AskedLedger, other: AskedLedger) -> bool
+fn is_same(one: &AskedGroup, other: AskedGroup) -> bool
     ensures { result ≡ is_same one.now other }
 {
     one.place == other.place && one.before.passed == other.before.passed
 }
 
 // Whether one of some is this one.
-fn is_among(asked: &[AskedLedger], one: AskedLedger) -> bool
+fn is_among(asked: &[AskedGroup], one: AskedGroup) -> bool
     ensures { result ≡ is_among asked.now one }
 {
     for other in asked {
@@ -129,7 +155,7 @@ fn is_among(asked: &[AskedLedger], one: AskedLedger) -> bool
 }
 
 // Asks for a ledger behind others, unless it is asked for already.
-fn ask_for(asked: &mut Vec<AskedLedger>, one: AskedLedger) -> Result<(), AllocError>
+fn ask_for(asked: &mut Vec<AskedGroup>, one: AskedGroup) -> Result<(), AllocError>
     ensures { OnOk result (asked.new.items ≡ with_one one asked.old.items) }
 {
     if !is_among(asked.as_slice(), one) {
@@ -139,7 +165,7 @@ fn ask_for(asked: &mut Vec<AskedLedger>, one: AskedLedger) -> Result<(), AllocEr
 }
 
 // Asks for some.
-fn ask_for_all(asked: &mut Vec<AskedLedger>, lower: &[AskedLedger]) -> Result<(), AllocError>
+fn ask_for_all(asked: &mut Vec<AskedGroup>, lower: &[AskedGroup]) -> Result<(), AllocError>
     ensures { OnOk result (asked.new.items ≡ with_lower lower.now asked.old.items) }
 {
     for one in lower {
@@ -148,68 +174,43 @@ fn ask_for_all(asked: &mut Vec<AskedLedger>, lower: &[AskedLedger]) -> Result<()
     Ok(())
 }
 
-// The one at a place of some, if there is one.
-fn asked_in(asked: &[AskedLedger], place: usize) -> Option<AskedLedger>
-    ensures { result ≡ slice_get asked.now place }
-{
-    match asked.get(place) {
-        Some(one) => Some(*one),
-        None => None,
-    }
-}
-
-// Puts a ledger that is asked for behind a text, and asks for those to which it leads.
-fn tell_next(
-    alloc: Global,
-    setup: &Setup,
-    totals: &[TitledAccount],
-    cards: &[Card],
-    asked: &mut Vec<AskedLedger>,
-    text: &mut Vec<u8>,
-    one: AskedLedger,
-    ends: usize,
-) -> Result<(), AllocError>
-    requires few { length cards.now ≤ most_cards }
-    requires accounts { AreAccounts totals.now }
-    requires one { IsAsked setup.now cards.now one }
-    ensures { OnOk result (TellsNext setup.now cards.now totals.now ends one asked.old.items asked.new.items text.old.items text.new.items) }
-{
-    let told = told_ledger(alloc, setup, totals, cards, one, ends)?;
-    text.extend_from_slice(told.text.as_slice())?;
-    Ok(ask_for_all(asked, told.lower.as_slice())?)
-}
-
-// The ledgers that are asked for, then those to which they lead, and so on until all that are asked for are told. Each leads to cycles before
-// its own, so that there is an end.
+// The ledgers that are asked for, then those to which they lead and that weren't asked for yet, and so on. Each leads to cycles before its
+// own, so that there is an end.
 fn all_told(
     alloc: Global,
     setup: &Setup,
     totals: &[TitledAccount],
     cards: &[Card],
-    first: Vec<AskedLedger>,
+    read_outs: &[ReadOuts],
+    first: Vec<AskedGroup>,
     ends: usize,
 ) -> Result<Vec<u8>, AllocError>
     requires few { length cards.now ≤ most_cards }
     requires accounts { AreAccounts totals.now }
-    requires asked { All (IsAsked setup.now cards.now) first.items }
-    ensures { IfOk result (λ text. AreDown setup.now cards.now totals.now ends first.items text.items) }
+    requires asked { All (IsAsked setup.now cards.now (length read_outs.now)) first.items }
+    ensures { IfOk result (λ text. AreDown setup.now cards.now totals.now read_outs.now ends first.items text.items) }
 {
     let mut text = Vec::new(alloc);
     let mut asked = first;
-    for place in 0..usize::MAX {
-        let Some(one) = asked_in(asked.as_slice(), place) else {
+    let mut told = 0;
+    for _depth in 0..usize::MAX {
+        let known = asked.len();
+        if told == known {
             return Ok(text);
-        };
-        tell_next(
-            alloc, setup, totals, cards, &mut asked, &mut text, one, ends,
+        }
+        let next = &asked.as_slice()[told..];
+        let lower = tell_all(
+            alloc, &mut text, setup, totals, cards, read_outs, next, ends,
         )?;
+        ask_for_all(&mut asked, lower.as_slice())?;
+        told = known;
     }
     Ok(text)
 }
 
 // Asks for the ledger of a place before a cycle, if a way begins at an exit of its group.
 fn add_asked(
-    asked: &mut Vec<AskedLedger>,
+    asked: &mut Vec<AskedGroup>,
     ways: &[Option<Vec<Hub>>],
     before: PassedCycle,
     place: usize,
@@ -217,7 +218,7 @@ fn add_asked(
     ensures { OnOk result (asked.new.items ≡ asked.old.items ++ asked_at ways.now before place) }
 {
     if is_printed_of(ways, place) {
-        asked.push(AskedLedger { place, before })?;
+        asked.push(AskedGroup { place, before })?;
     }
     Ok(())
 }
@@ -227,7 +228,7 @@ fn asked_of(
     alloc: Global,
     ways: &[Option<Vec<Hub>>],
     before: PassedCycle,
-) -> Result<Vec<AskedLedger>, AllocError>
+) -> Result<Vec<AskedGroup>, AllocError>
     ensures { IfOk result (λ asked. asked.items ≡ asked_of ways.now before) }
 {
     let mut asked = Vec::new(alloc);
@@ -265,7 +266,9 @@ fn whole_text(
     ensures { IfOk result (λ text. IsWholeText setup.now cards.now totals.now ends found ways.now text.items) }
 {
     let asked = asked_of(alloc, ways, cycle_found(found))?;
-    let ledgers = all_told(alloc, setup, totals, cards, asked, ends)?;
+    let read_outs = read_outs_before(alloc, setup, cards, found.passed)?;
+    let read_outs = read_outs.as_slice();
+    let ledgers = all_told(alloc, setup, totals, cards, read_outs, asked, ends)?;
     let origins = origins_of(alloc, setup, cards, found, ways)?;
     let text = put_together(alloc, ledgers.as_slice(), origins.as_slice())?;
     Ok(text)

@@ -1,6 +1,6 @@
 -- From which counter groups the number of an account can come in a cycle.
-use Rattle.std.specs.Prelude.{ℕ, zero, suc, ◌&&◌, ◌||◌, Bool, false}
-use Rattle.counters.specs.Counters.{Counter}
+use Rattle.std.specs.Prelude.{ℕ, zero, suc, ◌+◌, ◌&&◌, ◌||◌, Bool, false}
+use Rattle.counters.specs.Counters.{group_of_unit}
 use Rattle.hubs.specs.declared.hub.Group.{Group}
 use Rattle.hubs.specs.declared.hub.Hub.TheVariants.{GX}
 use Rattle.ledgers.specs.Accounts.{positions_of}
@@ -24,6 +24,7 @@ leads_to wiring group account zero = false
 leads_to wiring group account (suc position) =
     leads_from wiring group group.width account (suc position) || leads_to wiring group account position
 
--- The number of a group comes to an account: it is read out, and a wire leads from one of its exits to an entry of the account.
-abbrev pub feeds : Wiring → Counter → Account → Bool
-feeds wiring group account = group.controls.read_out && leads_to wiring group.name account (positions_of account)
+-- The number of the group of a place comes to an account: the group is read out, and a wire leads from one of its exits to an entry of the
+-- account.
+abbrev pub feeds : Wiring → (read_out : Bool) → (place : ℕ) → Account → Bool
+feeds wiring read_out place account = read_out && leads_to wiring (group_of_unit (3 + place)) account (positions_of account)

@@ -1,10 +1,10 @@
 //! From which counter groups the number of an account can come in a cycle.
 
-ghost use Rattle.std.specs.Prelude.{◌≡◌, ◌≤◌};
+ghost use Rattle.std.specs.Prelude.{◌≡◌, ◌≤◌, ◌<◌};
 ghost use Rattle.ledgers.specs.Accounts.{IsAccount};
 ghost use Rattle.wheel_ledgers.specs.LedgerHoles.Feeding.{feeds, leads, leads_from, leads_to};
 
-use crate::ledger_holes::positions::{entry_at, position_in};
+use crate::ledger_holes::positions::{entry_at, group_at, position_in};
 use hubs::Hub;
 use ledgers::Account;
 use ledgers::ledger_text::positions_of;
@@ -47,12 +47,13 @@ fn leads_to(setup: &Setup, group: hubs::Group, account: Account, positions: u8) 
         || leads_to(setup, group, account, positions - 1)
 }
 
-/// Whether the number of a group comes to an account in the cycle that runs: it is read out, and a wire leads from one of its exits to an
-/// entry of the account.
-pub fn feeds(setup: &Setup, group: &counters::Group, account: Account) -> bool
-    requires { IsAccount account }
-    ensures { result ≡ feeds setup.now group.now account }
+/// Whether the number of the group of a place comes to an account in a cycle: the group is read out in it, and a wire leads from one of its
+/// exits to an entry of the account.
+pub fn feeds(setup: &Setup, read_out: bool, place: usize, account: Account) -> bool
+    requires place { place < 32 }
+    requires account { IsAccount account }
+    ensures { result ≡ feeds setup.now read_out place account }
 {
     let positions = positions_of(account) as u8;
-    group.controls().read_out && leads_to(setup, group.name(), account, positions)
+    read_out && leads_to(setup, group_at(place), account, positions)
 }

@@ -21,7 +21,7 @@ pub struct Position {
 }
 
 // The group of a place; unit 3 has place 0.
-fn group_at(place: usize) -> Group
+pub(crate) fn group_at(place: usize) -> Group
     requires { place < 32 }
     ensures { result ≡ group_of_unit (3 + place) }
 {

@@ -1,26 +1,19 @@
 use Rattle.std.proofs.Common.{ap, ◌∙◌}
 use Rattle.page_text.specs.Pages.{Pages}
 use Rattle.misfits.specs.Below.report.Report.{report_lines}
-use Rattle.compile407.proofs.Headline.{compiled_lines, compiled_deck}
+use Rattle.compile407.proofs.Headline.{compiled_lines}
 use Rattle.compile407.proofs.running.run.Goals as goal
 
 pub returns-clause-report : goal.returns-clause-report
 returns-clause-report c =
-    let deck = compiled_deck c.args.compiled.now c.chart.result.now c.args.cards.now c.chart.ensures.value
-    c.if-cards-gt-MOST_CARDS.false c.in_ok-check_cards.ensures.valid in
+    let served = c.in_ok-check_run.ensures.served in
     let lines = compiled_lines c.args.compiled.now c.setup.result.now c.args.cards.now c.in_ok-lines.lines.items
-    c.chart.ensures.compiled c.setup.ensures.value deck c.in_ok-check_totals.ensures.fits c.in_ok-lines.ensures.lines in
+    c.setup.ensures.compiled c.setup.ensures.value served.deck served.fits c.in_ok-lines.ensures.lines in
     let long = c.from.ensures ∙ c.lines-long.ensures.value
     ∙ ap (λ t. t.lines) (c.tape.ensures.value ∙ ap (λ s. s.tape) c.setup-2.ensures.value)
-    ∙ c.chart.ensures.compiled.wired.tape.form_lines in
+    ∙ c.setup.ensures.compiled.wired.tape.form_lines in
     c.in_ok-bytes.ensures ∙ ap (λ l. Pages l c.from.result) (c.deref.ensures.value ∙ lines)
     ∙ ap (Pages (report_lines c.args.compiled.now.chart c.args.cards.now)) long
 
 pub returns-clause-served : goal.returns-clause-served
-returns-clause-served c =
-    record {
-      deck = compiled_deck c.args.compiled.now c.chart.result.now c.args.cards.now c.chart.ensures.value
-          c.if-cards-gt-MOST_CARDS.false
-          c.in_ok-check_cards.ensures.valid;
-      fits = c.in_ok-check_totals.ensures.fits;
-    }
+returns-clause-served c = c.in_ok-check_run.ensures.served

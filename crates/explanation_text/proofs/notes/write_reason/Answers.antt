@@ -27,9 +27,3 @@ returns-in-CSZ c =
     subst
     (λ (exit : Hub). OnOk c.push_between-in-CSZ.result (string_bytes c.push_between-in-CSZ.new.text ≡ string_bytes c.args.text.now ++ reason_words exit))
     (sym c.in-CSZ.is) c.push_between-in-CSZ.ensures
-
-pub returns-in-CO : goal.returns-in-CO
-returns-in-CO c =
-    subst
-    (λ (exit : Hub). OnOk c.write_of_group-in-CO.result (string_bytes c.write_of_group-in-CO.new.text ≡ string_bytes c.args.text.now ++ reason_words exit))
-    (sym c.in-CO.is) c.write_of_group-in-CO.ensures

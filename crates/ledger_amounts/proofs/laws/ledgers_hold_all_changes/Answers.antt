@@ -1,4 +1,4 @@
-use Rattle.ledger_amounts.proofs.Changes.{ledgers-hold, ledgers-hold-no-others}
+use Rattle.ledger_amounts.proofs.Changes.{ledgers-hold, ledgers-hold-no-others, ledgers-rise}
 use Rattle.ledger_amounts.proofs.laws.ledgers_hold_all_changes.Goals as goal
 
 pub returns-clause-all : goal.returns-clause-all
@@ -6,3 +6,6 @@ returns-clause-all c = ledgers-hold
 
 pub returns-clause-others : goal.returns-clause-others
 returns-clause-others c = ledgers-hold-no-others
+
+pub returns-clause-once : goal.returns-clause-once
+returns-clause-once c = ledgers-rise

@@ -1,7 +1,11 @@
-use Rattle.std.proofs.Common.{◌∙◌, ap, set, None}
+use Rattle.std.proofs.Common.{◌∙◌, ap, not, set, None}
 use Rattle.ledgers.specs.SoughtLines.{noted}
 use Rattle.ledgers.proofs.Loops.{over-more}
+use Rattle.ledgers.proofs.SoughtLines.{none-noted, nothing-placed}
 use Rattle.ledgers.proofs.found.note_all.Goals as goal
+
+pub returns-then-is_none : goal.returns-then-is_none
+returns-then-is_none c = none-noted c.args.one.now c.args.sought.now (nothing-placed c.args.one.now.placed (c.is_none.ensures ∙ ap not c.if-is_none.true))
 
 pub loop-line-preserved : goal.loop-line-preserved
 loop-line-preserved c =

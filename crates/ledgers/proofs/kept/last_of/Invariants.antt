@@ -1,7 +1,10 @@
-use Rattle.std.specs.Prelude.{◌≤◌, All, take}
+use Rattle.std.specs.Prelude.{◌≤◌, ℕ, All, take}
 use Rattle.ledgers.specs.declared.kept.AskedLedger.{AskedLedger}
 use Rattle.ledgers.proofs.kept.last_of.Given as goal
 
--- those so far
+-- as high as those so far, and no higher than all
 abbrev pub invariant-loop-one : goal.invariant-loop-one
-invariant-loop-one l = All (λ (one : AskedLedger). one.passed ≤ l.last) (take l.one-index l.asked)
+invariant-loop-one l = record {
+  high : All (λ (one : AskedLedger). one.passed ≤ l.last) (take l.one-index l.asked);
+  least : (bound : ℕ) → All (λ (one : AskedLedger). one.passed ≤ bound) l.asked → l.last ≤ bound;
+}

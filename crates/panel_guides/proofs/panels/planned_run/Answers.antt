@@ -20,17 +20,17 @@ returns-in_err-cards-clause-refused c =
     (record { read = c.in_ok-compiled.ensures.read; wired = c.in_ok-compiled.ensures.compiled })
     (deck_refused c.args.deck.now c.in_err-cards.field-0.0 exit.0 c.in_err-cards.ensures.fault exit.2 not_memory))
 
-pub returns-in_err-run-clause-refused : goal.returns-in_err-run-clause-refused
-returns-in_err-run-clause-refused c =
-    let exit = err_from_is_err_and c.from_residual-in_err-run.result c.from_residual-in_err-run.ensures.1 in
+pub returns-in_err-check_run-clause-refused : goal.returns-in_err-check_run-clause-refused
+returns-in_err-check_run-clause-refused c =
+    let exit = err_from_is_err_and c.from_residual-in_err-check_run.result c.from_residual-in_err-check_run.ensures.1 in
     rw exit.1 (λ not_memory.
-    cards_refused c.args.chart.now c.args.deck.now c.in_ok-compiled.compiled c.as_slice.result.now c.in_err-run.field-0.0 exit.0
+    cards_refused c.args.chart.now c.args.deck.now c.in_ok-compiled.compiled c.as_slice.result.now c.in_err-check_run.field-0.0 exit.0
     (record { read = c.in_ok-compiled.ensures.read; wired = c.in_ok-compiled.ensures.compiled })
-    (subst (Deck c.args.deck.now) (sym c.as_slice.ensures.value) c.in_ok-cards.ensures.deck) c.in_err-run.ensures.refused exit.2 not_memory)
+    (subst (Deck c.args.deck.now) (sym c.as_slice.ensures.value) c.in_ok-cards.ensures.deck) (λ _. c.in_err-check_run.ensures.refused) exit.2 not_memory)
 
 pub returns-clause-compiles : goal.returns-clause-compiles
 returns-clause-compiles c = record { read = c.in_ok-compiled.ensures.read; wired = c.in_ok-compiled.ensures.compiled }
 
 pub returns-clause-runnable : goal.returns-clause-runnable
 returns-clause-runnable c =
-    subst (IsRunnable c.in_ok-compiled.compiled.chart) c.as_slice.ensures.value c.in_ok-run.ensures.served
+    subst (IsRunnable c.in_ok-compiled.compiled.chart) c.as_slice.ensures.value c.in_ok-check_run.ensures.served

@@ -1,31 +1,36 @@
-use Rattle.std.proofs.Common.{◌∙◌, sym, ap, arith, List}
-use Rattle.std.specs.Prelude.{slice_get}
-use Rattle.wheel_ledgers.specs.declared.lower.AskedLedger.{AskedLedger}
-use Rattle.wheel_ledgers.proofs.Down.{in-can, in-none, told-all, told-more, told-none}
+use Rattle.std.proofs.Common.{◌∙◌, ◌-◌, ap, arith, drop, length, take, List}
+use Rattle.std.proofs.lemmas.List.{length-drop, take_all}
+use Rattle.wheel_ledgers.specs.Whole.{with_lower}
+use Rattle.wheel_ledgers.specs.declared.lower.AskedGroup.{AskedGroup}
+use Rattle.wheel_ledgers.proofs.Down.{down-all, down-more, down-none}
 use Rattle.wheel_ledgers.proofs.whole.all_told.Goals as goal
 
-pub loop-place-init : goal.loop-place-init
-loop-place-init c =
-    told-none c.args.setup.now c.args.cards.now c.args.totals.now c.args.ends c.args.first.items c.new-text.result.items c.new-text.ensures.items
-    c.requires.asked
+pub loop-depth-init : goal.loop-depth-init
+loop-depth-init c =
+    down-none c.args.setup.now c.args.cards.now c.args.totals.now c.args.read_outs.now c.args.ends c.args.first.items c.new-text.result.items
+    c.new-text.ensures.items c.requires.asked
 
-pub returns-in_default : goal.returns-in_default
-returns-in_default c =
-    let none = in-none c.loop-place.asked.items c.loop-place.place
-    (sym (c.asked_in.ensures ∙ ap (λ (l : List AskedLedger). slice_get l c.loop-place.place) c.as_slice.ensures.value) ∙ c.in_default.is) in
-    let within = c.loop-place.invariant.within in
-    told-all c.args.setup.now c.args.cards.now c.args.totals.now c.args.ends c.args.first.items c.loop-place.asked.items c.loop-place.place
-    c.loop-place.text.items (omega (arith, none, within)) c.loop-place.invariant
+pub returns-then-told-known : goal.returns-then-told-known
+returns-then-told-known c =
+    let known = c.len-known.ensures in
+    let same = c.if-told-known.true in
+    down-all c.args.setup.now c.args.cards.now c.args.totals.now c.args.read_outs.now c.args.ends c.args.first.items c.loop-depth.asked.items
+    c.loop-depth._depth c.loop-depth.told c.loop-depth.text.items (omega (arith, known, same)) c.loop-depth.invariant
 
-pub tell_next-requires-clause-one : goal.tell_next-requires-clause-one
-tell_next-requires-clause-one c =
-    in-can c.args.setup.now c.args.cards.now c.loop-place.asked.items c.loop-place.place c.in-Some.one
-    (sym (c.asked_in.ensures ∙ ap (λ (l : List AskedLedger). slice_get l c.loop-place.place) c.as_slice.ensures.value) ∙ c.in-Some.is)
-    c.loop-place.invariant.can
-
-pub loop-place-preserved : goal.loop-place-preserved
-loop-place-preserved c =
-    told-more c.args.setup.now c.args.cards.now c.args.totals.now c.args.ends c.args.first.items c.loop-place.asked.items
-    c.tell_next.new.asked.items c.loop-place.place c.in-Some.one c.loop-place.text.items c.tell_next.new.text.items
-    (sym (c.asked_in.ensures ∙ ap (λ (l : List AskedLedger). slice_get l c.loop-place.place) c.as_slice.ensures.value) ∙ c.in-Some.is)
-    c.loop-place.invariant c.in_ok-tell_next.ensures
+pub loop-depth-preserved : goal.loop-depth-preserved
+loop-depth-preserved c =
+    let known = c.len-known.ensures in
+    let within = c.loop-depth.invariant.within in
+    let other = c.if-told-known.false in
+    let long = length-drop c.loop-depth.told c.as_slice.result.now in
+    down-more c.args.setup.now c.args.cards.now c.args.totals.now c.args.read_outs.now c.args.ends c.args.first.items c.loop-depth.asked.items
+    c.ask_for_all.new.asked.items c.loop-depth._depth c.loop-depth.told c.len-known.result c.loop-depth.text.items
+    c.tell_all.new.text.items
+    (take (length c.as_slice.result.now - c.loop-depth.told) (drop c.loop-depth.told c.as_slice.result.now)) c.in_ok-lower.lower.items c.loop-depth.invariant
+    (omega (arith, known, within, other)) (omega (arith, known))
+    (take_all (length c.as_slice.result.now - c.loop-depth.told) (drop c.loop-depth.told c.as_slice.result.now) (omega (arith, long))
+    ∙ ap (drop c.loop-depth.told) c.as_slice.ensures.value)
+    c.in_ok-lower.ensures.told
+    c.in_ok-lower.ensures.asked
+    (c.in_ok-ask_for_all.ensures
+    ∙ ap (λ (l : List AskedGroup). with_lower l c.loop-depth.asked.items) c.as_slice-in-loop-depth.ensures.value)

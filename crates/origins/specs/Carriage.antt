@@ -1,0 +1,24 @@
+-- What is told of spacing, of a skip and of a new page is what the carriage is asked for.
+use Rattle.std.specs.Prelude.{◌≡◌, Bool, true, Some, IfSome}
+use Rattle.hubs.specs.declared.hub.Hub.{Hub}
+use Rattle.hubs.specs.declared.hub.Hub.TheVariants.{RS}
+use Rattle.machine.specs.Below.carriage.Asked.{asked_by}
+use Rattle.machine.specs.Below.carriage.declared.asked.Asked.{Asked}
+use Rattle.machine.specs.Machine.{MachineState, closes, emits}
+use Rattle.net.specs.Impulsed.{IsPicture}
+use Rattle.net.specs.declared.cycle.Cycle.{Cycle}
+use Rattle.net.specs.declared.cycle.Point.TheVariants.{C}
+use Rattle.setups.specs.Wiring.{LeadsToEntries, Wiring}
+use Rattle.origins.specs.Asks.{asks, channel_of, spacing_of}
+
+-- What wires tell of a cycle is what was asked for in it.
+pub record IsAskedAsTold (wiring : Wiring) (cycle : Cycle) (asked : Asked) : Type 0 where
+  pub lines : IfSome (spacing_of wiring cycle) (λ lines. asked.lines ≡ lines)
+  pub channel : IfSome (channel_of wiring cycle) (λ channel. asked.channel ≡ Some channel)
+  pub restore : asks wiring cycle RS ≡ true → asked.restore ≡ true
+
+-- So it is on every panel, whatever the machine holds, by the picture of the control point.
+abbrev pub CarriageIsAskedAsTold : Type 0
+CarriageIsAskedAsTold =
+    (wiring : Wiring) (machine : MachineState) (cycle : Cycle) (picture : Hub → Bool) → LeadsToEntries wiring
+    → IsPicture wiring (emits machine cycle C) (closes machine cycle C) picture → IsAskedAsTold wiring cycle (asked_by picture)
