@@ -6,7 +6,7 @@ use std::alloc::{AllocError, Global};
 
 /// What stands behind the commands of the program's help.
 const AFTER_HELP: &str =
-    "Status: 0 done, 2 words that can't be obeyed, 3 a text that is refused, a page, line or wheel that isn't there, or a panel that isn't wired for its chart, 4 a file that can't be read or an output that can't be written, 5 no memory. Why is told on one line of standard error. A file that is read may be -, standard input; one of them at most.\n\nDocuments, in the folder docs: CHART.md the planning chart, DECKS.md decks, REPORT.md what a report is, GALLERY.md whole charts with their pages, WIRING.md wiring charts, MACHINE.md the machine, EXPLAIN.md explanations, SHOW.md the page for a browser, FAULTS.md every fault.";
+    "Status: 0 done, 2 words that can't be obeyed, 3 a refused text, a card, page, line or wheel that isn't there, or a panel that isn't wired for its chart, 4 a file that can't be read or an output that can't be written, 5 no memory. Why is told on one line of standard error. A file that is read may be -, standard input; one of them at most.\n\nDocuments, in the folder docs: CHART.md the planning chart, DECKS.md decks, REPORT.md what a report is, GALLERY.md whole charts with their pages, WIRING.md wiring charts, MACHINE.md the machine, EXPLAIN.md explanations, SHOW.md the page for a browser, FAULTS.md every fault.";
 
 /// How large a number may be: as large as the type has it.
 #[derive(Clone, Copy)]
@@ -126,7 +126,7 @@ const ORDERS: Word = Word::Option {
     name: "ORDERS",
     long: "orders",
     value: "FILE",
-    help: "a file with the orders in which the units run; tells how many rounds and hubs there were",
+    help: "a file with the orders in which the units run; also tells how many rounds it took",
 };
 
 const DECK_ON_BOTH: Word = Word::Option {
@@ -139,7 +139,7 @@ const DECK_ON_BOTH: Word = Word::Option {
 const HINT: Word = Word::Flag {
     name: "HINT",
     long: "hint",
-    help: "tells only lines of both charts and counts, and no wire",
+    help: "tells lines, counts and too narrow groups, and no wire",
 };
 
 const OUTPUT: Word = Word::Value {
@@ -279,7 +279,7 @@ pub(crate) static COMMANDS: &[CommandRow] = &[
     },
     CommandRow {
         name: "match",
-        about: "Tells whether a panel is wired for a planning chart, and so prints its report of every deck",
+        about: "Tells if a panel is wired for a planning chart, so that it prints the chart's reports",
         words: &[HINT, DECK_ON_BOTH, CHART, WIRING],
     },
     CommandRow {
@@ -304,7 +304,7 @@ pub(crate) static COMMANDS: &[CommandRow] = &[
     },
     CommandRow {
         name: "show",
-        about: "Prints one page for a browser: the pages of a deck, its cards and sums, the panel and one way of each impulse",
+        about: "Prints one page for a browser: the report, its cards and sums, the panel, and how each character came",
         words: &[AROUND, OUTPUT, TEXT, DECK],
     },
     CommandRow {

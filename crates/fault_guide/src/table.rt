@@ -30,7 +30,7 @@ static DECK_TEXTS: [Words; 4] = [
     Words {
         name: "CardTooLong",
         cause: "line K of the deck has more than 80 bytes; an accented letter, or a mark in front of the file (byte order mark), counts as two or three",
-        cure: "a card has 80 columns: shorten the line, also where the rest of it is blank, or look for a missing line end",
+        cure: "a card has 80 columns: shorten the line, even if its rest is blank, or look for a missing line end",
         example: "a line of 81 letters",
     },
     Words {
@@ -109,7 +109,7 @@ static FIELD_RULES: [Words; 6] = [
     },
     Words {
         name: "WrongKind",
-        cause: "CONTROL, INDICATE or TOTAL without digits of an amount, or MARK or TOTAL with digits of a text",
+        cause: "an amount in CONTROL, INDICATE or a TOTAL without digits, or a text with MARK or total digits",
         cure: "a total needs its digits; only amounts have marks",
         example: "FIELD A TEXT 1 2; DETAIL 1 A MARK CR",
     },
@@ -171,7 +171,7 @@ static WHEEL_RULES: [Words; 3] = [
     },
     Words {
         name: "WheelClash",
-        cause: "an item meets an earlier item of another body line, one of the two an amount, and they are not two amounts with the same last wheel, decimals and mark",
+        cause: "an item meets an earlier item of another body line. Only two texts or literals may, or two amounts with the same last wheel, decimals and mark",
         cure: "the later of the two is told, and the earlier may be the one to move. Zero control belongs to the wheels: let amounts end on the same wheel, or keep texts off their wheels",
         example: "DETAIL 40 NAME; TOTAL 4 42 AMT 8",
     },
@@ -199,7 +199,7 @@ static FORM_RULES: [Words; 4] = [
     },
     Words {
         name: "CoupledMark",
-        cause: "in version 2, a total with the word COUPLED that needs 8 positions or fewer, or without it that needs more; it needs one for each digit, and one more if its amount has a sign column. In version 1 no line breaks this rule",
+        cause: "in version 2, a total of up to 8 positions with the word COUPLED, or of more without it. It needs a position for each digit, and one more with a sign column",
         cure: "write the word where two counter groups are meant, or change the digits",
         example: "TOTAL 4 1 A 8 COUPLED or TOTAL 4 1 A 9",
     },
@@ -221,7 +221,7 @@ static CARDS: [Words; 3] = [
     },
     Words {
         name: "DoesNotFit",
-        cause: "the total of amount N for the group of level L that ends with card K has more digits than its TOTAL line says. Of several the first is told: by the last card of its group, then by the lower level, then by the line of the chart",
+        cause: "the total of amount N for the group of level L that ends with card K has more digits than its TOTAL line says. Of several, that of the earliest card is told, then that of the lower level, then that of the earlier line",
         cure: "give the total more digits (16 at most, 15 with a sign column), or divide the group; what the sum was on the way doesn't count; check --all tells how large the total is",
         example: "FIELD A AMOUNT 1 1 0; TOTAL 4 1 A 1 over two cards of 5",
     },
@@ -354,7 +354,7 @@ static EXPLANATIONS: [Words; 2] = [
     Words {
         name: "NoSuchLine",
         cause: "no cycle of the run prints line L of page P",
-        cure: "look at the pages: both are counted from 1, and the blank lines of the form between printed ones count too, but none of them can be explained",
+        cure: "look at the pages: the report may end before page P; both are counted from 1, and the blank lines of the form between printed ones count too, but none of them can be explained",
         example: "run407 explain my.chart my.deck 1 66 1 where the report ends above line 66",
     },
     Words {
@@ -369,14 +369,14 @@ static EXPLANATIONS: [Words; 2] = [
 static MATCHES: [Words; 2] = [
     Words {
         name: "Unwired",
-        cause: "no plan is found by which the panel is wired for the chart: by the plan that is printed, A wires, jacks and stops are missing and B are extra; another form counts as one missing and one extra",
+        cause: "no plan is found by which the panel is wired for the chart: by the plan read off it, A wires, jacks and stops are missing and B are extra; another form counts as one missing and one extra",
         cure: "wire what stands under missing, and take out what stands under extra. If all wires of a total seem wrong, look at its counter groups: one is too narrow, and match says so, as line 8: group 3.1 is too narrow: 4 positions are needed; or of two coupled ones the one with the higher number has the lower digits. If all wires of another part seem wrong, look whether its first wires name a part that serves something else too",
         example: "run407 match my.chart my.wiring where the wiring chart lacks a wire",
     },
     Words {
         name: "PrintsOtherwise",
         cause: "besides, the panel prints the deck otherwise than one that is wired for the chart; line L of page P is the first that differs",
-        cure: "besides what is said of 94, look at the two explanations that are printed last, of the first wheel that differs on that line: where they part, there is the wire that is missing or extra",
+        cure: "besides what is said of 94, look at the two explanations that are printed last, of the first wheel that differs on that line. If both name a counter, compare its ledgers",
         example: "run407 match --deck my.deck my.chart my.wiring where the wiring chart lacks a wire that the deck needs",
     },
 ];

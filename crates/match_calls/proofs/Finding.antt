@@ -10,9 +10,10 @@ use Rattle.match_calls.specs.MatchTexts.Progress.{IsToldText}
 use Rattle.match_calls.specs.declared.match_texts.counts.Counts.{Counts}
 use Rattle.match_calls.specs.declared.match_texts.telling.Telling.{Telling}
 use Rattle.match_calls.specs.declared.match_texts.telling.Telling.TheVariants as telling
-use Rattle.matching.specs.Answers.{IsMatched, IsMatchingOf}
+use Rattle.matching.specs.Answers.{IsMatched, IsMatchingOf, plan_told}
 use Rattle.matching.specs.declared.answer.Matching.{Matching}
 use Rattle.matching.specs.declared.answer.Matching.TheVariants.{Differs, Matched}
+use Rattle.panel_plans.specs.NamingWires.{ShowsPartsOf}
 use Rattle.panel_plans.specs.Wired.{IsWiredBy}
 use Rattle.plans.specs.Plans.{Lists}
 use Rattle.streamed_runs.specs.PrintPromises.Promises.{BeginsReport, PrintsReport}
@@ -29,20 +30,23 @@ told_wired telling.Hints wiring version lines setup plan text told = told
 pub found_text : (telling : Telling) (wiring : List ℕ) (version : Version) (compiled : Compilation) (setup : Wiring) (matching : Matching) (counts : Option Counts) (text : List ℕ)
     → IsMatchingOf compiled.chart.lines setup matching
     → ((its : Lists) → IsWiredBy compiled.chart.lines setup its → IsMatched matching)
+    → ((other : Wiring) (its : Lists) → ShowsPartsOf compiled.chart.lines setup other its
+    → IsWiredBy compiled.chart.lines other (plan_told matching))
     → (IsMatched matching → PrintsReport compiled.chart setup) → (IsMatched matching → BeginsReport compiled.chart setup)
     → TellsCounts matching counts → IsToldText telling wiring version compiled.chart.lines setup matching text
     → IsFoundText telling wiring version compiled setup counts text
-found_text telling wiring version compiled setup (Matched plan) None text told found prints begins counted spelled =
+found_text telling wiring version compiled setup (Matched plan) None text told found shown prints begins counted spelled =
     record { plan = plan; wired = told; prints = prints tt; begins = begins tt; spelled = told_wired telling wiring version compiled.chart.lines setup plan text spelled }
-found_text telling wiring version compiled setup (Matched plan) (Some counts) text told found prints begins counted spelled = absurd counted
-found_text telling wiring version compiled setup (Differs plan missing extra) None text told found prints begins counted spelled = absurd counted
-found_text telling wiring version compiled setup (Differs plan missing extra) (Some counts) text told found prints begins counted spelled =
+found_text telling wiring version compiled setup (Matched plan) (Some counts) text told found shown prints begins counted spelled = absurd counted
+found_text telling wiring version compiled setup (Differs plan missing extra) None text told found shown prints begins counted spelled = absurd counted
+found_text telling wiring version compiled setup (Differs plan missing extra) (Some counts) text told found shown prints begins counted spelled =
     record {
       unwired = found;
       plan = plan;
       missing = missing;
       extra = extra;
       differs = told;
+      shown = shown;
       counted = counted;
       tells = spelled;
     }

@@ -10,6 +10,7 @@ use Rattle.match_calls.specs.declared.match_texts.counts.Counts.{Counts}
 use Rattle.match_calls.specs.declared.match_texts.telling.Telling.{Telling}
 use Rattle.matching.specs.Answers.{DiffersBy}
 use Rattle.matching.specs.declared.answer.Matching.TheVariants.{Differs}
+use Rattle.panel_plans.specs.NamingWires.{ShowsPartsOf}
 use Rattle.panel_plans.specs.Wired.{IsWiredBy}
 use Rattle.plans.specs.Plans.{Lists}
 use Rattle.streamed_runs.specs.PrintPromises.Promises.{BeginsReport, PrintsReport}
@@ -26,8 +27,9 @@ pub record IsWiredText (compiled : Compilation) (setup : Wiring) (text : List �
   pub spelled : text ≡ codes "ok\n" ++ plan_text compiled.chart.lines plan
 
 -- The panel is wired for the chart by no plan. By the plan that is told these are what is missing and what is extra, and so much is
--- counted of both. Both are spelled in the version of the wiring chart, so that their lines can be put into its text and taken out of it.
--- Behind them it is told how far the panel is; or a hint is told in place of all.
+-- counted of both. If the panel shows the parts of another one that is wired for the chart, that one is wired for it by this plan. What is
+-- missing and extra is spelled in the version of the wiring chart, so that its lines can be put into the text and taken out of it. How far
+-- the panel is is told behind; or a hint is told in place of all.
 pub record IsUnwiredText (telling : Telling) (wiring : List ℕ) (counts : Counts) (version : Version) (compiled : Compilation) (setup : Wiring)
     (text : List ℕ) : Type 0 where
   pub unwired : (plan : Lists) → ¬ IsWiredBy compiled.chart.lines setup plan
@@ -35,6 +37,8 @@ pub record IsUnwiredText (telling : Telling) (wiring : List ℕ) (counts : Count
   pub missing : Wiring
   pub extra : Wiring
   pub differs : DiffersBy compiled.chart.lines setup plan missing extra
+  pub shown : (other : Wiring) (its : Lists) → ShowsPartsOf compiled.chart.lines setup other its
+      → IsWiredBy compiled.chart.lines other plan
   pub counted : CountsDifferences missing extra counts
   pub tells : IsToldText telling wiring version compiled.chart.lines setup (Differs plan missing extra) text
 

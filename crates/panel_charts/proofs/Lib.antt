@@ -1,3 +1,4 @@
 mod Beside
 mod MatchedCharts
+mod Smallest
 pub mod PanelSlips

@@ -1,8 +1,8 @@
 //! The chart that a panel is read back as.
 
-ghost use Rattle.std.specs.Prelude.{◌≢◌, IfErr, IfOk, IfSome, string_bytes};
+ghost use Rattle.std.specs.Prelude.{◌≡◌, IfErr, IfOk, IfSome, string_bytes};
 ghost use Rattle.faults.specs.declared.chart.ChartFault.TheVariants as chart;
-ghost use Rattle.panel_charts.specs.PanelChart.{IsFound, IsReadBack, IsSomeFault};
+ghost use Rattle.panel_charts.specs.PanelChart.{IsFound, IsReadBack};
 
 use crate::lawful::{chart_text_of, whole_text};
 use compile407::{ChartFault, Compiled};
@@ -77,15 +77,15 @@ fn found_of(alloc: Global, compiled: &Compiled, setup: &Setup) -> Result<Matchin
 
 /// The chart that a panel is read back as: a text that compiles, and what is found of the panel beside it. If that is `Matched`, the panel
 /// is wired for the chart by the plan that is told, and so the machine prints the chart's reports on it. If it `Differs`, the panel is wired
-/// for this chart by no plan, and exactly what is missing and what is too much by the plan that is told is told too.
+/// for this chart by no plan, and exactly what is missing and what is extra by the plan that is told is told too.
 ///
 /// # Errors
 ///
-/// `Memory` where a growth was refused; else the fault of the smallest chart, that of a blank line behind the last card, which is answered
-/// where nothing is left of what was read.
+/// `Memory`, if a growth was refused. If nothing is left of what was read, the smallest chart is answered, which prints a blank line behind the
+/// last card: it compiles.
 pub fn read_back(alloc: Global, setup: &Setup) -> Result<PanelChart, ChartFault>
     ensures read { IfOk result (λ panel. IsReadBack setup.now (string_bytes panel.text) panel.compiled panel.matching) }
-    ensures refused { IfErr result (λ fault. fault ≢ chart.Memory → IsSomeFault fault) }
+    ensures refused { IfErr result (λ fault. fault ≡ chart.Memory) }
 {
     let chart = chart_text_of(alloc, setup)?;
     let (text, compiled) = chart.into_parts();

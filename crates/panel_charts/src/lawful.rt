@@ -1,8 +1,9 @@
 //! A chart that compiles, by the draft that is read off a panel: lines that break a rule or take too much of the machine are left out.
 
-ghost use Rattle.std.specs.Prelude.{◌≢◌, IfErr, IfOk, IfSome, string_bytes};
+ghost use Rattle.std.specs.Prelude.{◌≡◌, ◌≢◌, IfErr, IfOk, IfSome, string_bytes};
+ghost use Rattle.compile407.specs.ChartFaults.{HasChartFault};
 ghost use Rattle.faults.specs.declared.chart.ChartFault.TheVariants as chart;
-ghost use Rattle.panel_charts.specs.PanelChart.{IsChart, IsSomeFault};
+ghost use Rattle.panel_charts.specs.PanelChart.{IsChart};
 
 use allocate::CapacityFault;
 use charts::{BodyLine, ControlLevel};
@@ -45,7 +46,7 @@ impl ChartText {
 // A text, compiled.
 fn compiled_text(alloc: Global, text: String) -> Result<ChartText, ChartFault>
     ensures compiles { IfOk result (λ chart. IsChart (string_bytes chart.text) chart.compiled) }
-    ensures refused { IfErr result (λ fault. fault ≢ chart.Memory → IsSomeFault fault) }
+    ensures refused { IfErr result (λ fault. fault ≢ chart.Memory → HasChartFault (string_bytes text) fault) }
 {
     let compiled = compile(alloc, text.as_bytes())?;
     Ok(ChartText { text, compiled })
@@ -177,10 +178,11 @@ fn lawful_text(alloc: Global, setup: &Setup) -> Result<Option<ChartText>, AllocE
 // The text of the smallest chart: it prints a blank line behind the last card.
 const SMALLEST: &str = "CHART407 2\nPRINT GROUP\nTOTAL 4 1 ' '\nFORM 12 1 9\nEND\n";
 
-// The smallest chart.
+#[tactic(auto, using(crate::proofs::Smallest::memory_alone), unfolding(crate::proofs::Smallest::smallest_text))]
+// The smallest chart. It compiles, so only memory can be wanting.
 fn smallest_chart(alloc: Global) -> Result<ChartText, ChartFault>
     ensures compiles { IfOk result (λ chart. IsChart (string_bytes chart.text) chart.compiled) }
-    ensures refused { IfErr result (λ fault. fault ≢ chart.Memory → IsSomeFault fault) }
+    ensures refused { IfErr result (λ fault. fault ≡ chart.Memory) }
 {
     let text = String::from_str(alloc, SMALLEST)?;
     compiled_text(alloc, text)
@@ -190,10 +192,10 @@ fn smallest_chart(alloc: Global) -> Result<ChartText, ChartFault>
 ///
 /// # Errors
 ///
-/// `Memory` where a growth was refused; else the fault of the smallest chart.
+/// `Memory`, if a growth was refused.
 pub(crate) fn chart_text_of(alloc: Global, setup: &Setup) -> Result<ChartText, ChartFault>
     ensures compiles { IfOk result (λ chart. IsChart (string_bytes chart.text) chart.compiled) }
-    ensures refused { IfErr result (λ fault. fault ≢ chart.Memory → IsSomeFault fault) }
+    ensures refused { IfErr result (λ fault. fault ≡ chart.Memory) }
 {
     match lawful_text(alloc, setup)? {
         Some(chart) => Ok(chart),

@@ -5,10 +5,11 @@ use Rattle.compile407.specs.Compilation.{Compilation, IsCompiled}
 use Rattle.compile407.specs.Headline.{WiredSetupsBeginReports, WiredSetupsPrintReports}
 use Rattle.match_calls.specs.MatchTexts.Counts.{TellsCounts}
 use Rattle.match_calls.specs.declared.match_texts.counts.Counts.{Counts}
-use Rattle.matching.specs.Answers.{IsMatched, IsMatchingOf}
+use Rattle.matching.specs.Answers.{IsMatched, IsMatchingOf, plan_told}
 use Rattle.matching.specs.declared.answer.Matching.{Matching}
 use Rattle.matching.specs.declared.answer.Matching.TheVariants.{Differs, Matched}
 use Rattle.panel_charts.specs.PanelChart.{IsReadBack}
+use Rattle.panel_plans.specs.NamingWires.{ShowsPartsOf}
 use Rattle.panel_plans.specs.Wired.{IsWiredBy}
 use Rattle.plans.specs.Plans.{Lists}
 use Rattle.setups.specs.Wiring.{Wiring}
@@ -18,17 +19,19 @@ module _ (prints : WiredSetupsPrintReports) (begins : WiredSetupsBeginReports) w
   found_beside : (compiled : Compilation) (setup : Wiring) (matching : Matching) (counts : Option Counts) → IsCompiled compiled
       → IsMatchingOf compiled.chart.lines setup matching
       → ((its : Lists) → IsWiredBy compiled.chart.lines setup its → IsMatched matching)
+      → ((other : Wiring) (its : Lists) → ShowsPartsOf compiled.chart.lines setup other its
+      → IsWiredBy compiled.chart.lines other (plan_told matching))
       → TellsCounts matching counts → IsBeside counts compiled setup
-  found_beside compiled setup (Matched plan) None is told found counted = record {
+  found_beside compiled setup (Matched plan) None is told found shown counted = record {
     plan = plan;
     wired = told;
     prints = prints compiled.chart plan setup is.sound told.planned told.wired;
     begins = begins compiled.chart plan setup is.sound told.planned told.wired;
   }
-  found_beside compiled setup (Matched plan) (Some counts) is told found counted = absurd counted
-  found_beside compiled setup (Differs plan missing extra) None is told found counted = absurd counted
-  found_beside compiled setup (Differs plan missing extra) (Some counts) is told found counted =
-      record { unwired = found; plan = plan; missing = missing; extra = extra; differs = told; counted = counted }
+  found_beside compiled setup (Matched plan) (Some counts) is told found shown counted = absurd counted
+  found_beside compiled setup (Differs plan missing extra) None is told found shown counted = absurd counted
+  found_beside compiled setup (Differs plan missing extra) (Some counts) is told found shown counted =
+      record { unwired = found; plan = plan; missing = missing; extra = extra; differs = told; shown = shown; counted = counted }
 
   -- the chart of a wiring chart, by that of its panel
   pub found_chart : (wiring text : List ℕ) (setup : Wiring) (compiled : Compilation) (matching : Matching) (counts : Option Counts)
@@ -38,7 +41,7 @@ module _ (prints : WiredSetupsPrintReports) (begins : WiredSetupsBeginReports) w
     reads = reads;
     compiled = compiled;
     compiles = record { read = its.chart.read; wired = its.chart.compiled_so };
-    beside = found_beside compiled setup matching counts its.chart.compiled_so its.beside.told its.beside.found counted;
+    beside = found_beside compiled setup matching counts its.chart.compiled_so its.beside.told its.beside.found its.beside.shown counted;
   }
 
 -- by the counts that are told

@@ -1,7 +1,7 @@
 -- Why the command doesn't end well, and which line is told by the status of what stopped it.
 use Rattle.std.proofs.Common.{◌≡◌, ◌≢◌, ◌∙◌, ◌⊎◌, inl, inr, ap, arith, subst, ◌≤◌, ℕ, Bool, List, Option}
-use Rattle.match_calls.proofs.ChartCalls.Refusing.{panel_refusal}
-use Rattle.match_calls.specs.ChartCalls.ReadBack.{LeavesUnread, RefusesPanel, StopsChart, memory_wanting, refused, unread, unwritten}
+use Rattle.match_calls.proofs.ChartCalls.Refusing.{wiring_refusal}
+use Rattle.match_calls.specs.ChartCalls.ReadBack.{LeavesUnread, StopsChart, memory_wanting, refused, unread, unwritten}
 use Rattle.faults.proofs.Statuses.{memory_or_not}
 use Rattle.faults.specs.Lines.{IsTold}
 use Rattle.faults.specs.Status.{status_of}
@@ -10,17 +10,18 @@ use Rattle.faults.specs.declared.fault.Fault.TheVariants as fault
 use Rattle.match_calls.specs.Unmatched.{IsToldUnmatched, unmatched_status}
 use Rattle.match_calls.specs.declared.unmatched.Unmatched.{Unmatched}
 use Rattle.match_calls.specs.declared.unmatched.Unmatched.TheVariants as why
+use Rattle.program_io.specs.Refusals.{RefusesWiring}
 
 module _ (wiring : List ℕ) (old new : Option (List ℕ)) (Unprinted : Type 0) where
   -- the panel is refused, or memory was wanting for it
-  pub panels_stop : (met : Fault) (told : Unmatched) → (met ≢ fault.Memory → RefusesPanel wiring met) → told ≡ why.Failed met
+  pub panels_stop : (met : Fault) (told : Unmatched) → (met ≢ fault.Memory → RefusesWiring wiring met) → told ≡ why.Failed met
       → Unprinted → StopsChart wiring told old new Unprinted
   panels_stop met told refuses same unprinted = by (memory_or_not met)
     where
       by : (met ≡ fault.Memory) ⊎ (met ≢ fault.Memory) → StopsChart wiring told old new Unprinted
       by (inl is) = memory_wanting (same ∙ ap why.Failed is)
       by (inr not_memory) =
-          unread (ap unmatched_status same ∙ panel_refusal wiring met (refuses not_memory) not_memory)
+          unread (ap unmatched_status same ∙ wiring_refusal wiring met (refuses not_memory) not_memory)
           (refused met same (refuses not_memory) unprinted)
 
   -- the output can't be written

@@ -2,7 +2,6 @@
 use Rattle.std.specs.Prelude.{◌≡◌, ℕ, List, Option, Some, None}
 use Rattle.std.specs.Io.KnownBytes.{Appends}
 use Rattle.commands.specs.Answers.{CompilesAs}
-use Rattle.commands.specs.Refusals.{RefusesChart}
 use Rattle.compile407.specs.Compilation.{Compilation}
 use Rattle.faults.specs.declared.fault.Fault.{Fault}
 use Rattle.faults.specs.declared.fault.Fault.TheVariants as fault
@@ -12,6 +11,7 @@ use Rattle.match_calls.specs.declared.match_texts.counts.Counts.{Counts}
 use Rattle.match_calls.specs.declared.unmatched.Unmatched.{Unmatched}
 use Rattle.match_calls.specs.declared.unmatched.Unmatched.TheVariants as why
 use Rattle.matching.specs.Answers.{DiffersBy}
+use Rattle.panel_plans.specs.NamingWires.{ShowsPartsOf}
 use Rattle.panel_plans.specs.Wired.{IsWiredBy}
 use Rattle.plans.specs.Plans.{Lists}
 use Rattle.program_io.specs.Refusals.{RefusesWiring}
@@ -27,13 +27,16 @@ pub record IsWiredFor (compiled : Compilation) (setup : Wiring) : Type 0 where
   pub prints : PrintsReport compiled.chart setup
   pub begins : BeginsReport compiled.chart setup
 
--- The panel is wired for the chart by no plan. By some plan these are what is missing and what is extra, and so much is counted of both.
+-- The panel is wired for the chart by no plan. By some plan these are what is missing and what is extra, and so much is counted of both. If the
+-- panel shows the parts of another one that is wired for the chart, that one is wired for it by this plan.
 pub record IsUnwiredFor (counts : Counts) (compiled : Compilation) (setup : Wiring) : Type 0 where
   pub unwired : (plan : Lists) → ¬ IsWiredBy compiled.chart.lines setup plan
   pub plan : Lists
   pub missing : Wiring
   pub extra : Wiring
   pub differs : DiffersBy compiled.chart.lines setup plan missing extra
+  pub shown : (other : Wiring) (its : Lists) → ShowsPartsOf compiled.chart.lines setup other its
+      → IsWiredBy compiled.chart.lines other plan
   pub counted : CountsDifferences missing extra counts
 
 -- the panel beside the chart, by the counts that are told
@@ -55,17 +58,12 @@ pub record PrintsChart (wiring : List ℕ) (counts : Option Counts) (old new : O
   pub right : IsChartOf wiring counts text
   pub written : Appends old new text
 
--- the fault of the wiring chart, else that of the text of a chart that was tried
-pub data RefusesPanel (wiring : List ℕ) (told : Fault) : Type 0 where
-  of_wiring : RefusesWiring wiring told → RefusesPanel wiring told
-  of_chart : (text : List ℕ) → RefusesChart text told → RefusesPanel wiring told
-
--- What is told of a panel that is wired for no chart: it is not wired for the chart that was printed; or it is refused, and nothing was
--- printed.
+-- What is told of a panel that is wired for no chart: it is not wired for the chart that was printed; or the wiring chart is refused, and
+-- nothing was printed.
 pub data LeavesUnread (wiring : List ℕ) (told : Unmatched) (old new : Option (List ℕ)) (Unprinted : Type 0) : Type 0 where
   unwired : (counts : Counts) → told ≡ why.Unwired counts → PrintsChart wiring (Some counts) old new
       → LeavesUnread wiring told old new Unprinted
-  refused : (fault : Fault) → told ≡ why.Failed fault → RefusesPanel wiring fault → Unprinted
+  refused : (fault : Fault) → told ≡ why.Failed fault → RefusesWiring wiring fault → Unprinted
       → LeavesUnread wiring told old new Unprinted
 
 -- Why the command does not end well: that; or the output can't be written, or memory ran out, and a part of the chart may have been printed.

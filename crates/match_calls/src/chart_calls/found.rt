@@ -1,8 +1,7 @@
 //! What is found of a wiring chart.
 
-ghost use Rattle.std.specs.Prelude.{◌≡◌, ◌≢◌, ℕ, List, IfErr, IfOk, string_bytes};
-ghost use Rattle.match_calls.specs.ChartCalls.ReadBack.{IsChartOf, RefusesPanel};
-ghost use Rattle.commands.specs.Refusals.{RefusesChart};
+ghost use Rattle.std.specs.Prelude.{◌≡◌, ◌≢◌, IfErr, IfOk, string_bytes};
+ghost use Rattle.match_calls.specs.ChartCalls.ReadBack.{IsChartOf};
 ghost use Rattle.match_calls.specs.MatchTexts.Counts.{CountsDifferences};
 ghost use Rattle.panel_charts.specs.PanelChart.{IsReadBack};
 ghost use Rattle.program_io.specs.Refusals.{RefusesWiring};
@@ -37,7 +36,7 @@ fn setup_of<'a>(alloc: Global, wiring: &[u8]) -> Result<Setup, Fault<'a>>
 // The chart of a panel.
 fn chart_of<'a>(alloc: Global, setup: &Setup) -> Result<PanelChart, Fault<'a>>
     ensures read { IfOk result (λ panel. IsReadBack setup.now (string_bytes panel.text) panel.compiled panel.matching) }
-    ensures refused { IfErr result (λ told. told ≢ Fault.Memory → (text : List ℕ) × RefusesChart text told) }
+    ensures memory { IfErr result (λ told. told ≡ Fault.Memory) }
 {
     Ok(nearest_chart(alloc, setup)?)
 }
@@ -46,10 +45,10 @@ fn chart_of<'a>(alloc: Global, setup: &Setup) -> Result<PanelChart, Fault<'a>>
 ///
 /// # Errors
 ///
-/// The fault of the wiring chart, else that of the smallest chart; `Memory` where a growth was refused.
+/// The fault of the wiring chart; `Memory` where a growth was refused.
 pub(crate) fn found_of<'a>(alloc: Global, wiring: &[u8]) -> Result<Found, Fault<'a>>
     ensures found { IfOk result (λ found. IsChartOf wiring.now found.counts (string_bytes found.text)) }
-    ensures refused { IfErr result (λ told. told ≢ Fault.Memory → RefusesPanel wiring.now told) }
+    ensures refused { IfErr result (λ told. told ≢ Fault.Memory → RefusesWiring wiring.now told) }
 {
     // What is known of every setup that is wired for a chart by a plan of it.
     wired_setups_print_reports();

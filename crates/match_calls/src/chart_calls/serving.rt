@@ -16,7 +16,7 @@ use std::io::Write;
 ///
 /// # Errors
 ///
-/// The fault of the wiring chart, else that of the smallest chart, and nothing is printed; else `Unwired` where the panel is wired for the
+/// The fault of the wiring chart, and nothing is printed; else `Unwired` where the panel is wired for the
 /// chart by no plan, and the chart is printed all the same. `Memory` where a growth was refused and `Write` where the output can't be
 /// written, and then a part may have been printed.
 pub fn print_chart<'a, W: Write>(

@@ -1,8 +1,8 @@
 //! The search for the nearest chart.
 
-ghost use Rattle.std.specs.Prelude.{◌≢◌, All, IfErr, IfOk, string_bytes};
+ghost use Rattle.std.specs.Prelude.{◌≡◌, All, IfErr, IfOk, string_bytes};
 ghost use Rattle.faults.specs.declared.chart.ChartFault.TheVariants as chart;
-ghost use Rattle.panel_charts.specs.PanelChart.{IsReadBack, IsSomeFault};
+ghost use Rattle.panel_charts.specs.PanelChart.{IsReadBack};
 ghost use Rattle.panel_charts.specs.PanelSlips.Slips.{IsWire};
 
 use crate::panel_slips::{Toggle, Wire, is_moved, moves_near, toggled, toggles_of, wires_of};
@@ -19,7 +19,7 @@ const NEAR: u32 = 1;
 // A chart, and how near a panel is to it.
 struct Near {
     panel: PanelChart,
-    // How many slips there are: what is missing and what is too much, but for the form, which no change touches; a wire that was put into the
+    // How many slips there are: what is missing and what is extra, but for the form, which no change touches; a wire that was put into the
     // hub beside is one slip.
     slips: u32,
     // How many of them are such wires.
@@ -78,7 +78,7 @@ fn moves_of(alloc: Global, matching: &Matching) -> Result<u32, AllocError> {
     }
 }
 
-// How much a panel differs from its chart: what is missing and what is too much.
+// How much a panel differs from its chart: what is missing and what is extra.
 fn differences_of(matching: &Matching) -> u32 {
     match matching {
         Matching::Matched { .. } => 0,
@@ -202,15 +202,15 @@ fn nearest_of(alloc: Global, setup: &Setup, first: Near) -> Result<Near, AllocEr
 
 /// The chart that is nearest to a panel, of those that are tried: the panel is read back, and if it isn't wired for what is read, so are
 /// panels with one thing changed. A wire that was put into the hub beside counts as one slip; of two charts that are as near the one with fewer
-/// lines is taken, and else the one with more such wires. What is answered of the panel is as of `read_back`: the chart compiles, `Matched` tells a plan by which the panel itself is
-/// wired for it, and `Differs` exactly what is missing and what is too much on it.
+/// lines is taken, and else the one with more such wires. What is answered of the panel is as of `read_back`: the chart compiles, `Matched` tells a
+/// plan by which the panel itself is wired for it, and `Differs` exactly what is missing and what is extra on it.
 ///
 /// # Errors
 ///
 /// As `read_back`.
 pub fn nearest_chart(alloc: Global, setup: &Setup) -> Result<PanelChart, ChartFault>
     ensures read { IfOk result (λ panel. IsReadBack setup.now (string_bytes panel.text) panel.compiled panel.matching) }
-    ensures refused { IfErr result (λ fault. fault ≢ chart.Memory → IsSomeFault fault) }
+    ensures refused { IfErr result (λ fault. fault ≡ chart.Memory) }
 {
     let panel = read_back(alloc, setup)?;
     let first = weighed(alloc, setup, panel)?;

@@ -1,6 +1,6 @@
 //! Wires that were put into the hub beside.
 //!
-//! Such a wire is missing in one place and too much in another, so two changes would undo it, one after the other. It is one slip all the same,
+//! Such a wire is missing in one place and extra in another, so two changes would undo it, one after the other. It is one slip all the same,
 //! and one change undoes it: the wire is moved back.
 
 ghost use Rattle.std.specs.Prelude.{◌≡◌, ◌<◌, ◌⊎◌, true, length, All, IfOk, OnOk};

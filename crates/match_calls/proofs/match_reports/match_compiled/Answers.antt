@@ -1,9 +1,11 @@
 use Rattle.std.proofs.Common.{IfOk, subst}
 use Rattle.charts.specs.Chart.{Chart}
-use Rattle.matching.specs.Answers.{IsMatched, IsMatchingOf}
+use Rattle.matching.specs.Answers.{IsMatched, IsMatchingOf, plan_told}
 use Rattle.matching.proofs.Told.{wired-of}
+use Rattle.panel_plans.specs.NamingWires.{ShowsPartsOf}
 use Rattle.panel_plans.specs.Wired.{IsWiredBy}
 use Rattle.plans.specs.Plans.{Lists}
+use Rattle.setups.specs.Wiring.{Wiring}
 use Rattle.match_calls.proofs.MatchReports.Onward.{if-ok}
 use Rattle.match_calls.proofs.match_reports.match_compiled.Goals as goal
 
@@ -33,3 +35,11 @@ returns-clause-found c =
     (λ (chart : Chart). IfOk c.match_setup.result
     (λ matching. (its : Lists) → IsWiredBy chart.lines c.args.setup.now its → IsMatched matching))
     c.chart-chart.ensures.value c.match_setup.ensures.found
+
+pub returns-clause-shown : goal.returns-clause-shown
+returns-clause-shown c =
+    subst
+    (λ (chart : Chart). IfOk c.match_setup.result
+    (λ matching. (other : Wiring) (its : Lists) → ShowsPartsOf chart.lines c.args.setup.now other its
+    → IsWiredBy chart.lines other (plan_told matching)))
+    c.chart-chart.ensures.value c.match_setup.ensures.shown

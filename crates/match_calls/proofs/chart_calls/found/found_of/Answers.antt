@@ -1,13 +1,13 @@
 use Rattle.std.proofs.lemmas.Result.{err_from_is_err_and}
 use Rattle.std.specs.String.{string_bytes}
 use Rattle.match_calls.proofs.ChartCalls.Finding.{found_chart}
-use Rattle.match_calls.proofs.ChartCalls.Refusing.{chart_refused}
+use Rattle.match_calls.proofs.ChartCalls.Refusing.{memory_alone}
 use Rattle.match_calls.proofs.chart_calls.found.found_of.Goals as goal
 
 pub returns-in_err-chart-clause-refused : goal.returns-in_err-chart-clause-refused
 returns-in_err-chart-clause-refused c =
     let exit = err_from_is_err_and c.from_residual-in_err-chart.result c.from_residual-in_err-chart.ensures.1 in
-    rw exit.1 (chart_refused c.args.wiring.now c.in_err-chart.field-0.0 exit.0 c.in_err-chart.ensures.refused exit.2)
+    rw exit.1 (memory_alone c.args.wiring.now c.in_err-chart.field-0.0 exit.0 c.in_err-chart.ensures.memory exit.2)
 
 pub returns-clause-found : goal.returns-clause-found
 returns-clause-found c =
