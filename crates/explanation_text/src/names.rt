@@ -48,8 +48,8 @@ fn write_others(text: &mut String, hubs: &[Hub]) -> Result<(), AllocError>
     Ok(())
 }
 
-// A way, hub by hub.
-pub(crate) fn write_way(text: &mut String, way: &[Hub]) -> Result<(), AllocError>
+/// Writes a way, hub by hub, with a space before each: ` -> ` is a wire, ` => ` a closed contact. Fails only if no memory is left.
+pub fn write_way(text: &mut String, way: &[Hub]) -> Result<(), AllocError>
     ensures { OnOk result (string_bytes text.new ≡ string_bytes text.old ++ way_text way.now) }
 {
     let Some((exit, others)) = way.split_first() else {

@@ -85,12 +85,12 @@ module _ (wiring : Wiring) (deck : List (List ℕ)) (passed count ends : ℕ) (a
     pub last-before : All (λ (entry : Entry). entry.passed < count) told.last
     last-before = last-of (is_before count) ends account kept.entries told kept.told_is earlier
 
-    first-have : All (λ (entry : Entry). HasCycle wiring deck entry.passed) told.first
+    pub first-have : All (λ (entry : Entry). HasCycle wiring deck entry.passed) told.first
     first-have =
         first-of (λ (entry : Entry). HasCycle wiring deck entry.passed) ends account kept.entries told kept.told_is
         (all-have wiring deck account kept.is)
 
-    last-have : All (λ (entry : Entry). HasCycle wiring deck entry.passed) told.last
+    pub last-have : All (λ (entry : Entry). HasCycle wiring deck entry.passed) told.last
     last-have =
         last-of (λ (entry : Entry). HasCycle wiring deck entry.passed) ends account kept.entries told kept.told_is
         (all-have wiring deck account kept.is)

@@ -8,9 +8,10 @@ use Rattle.std.specs.declared.alloc.Global.{Global}
 use Rattle.explanations.specs.Explanations.{IsExplanation}
 use Rattle.explanations.specs.declared.explanation.Explanation.{Explanation}
 use Rattle.hubs.specs.declared.hub.Hub.{Hub}
+use Rattle.wheel_ledgers.specs.LedgerHoles.Down.{IsLedgerDown}
 use Rattle.ledgers.proofs.Summaries.{length-one}
 use Rattle.ledgers.specs.Accounts.{IsAccount}
-use Rattle.ledgers.specs.Running.{IsKept, IsKeptLedger, PlacesLine, asked_of}
+use Rattle.ledgers.specs.Running.{HasCycle, IsKept, IsKeptLedger, PlacesLine, asked_of}
 use Rattle.ledgers.specs.Summaries.{Summary}
 use Rattle.ledgers.specs.declared.entry.Entry.{Entry}
 use Rattle.ledgers.specs.declared.found.FoundCycle.{FoundCycle}
@@ -19,15 +20,14 @@ use Rattle.ledgers.specs.declared.kept.KeptLedger.{KeptLedger}
 use Rattle.ledgers.specs.declared.read_outs.ReadOuts.{ReadOuts}
 use Rattle.net.specs.declared.cycle.Cycle.TheVariants.{RunIn}
 use Rattle.setups.specs.Wiring.{Wiring}
-use Rattle.wheel_ledgers.specs.LedgerHoles.Down.{ledger_down}
 use Rattle.wheel_ledgers.specs.Lower.{IsAsked}
 use Rattle.wheel_ledgers.specs.Told.{words_told}
 use Rattle.wheel_ledgers.specs.Totals.{AreAccounts, find_total}
-use Rattle.wheel_ledgers.specs.Whole.{AreDown, AreTold, AreToldFrom, IsWholeText, TellsAll, TellsWhole, all_told, is_among, ledger_asked, lower_told, next_told, none_told, one_told, text_asked, with_lower, with_one}
+use Rattle.wheel_ledgers.specs.Whole.{AreDown, AreTold, AreToldFrom, IsWholeText, TellsAll, TellsWhole, all_told, is_among, ledger_asked, lower_told, next_told, none_told, one_told, with_lower, with_one}
 use Rattle.wheel_ledgers.specs.declared.chart_totals.TitledAccount.{TitledAccount}
 use Rattle.wheel_ledgers.specs.declared.lower.AskedGroup.{AskedGroup}
 use Rattle.wheel_ledgers.proofs.Accounts.{is_account_kept}
-use Rattle.wheel_ledgers.proofs.Asked.{asked-account, first-before, last-before, told-asked}
+use Rattle.wheel_ledgers.proofs.Asked.{asked-account, first-before, first-have, last-before, last-have, told-asked}
 
 -- no group of the panel
 abbrev nowhere : AskedGroup
@@ -73,6 +73,16 @@ module _ (wiring : Wiring) (cards : List (List ℕ)) (totals : List TitledAccoun
         last-before wiring cards (get_or asked place nowhere).before.passed count ends
         (ledger_asked totals (get_or asked place nowhere)).account here (kept-at nowhere) (can place nowhere low).within
 
+    pub first-in : All (λ (entry : Entry). HasCycle wiring cards entry.passed) here.first
+    first-in =
+        first-have wiring cards (get_or asked place nowhere).before.passed count ends
+        (ledger_asked totals (get_or asked place nowhere)).account here (kept-at nowhere) (can place nowhere low).within
+
+    pub last-in : All (λ (entry : Entry). HasCycle wiring cards entry.passed) here.last
+    last-in =
+        last-have wiring cards (get_or asked place nowhere).before.passed count ends
+        (ledger_asked totals (get_or asked place nowhere)).account here (kept-at nowhere) (can place nowhere low).within
+
 -- of ledgers that are asked for the first ones are told behind a text
 pub record ToldSome (wiring : Wiring) (cards : List (List ℕ)) (totals : List TitledAccount) (read_outs : List ReadOuts) (ends : ℕ)
     (asked : List AskedGroup) (place : ℕ) (old new : List ℕ) (lower : List AskedGroup) : Type 0 where
@@ -93,18 +103,17 @@ module _ (wiring : Wiring) (cards : List (List ℕ)) (totals : List TitledAccoun
       })
 
   pub some-more : (asked : List AskedGroup) (place : ℕ) (d : AskedGroup) (summary : Summary) (total : Option TitledAccount)
-      (old mid new : List ℕ) (lower next : List AskedGroup) → place < length asked
+      (old mid new text : List ℕ) (lower next : List AskedGroup) → place < length asked
       → All (IsAsked wiring cards (length read_outs)) asked
       → IsKeptLedger wiring cards (get_or asked place d).before.passed ends (ledger_asked totals (get_or asked place d)).account summary
       → total ≡ find_total totals (get_or asked place d).place
-      → new
-      ≡ mid ++ ledger_down wiring cards summary (get_or asked place d).before.cycle (get_or asked place d).before.card (words_told total)
+      → IsLedgerDown wiring cards summary (get_or asked place d).before.cycle (get_or asked place d).before.card (words_told total) text
+      → new ≡ mid ++ text
       → next ≡ lower ++ lower_told wiring totals read_outs summary
       → ToldSome wiring cards totals read_outs ends asked place old mid lower
       → ToldSome wiring cards totals read_outs ends asked (place + 1) old new next
-  some-more asked place d summary total old mid new lower next low all kept found written led some =
+  some-more asked place d summary total old mid new text lower next low all kept found down written led some =
       let one = get_or asked place d in
-      let text = text_asked wiring cards totals one summary in
       let leads = lower_told wiring totals read_outs summary in
       subst (λ (any : List AskedGroup). ToldSome wiring cards totals read_outs ends asked (place + 1) old new any) (sym led) (record {
         texts = some.texts ++ text;
@@ -114,13 +123,13 @@ module _ (wiring : Wiring) (cards : List (List ℕ)) (totals : List TitledAccoun
             (one_told (take place asked) one some.texts text lower leads some.told (record {
               summary = summary;
               is = kept;
-              told = refl;
+              told =
+                  subst (λ (t : Option TitledAccount).
+                  IsLedgerDown wiring cards summary one.before.cycle one.before.card (words_told t) text) found down;
               leads = refl;
             }));
         written =
             written
-            ∙ ap (λ (t : Option TitledAccount). mid
-            ++ ledger_down wiring cards summary one.before.cycle one.before.card (words_told t)) found
             ∙ ap (λ (l : List ℕ). l ++ text) some.written
             ∙ append_assoc old some.texts text;
         can =

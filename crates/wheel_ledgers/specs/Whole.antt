@@ -5,7 +5,7 @@ use Rattle.std.specs.declared.alloc.Global.{Global}
 use Rattle.explanations.specs.Explanations.{IsExplanation}
 use Rattle.explanations.specs.declared.explanation.Explanation.{Explanation}
 use Rattle.hubs.specs.declared.hub.Hub.{Hub}
-use Rattle.wheel_ledgers.specs.LedgerHoles.Down.{ledger_down}
+use Rattle.wheel_ledgers.specs.LedgerHoles.Down.{IsLedgerDown}
 use Rattle.ledgers.specs.Running.{IsKeptLedger, PlacesLine}
 use Rattle.ledgers.specs.Summaries.{Summary}
 use Rattle.ledgers.specs.CycleReadOuts.{TellReadOuts}
@@ -29,11 +29,6 @@ ledger_asked totals asked = record {
   passed = asked.before.passed;
 }
 
--- its text, down to the holes
-abbrev pub text_asked : Wiring → List (List ℕ) → List TitledAccount → AskedGroup → Summary → List ℕ
-text_asked wiring cards totals asked told =
-    ledger_down wiring cards told asked.before.cycle asked.before.card (words_told (find_total totals asked.place))
-
 -- the ledgers to which the entries that are told of a ledger lead: the first ones, and then the last ones
 abbrev pub lower_told : Wiring → List TitledAccount → List ReadOuts → Summary → List AskedGroup
 lower_told wiring totals read_outs told =
@@ -45,7 +40,7 @@ pub record IsToldLedger (wiring : Wiring) (cards : List (List ℕ)) (totals : Li
     (asked : AskedGroup) (text : List ℕ) (lower : List AskedGroup) : Type 0 where
   pub summary : Summary
   pub is : IsKeptLedger wiring cards asked.before.passed ends (ledger_asked totals asked).account summary
-  pub told : text ≡ text_asked wiring cards totals asked summary
+  pub told : IsLedgerDown wiring cards summary asked.before.cycle asked.before.card (words_told (find_total totals asked.place)) text
   pub leads : lower ≡ lower_told wiring totals read_outs summary
 
 -- Some ledgers that are asked for are told, one behind the other, and these are those to which they lead.

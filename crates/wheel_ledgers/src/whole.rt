@@ -5,16 +5,16 @@ ghost use Rattle.card_code.specs.MostCards.{most_cards};
 ghost use Rattle.explanations.specs.Explanations.{IsExplanation};
 ghost use Rattle.explanations.specs.PlacedInRun.{PrintsNoneAt};
 ghost use Rattle.explanations.specs.declared.refusal.Refusal.TheVariants.{NoSuchLine, NoSuchWheel};
+ghost use Rattle.wheel_ledgers.specs.LedgerHoles.Down.{IsLedgerDown};
 ghost use Rattle.ledgers.specs.Accounts.{IsAccount};
-ghost use Rattle.ledgers.specs.Running.{PlacesLine};
-ghost use Rattle.wheel_ledgers.specs.LedgerHoles.Down.{ledger_down};
+ghost use Rattle.ledgers.specs.Running.{HasCycle, PlacesLine};
 ghost use Rattle.wheel_ledgers.specs.Lower.{IsAsked};
 ghost use Rattle.wheel_ledgers.specs.Told.{words_told};
 ghost use Rattle.wheel_ledgers.specs.Totals.{AreAccounts};
 ghost use Rattle.wheel_ledgers.specs.Whole.{AreDown, IsWholeText, TellsAll, TellsWhole, asked_at, asked_of, cycle_found, is_among, is_same, ledger_asked, lower_told, with_lower, with_one};
 
 use crate::chart_totals::{TitledAccount, find_total};
-use crate::ledger_holes::write_ledger_down;
+use crate::ledger_holes::tell_ledger_down;
 use crate::lower::{AskedGroup, add_lower_of_all};
 use crate::places::GROUPS;
 use crate::resting::is_printed_of;
@@ -55,32 +55,31 @@ fn ledgers_asked(
     Ok(ledgers)
 }
 
-// Puts the text of a ledger, down to the holes, behind a text.
-fn write_down(
-    text: &mut Vec<u8>,
+// The text of a ledger down to the holes.
+fn text_down(
+    alloc: Global,
     setup: &Setup,
     cards: &[Card],
     ledger: &Ledger,
     before: PassedCycle,
     total: &Option<TitledAccount>,
-) -> Result<(), AllocError>
-    requires { IsAccount ledger.now.account }
-    ensures { OnOk result (text.new.items
-        ≡ text.old.items ++ ledger_down setup.now cards.now ledger.now before.cycle before.card (words_told total.now)) }
+) -> Result<Vec<u8>, AllocError>
+    requires few { length cards.now ≤ most_cards }
+    requires account { IsAccount ledger.now.account }
+    requires first { All (λ entry. HasCycle setup.now cards.now entry.passed) ledger.now.first }
+    requires last { All (λ entry. HasCycle setup.now cards.now entry.passed) ledger.now.last }
+    ensures { IfOk result (λ text. IsLedgerDown setup.now cards.now ledger.now before.cycle before.card (words_told total.now) text.items) }
 {
     let title = title_told(total);
-    match write_ledger_down(
-        text,
+    tell_ledger_down(
+        alloc,
         setup,
         cards,
         ledger,
         before.cycle,
         before.card,
         &title,
-    ) {
-        Ok(()) => Ok(()),
-        Err(_) => Err(AllocError),
-    }
+    )
 }
 
 // Asks for the ledgers to which the entries that are told of a ledger lead.
@@ -103,7 +102,7 @@ fn add_lower_told(
     Ok(())
 }
 
-// Puts the ledgers of groups that are asked for behind a text, and answers those to which they lead. The deck runs once.
+// Puts the ledgers of groups that are asked for behind a text, and answers those to which they lead. The deck runs once for all, and once for the ways of each.
 fn tell_all(
     alloc: Global,
     text: &mut Vec<u8>,
@@ -129,7 +128,8 @@ fn tell_all(
         let one = asked[place];
         let ledger = &ledgers[place].ledger;
         let total = find_total(totals, one.place);
-        write_down(text, setup, cards, ledger, one.before, &total)?;
+        let down = text_down(alloc, setup, cards, ledger, one.before, &total)?;
+        text.extend_from_slice(down.as_slice())?;
         add_lower_told(&mut lower, setup, totals, read_outs, ledger)?;
     }
     Ok(lower)

@@ -1,133 +1,200 @@
 //! The text of a ledger down to the holes.
 
-ghost use Rattle.std.specs.Prelude.{◌≡◌, ◌≤◌, ◌++◌, OnOk, option_map};
+ghost use Rattle.std.specs.Prelude.{◌≡◌, ◌≤◌, ◌++◌, ℕ, All, IfOk, OnOk, length, option_map};
+ghost use Rattle.card_code.specs.MostCards.{most_cards};
+ghost use Rattle.cycle_ways.specs.Points.{ArePointsOf, Follows};
 ghost use Rattle.ledgers.specs.Accounts.{IsAccount};
+ghost use Rattle.ledgers.specs.LedgerText.Entries.{entry_line, gap_lines};
+ghost use Rattle.ledgers.specs.LedgerText.Tellings.{heading_line};
 ghost use Rattle.ledgers.specs.LedgerText.Titles.{words_of};
-ghost use Rattle.wheel_ledgers.specs.LedgerHoles.Down.{entered_by, entered_in, entries_down, entry_down, ledger_down, summary_down};
+ghost use Rattle.ledgers.specs.Running.{HasCycle};
+ghost use Rattle.wheel_ledgers.specs.LedgerHoles.Down.{AreEntered, AreEntriesDown, IsEntryDown, IsLedgerDown};
 
-use crate::ledger_holes::digits::write_digit_lines;
+use crate::ledger_holes::controls::account_lines;
+use crate::ledger_holes::digits::digit_lines;
+use crate::texts::put_together;
 use card_code::Card;
+use cycle_ways::FollowedRun;
 use ledgers::ledger_text::{Title, positions_of, write_entry, write_gaps, write_heading};
-use ledgers::{Account, Change, Entry, Ledger};
+use ledgers::{Account, Change, Entry, Ledger, LeftOut};
+use machine::KeptPoint;
 use net::Cycle;
 use setups::Setup;
-use std::io;
+use std::alloc::{AllocError, Global};
 
-// The lines of the digits that came in in the cycle of an entry.
-fn write_entered_in(
-    text: &mut Vec<u8>,
+// The lines of the digits that came in in the cycle of an entry, unless the number turned or got a carry alone.
+fn entered_lines(
+    alloc: Global,
     setup: &Setup,
     cards: &[Card],
+    points: &[KeptPoint; 14],
     account: Account,
     entry: &Entry,
-) -> io::Result<()>
+) -> Result<Vec<u8>, AllocError>
     requires { IsAccount account }
-    ensures { OnOk result (text.new.items ≡ text.old.items ++ entered_in setup.now cards.now account entry.now.cycle entry.now) }
+    ensures { (passed : ℕ) (is : ArePointsOf setup.now cards.now passed points.now)
+        → IfOk result (λ lines. AreEntered is.has account entry.now entry.now.change lines.items) }
 {
-    match entry.cycle {
-        Cycle::Card => write_digit_lines(
-            text,
+    match entry.change {
+        Change::Plus | Change::Minus | Change::Apart => digit_lines(
+            alloc,
             setup,
             cards,
-            account,
+            points,
+            entry.cycle,
             entry.card,
+            account,
             positions_of(account) as u8,
             1,
             entry.entered,
         ),
-        Cycle::RunIn | Cycle::Prog(_, _) | Cycle::Head(_) => Ok(()),
+        Change::Turned | Change::Carry => Ok(Vec::new(alloc)),
     }
 }
 
-// The same, unless the number turned or got a carry alone.
-fn write_entered(
-    text: &mut Vec<u8>,
-    setup: &Setup,
-    cards: &[Card],
-    account: Account,
-    entry: &Entry,
-) -> io::Result<()>
-    requires { IsAccount account }
-    ensures { OnOk result (text.new.items ≡ text.old.items ++ entered_by setup.now cards.now account entry.now.change entry.now) }
-{
-    match entry.change {
-        Change::Plus | Change::Minus | Change::Apart => {
-            write_entered_in(text, setup, cards, account, entry)
-        }
-        Change::Turned | Change::Carry => Ok(()),
-    }
-}
-
-// The line of an entry, and below it those of its digits.
-fn write_entry_down(
-    text: &mut Vec<u8>,
-    setup: &Setup,
-    cards: &[Card],
+// The line of an entry, alone.
+fn entry_line(
+    alloc: Global,
     title: &Option<Title>,
     account: Account,
     entry: &Entry,
-) -> io::Result<()>
+) -> Result<Vec<u8>, AllocError>
     requires { IsAccount account }
-    ensures { OnOk result (text.new.items
-        ≡ text.old.items ++ entry_down setup.now cards.now (option_map words_of title.now) account entry.now) }
+    ensures { IfOk result (λ line. line.items ≡ entry_line (option_map words_of title.now) account entry.now) }
 {
-    write_entry(text, title, account, entry)?;
-    write_entered(text, setup, cards, account, entry)
+    let mut line = Vec::new(alloc);
+    match write_entry(&mut line, title, account, entry) {
+        Ok(()) => Ok(line),
+        Err(_) => Err(AllocError),
+    }
+}
+
+// The line of an entry, below it how its groups were told what to do in its cycle, and then the lines of its digits.
+fn entry_by(
+    alloc: Global,
+    setup: &Setup,
+    cards: &[Card],
+    points: &[KeptPoint; 14],
+    title: &Option<Title>,
+    account: Account,
+    entry: &Entry,
+) -> Result<Vec<u8>, AllocError>
+    requires { IsAccount account }
+    ensures { ArePointsOf setup.now cards.now entry.now.passed points.now
+        → IfOk result (λ text. IsEntryDown setup.now cards.now (option_map words_of title.now) account entry.now text.items) }
+{
+    let line = entry_line(alloc, title, account, entry)?;
+    let controls = account_lines(alloc, setup, points, account)?;
+    let entered = entered_lines(alloc, setup, cards, points, account, entry)?;
+    let told = put_together(alloc, line.as_slice(), controls.as_slice())?;
+    let text = put_together(alloc, told.as_slice(), entered.as_slice())?;
+    Ok(text)
+}
+
+// The same; the run goes on to the cycle.
+fn entry_down<'a>(
+    alloc: Global,
+    setup: &Setup,
+    cards: &'a [Card],
+    run: &mut FollowedRun<'a>,
+    title: &Option<Title>,
+    account: Account,
+    entry: &Entry,
+) -> Result<Vec<u8>, AllocError>
+    requires few { length cards.now ≤ most_cards }
+    requires account { IsAccount account }
+    requires follows { Follows setup.now cards.now run.old }
+    requires has { HasCycle setup.now cards.now entry.now.passed }
+    ensures told { IfOk result (λ text. IsEntryDown setup.now cards.now (option_map words_of title.now) account entry.now text.items) }
+    ensures follows { Follows setup.now cards.now run.new }
+{
+    let points = run.cycle_behind(alloc, setup, cards, entry.passed)?;
+    entry_by(alloc, setup, cards, &points, title, account, entry)
 }
 
 // The same of some entries.
-fn write_entries_down(
-    text: &mut Vec<u8>,
+fn entries_down<'a>(
+    alloc: Global,
     setup: &Setup,
-    cards: &[Card],
+    cards: &'a [Card],
+    run: &mut FollowedRun<'a>,
     title: &Option<Title>,
     account: Account,
     entries: &[Entry],
-) -> io::Result<()>
-    requires { IsAccount account }
-    ensures { OnOk result (text.new.items
-        ≡ text.old.items ++ entries_down setup.now cards.now (option_map words_of title.now) account entries.now) }
+) -> Result<Vec<u8>, AllocError>
+    requires few { length cards.now ≤ most_cards }
+    requires account { IsAccount account }
+    requires follows { Follows setup.now cards.now run.old }
+    requires has { All (λ entry. HasCycle setup.now cards.now entry.passed) entries.now }
+    ensures told { IfOk result (λ text. AreEntriesDown setup.now cards.now (option_map words_of title.now) account entries.now text.items) }
+    ensures follows { Follows setup.now cards.now run.new }
 {
+    let mut text = Vec::new(alloc);
     for entry in entries {
-        write_entry_down(text, setup, cards, title, account, entry)?;
+        let next = entry_down(alloc, setup, cards, run, title, account, entry)?;
+        text.extend_from_slice(next.as_slice())?;
     }
-    Ok(())
+    Ok(text)
 }
 
-// The entries at both ends, and the line between them.
-fn write_summary_down(
-    text: &mut Vec<u8>,
-    setup: &Setup,
-    cards: &[Card],
-    title: &Option<Title>,
-    ledger: &Ledger,
-) -> io::Result<()>
-    requires { IsAccount ledger.now.account }
-    ensures { OnOk result (text.new.items
-        ≡ text.old.items ++ summary_down setup.now cards.now (option_map words_of title.now) ledger.now) }
+// Whose ledger it is, and before which cycle it is told.
+fn heading(alloc: Global, account: Account, cycle: Cycle, card: u32) -> Result<Vec<u8>, AllocError>
+    requires { IsAccount account }
+    ensures { IfOk result (λ line. line.items ≡ heading_line account cycle card) }
 {
-    let account = ledger.account();
-    write_entries_down(text, setup, cards, title, account, ledger.first())?;
-    write_gaps(text, title, ledger.left_out())?;
-    write_entries_down(text, setup, cards, title, account, ledger.last())
+    let mut line = Vec::new(alloc);
+    match write_heading(&mut line, account, cycle, card) {
+        Ok(()) => Ok(line),
+        Err(_) => Err(AllocError),
+    }
 }
 
-/// Puts the text of a ledger of a run of a deck on a setup of the panel behind a text, and below each entry of a card cycle by which hole of a
-/// card each digit came in. The ledger is told before a cycle, by the number of the card that was read last in it; a title is what a chart
-/// knows of it. Fails only if no memory is left.
-pub fn write_ledger_down(
-    text: &mut Vec<u8>,
+// The line in place of the entries that are left out, if some are.
+fn gap(alloc: Global, title: &Option<Title>, left_out: LeftOut) -> Result<Vec<u8>, AllocError>
+    ensures { IfOk result (λ line. line.items ≡ gap_lines (option_map words_of title.now) left_out) }
+{
+    let mut line = Vec::new(alloc);
+    match write_gaps(&mut line, title, left_out) {
+        Ok(()) => Ok(line),
+        Err(_) => Err(AllocError),
+    }
+}
+
+/// The text of a ledger of a run of a deck, of at most 999,999 cards, on a setup of the panel. Below each entry stands by which way each of its
+/// groups was told to add, to subtract or to read out, and by which hole of a card, or else by which way, each digit came in. The ledger is told
+/// before a cycle, by the number of the card that was read last in it; a title is what a chart knows of it. Fails only if no memory is left.
+pub fn tell_ledger_down(
+    alloc: Global,
     setup: &Setup,
     cards: &[Card],
     ledger: &Ledger,
     cycle: Cycle,
     card: u32,
     title: &Option<Title>,
-) -> io::Result<()>
-    requires { IsAccount ledger.now.account }
-    ensures { OnOk result (text.new.items
-        ≡ text.old.items ++ ledger_down setup.now cards.now ledger.now cycle card (option_map words_of title.now)) }
+) -> Result<Vec<u8>, AllocError>
+    requires few { length cards.now ≤ most_cards }
+    requires account { IsAccount ledger.now.account }
+    requires first { All (λ entry. HasCycle setup.now cards.now entry.passed) ledger.now.first }
+    requires last { All (λ entry. HasCycle setup.now cards.now entry.passed) ledger.now.last }
+    ensures { IfOk result (λ text.
+        IsLedgerDown setup.now cards.now ledger.now cycle card (option_map words_of title.now) text.items) }
 {
-    write_heading(text, ledger.account(), cycle, card)?;
-    write_summary_down(text, setup, cards, title, ledger)
+    let account = ledger.account();
+    let mut run = FollowedRun::begin(alloc, setup, cards)?;
+    let heading = heading(alloc, account, cycle, card)?;
+    let first = entries_down(
+        alloc,
+        setup,
+        cards,
+        &mut run,
+        title,
+        account,
+        ledger.first(),
+    )?;
+    let gap = gap(alloc, title, ledger.left_out())?;
+    let last = entries_down(alloc, setup, cards, &mut run, title, account, ledger.last())?;
+    let begun = put_together(alloc, heading.as_slice(), first.as_slice())?;
+    let more = put_together(alloc, begun.as_slice(), gap.as_slice())?;
+    let text = put_together(alloc, more.as_slice(), last.as_slice())?;
+    Ok(text)
 }

@@ -1,0 +1,5 @@
+mod Points
+mod Following
+mod Named
+mod Controls
+mod Digits
