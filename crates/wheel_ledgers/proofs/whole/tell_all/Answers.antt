@@ -1,4 +1,4 @@
-use Rattle.std.proofs.Common.{get_or, length}
+use Rattle.std.proofs.Common.{◌∙◌, ap, ℕ, List, ◌++◌, get_or, length}
 use Rattle.wheel_ledgers.proofs.Asked.{wanted-accounts, wanted-have}
 use Rattle.wheel_ledgers.proofs.Down.{account-at, first-at, first-in, kept-at, last-at, last-in, some-all, some-more, some-none}
 use Rattle.wheel_ledgers.proofs.whole.tell_all.Goals as goal
@@ -70,7 +70,7 @@ loop-place-preserved c =
     c.as_slice-ledgers.ensures.value c.in_ok-kept.ensures.asked c.as_slice.ensures.value c.in_ok-wanted.ensures c.in_ok-kept.ensures.kept
     c.loop-place.place c.index-ledgers-place.result c.loop-place-test.true _)
     c.find_total-total.ensures.value c.in_ok-down.ensures
-    ?
+    (c.in_ok-extend_from_slice.ensures.items ∙ ap (λ (l : List ℕ). c.loop-place.text.items ++ l) c.as_slice-in-loop-place.ensures.value)
     c.in_ok-add_lower_told.ensures c.loop-place.invariant
 
 pub returns-clause-told : goal.returns-clause-told
