@@ -1,19 +1,10 @@
--- What was told of large totals, by the text of the chart.
-use Rattle.std.proofs.Common.{◌≡◌, subst, ℕ, List, Option, Result, Ok, Err, OnOk}
+-- What was told of large totals.
+use Rattle.std.proofs.Common.{ℕ, List, Option, Result, Ok, Err, OnOk}
 use Rattle.std.specs.Io.KnownBytes.{Appends}
 use Rattle.charts.specs.Chart.{Chart}
-use Rattle.check_calls.specs.Large.{PrintsLarge, TellsLarge}
-use Rattle.commands.specs.Answers.{CompilesAs}
-use Rattle.compile407.specs.Compilation.{Compilation}
+use Rattle.check_calls.specs.Large.{TellsLarge, WritesLarge}
 
-pub large_printed : {U E : Type 0} (result : Result U E) (text deck told : List ℕ) (old new : Option (List ℕ)) (compiled : Compilation) (chart : Chart)
-    → CompilesAs text compiled → chart ≡ compiled.chart → TellsLarge chart deck told → OnOk result (Appends old new told)
-    → OnOk result (PrintsLarge text deck old new)
-large_printed (Ok x) text deck told old new compiled chart compiles same tells written = record {
-  compiled = compiled;
-  compiles = compiles;
-  told = told;
-  tells = subst (λ (c : Chart). TellsLarge c deck told) same tells;
-  written = written;
-}
-large_printed (Err e) text deck told old new compiled chart compiles same tells written = tt
+pub large_written : {U E : Type 0} (result : Result U E) (chart : Chart) (deck told : List ℕ) (old new : Option (List ℕ)) → TellsLarge chart deck told
+    → OnOk result (Appends old new told) → OnOk result (WritesLarge chart deck old new)
+large_written (Ok x) chart deck told old new tells written = record { large = told; tells = tells; written = written }
+large_written (Err e) chart deck told old new tells written = tt

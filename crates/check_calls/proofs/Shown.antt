@@ -1,7 +1,9 @@
 -- What was shown, by the text of the chart.
-use Rattle.std.proofs.Common.{◌≡◌, ◌≢◌, ◌∙◌, ◌⊎◌, inl, inr, sym, ap, subst, ℕ, List, Option, IfSome, ◌≤◌, arith}
+use Rattle.std.proofs.Common.{◌≡◌, ◌≢◌, ◌∙◌, ◌⊎◌, inl, inr, subst, ℕ, List, Option, IfSome, ◌≤◌, arith}
+use Rattle.std.proofs.KnownBytes.{Appends-trans}
 use Rattle.std.specs.Io.KnownBytes.{Appends}
 use Rattle.check_calls.specs.DeckChecks.Shown.{IsTooLong, ShowsFaults, ShowsNone}
+use Rattle.check_calls.specs.Large.{TellsLarge, WritesLarge}
 use Rattle.check_calls.specs.Showing.{ShowsOk, StopsShowing, memory_wanting, refused, shown, too_long, unread, unwritten}
 use Rattle.commands.proofs.Refusing.{chart_refused as refused_chart}
 use Rattle.commands.specs.Answers.{CompilesAs}
@@ -47,18 +49,20 @@ module _ (text : List ℕ) (deck old new : Option (List ℕ)) (unreadable : Faul
   output_stops met told (inl is) same = memory_wanting (same ∙ is)
   output_stops met told (inr is) same = unwritten (same ∙ is)
 
-  -- faults are shown
-  pub shown_stops : (compiled : Compilation) (chart : Chart) (read answer : List ℕ) (told : Fault) → CompilesAs text compiled → chart ≡ compiled.chart
-      → IfSome deck (λ known. read ≡ known) → ShowsFaults chart read told answer → Appends old new answer
-      → StopsShowing text deck old new told unreadable Unprinted
-  shown_stops compiled chart read answer told compiles same is_deck shows written =
+  -- faults are shown, and large totals told
+  pub shown_stops : (compiled : Compilation) (chart : Chart) (read answer : List ℕ) (told : Fault) (between : Option (List ℕ))
+      → CompilesAs text compiled → chart ≡ compiled.chart → IfSome deck (λ known. read ≡ known) → ShowsFaults chart read told answer
+      → Appends old between answer → WritesLarge chart read between new → StopsShowing text deck old new told unreadable Unprinted
+  shown_stops compiled chart read answer told between compiles same is_deck shows written writes =
       shown compiled compiles
       (record {
         read = read;
         is_deck = is_deck;
         answer = answer;
         shows = subst (λ (c : Chart). ShowsFaults c read told answer) same shows;
-        written = written;
+        large = writes.large;
+        tells = subst (λ (c : Chart). TellsLarge c read writes.large) same writes.tells;
+        written = Appends-trans _ _ _ _ _ written writes.written;
       })
 
 -- nothing is wrong

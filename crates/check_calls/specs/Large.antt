@@ -4,8 +4,6 @@ use Rattle.std.specs.Io.KnownBytes.{Appends}
 use Rattle.card_code.specs.Deck.{Deck}
 use Rattle.chart_rules.specs.ValidCard.{IsValidCard}
 use Rattle.charts.specs.Chart.{Chart}
-use Rattle.commands.specs.Answers.{CompilesAs}
-use Rattle.compile407.specs.Compilation.{Compilation}
 use Rattle.deck_notes.specs.MisfitTotals.Large.{large_told}
 
 -- A deck is none of cards that are all valid for a chart.
@@ -27,10 +25,8 @@ pub record TellsTotals (chart : Chart) (deck text : List ℕ) : Type 0 where
 abbrev pub TellsLarge : Chart → (deck text : List ℕ) → Type 0
 TellsLarge chart deck text = TellsNone chart deck text ⊎ TellsTotals chart deck text
 
--- The chart compiles, and this was written of the deck.
-pub record PrintsLarge (text deck : List ℕ) (old new : Option (List ℕ)) : Type 0 where
-  pub compiled : Compilation
-  pub compiles : CompilesAs text compiled
-  pub told : List ℕ
-  pub tells : TellsLarge compiled.chart deck told
-  pub written : Appends old new told
+-- This was written of the deck.
+pub record WritesLarge (chart : Chart) (deck : List ℕ) (old new : Option (List ℕ)) : Type 0 where
+  pub large : List ℕ
+  pub tells : TellsLarge chart deck large
+  pub written : Appends old new large

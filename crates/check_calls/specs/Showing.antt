@@ -1,8 +1,9 @@
 -- What the command that shows all bad cards has done where it ends well, and what it has told where it doesn't. The deck is known where its reader
 -- tells its bytes beforehand, and what is written where the writer tells what it holds.
-use Rattle.std.specs.Prelude.{◌≡◌, ℕ, List, Option, IfSome}
+use Rattle.std.specs.Prelude.{◌≡◌, ℕ, List, ◌++◌, Option, IfSome}
 use Rattle.std.specs.Io.KnownBytes.{Appends}
 use Rattle.check_calls.specs.DeckChecks.Shown.{IsTooLong, ShowsFaults, ShowsNone}
+use Rattle.check_calls.specs.Large.{TellsLarge}
 use Rattle.commands.specs.Answers.{CompilesAs}
 use Rattle.commands.specs.Refusals.{RefusesChart}
 use Rattle.compile407.specs.Compilation.{Compilation}
@@ -20,13 +21,16 @@ pub record ShowsOk (text : List ℕ) (deck old new : Option (List ℕ)) : Type 0
   pub shows : ShowsNone compiled.chart read answer
   pub written : Appends old new answer
 
--- The faults of the deck that was read are shown, and this is the first of them.
+-- The faults of the deck that was read are shown, and this is the first of them; and it is told how large the totals are that their lines have no
+-- room for.
 pub record ShowsBad (compiled : Compilation) (deck old new : Option (List ℕ)) (told : Fault) : Type 0 where
   pub read : List ℕ
   pub is_deck : IfSome deck (λ known. read ≡ known)
   pub answer : List ℕ
   pub shows : ShowsFaults compiled.chart read told answer
-  pub written : Appends old new answer
+  pub large : List ℕ
+  pub tells : TellsLarge compiled.chart read large
+  pub written : Appends old new (answer ++ large)
 
 -- The deck that was read has too many cards, and that is told.
 pub record IsRefusedDeck (deck : Option (List ℕ)) (told : Fault) : Type 0 where

@@ -1,16 +1,15 @@
 //! How large the totals of a deck are that their lines have no room for.
 
-ghost use Rattle.std.specs.Prelude.{◌≡◌, ℕ, true, false, All, IfOk, IfNone, IfSome, List, OnOk};
+ghost use Rattle.std.specs.Prelude.{◌≡◌, ◌⊎◌, ℕ, true, false, All, IfErr, IfOk, IfNone, IfSome, List, OnOk};
 ghost use Rattle.card_code.specs.Deck.{Deck};
 ghost use Rattle.chart_rules.specs.ValidCard.{IsValidCard};
-ghost use Rattle.check_calls.specs.Large.{PrintsLarge, TellsLarge};
+ghost use Rattle.check_calls.specs.Large.{TellsLarge, WritesLarge};
 
-use crate::deck_checks::put;
 use card_code::{Card, DeckFault, read_deck};
 use chart_rules::{Chart, valid_card};
-use compile407::compile;
 use deck_notes::misfit_totals::write_large_totals;
 use faults::{Fault, unprinted};
+use program_io::put;
 use std::alloc::Global;
 use std::io::Write;
 
@@ -32,6 +31,7 @@ fn cards_of<'a>(alloc: Global, deck: &[u8]) -> Result<Option<Vec<Card>>, Fault<'
     ensures cards { IfOk result (λ found. IfSome found (λ cards. Deck deck.now cards.items)) }
     ensures only { IfOk result (λ found. (cards : List (List ℕ)) → Deck deck.now cards → IfSome found (λ read. read.items ≡ cards)) }
     ensures none { IfOk result (λ found. IfNone found ((cards : List (List ℕ)) → ¬ Deck deck.now cards)) }
+    ensures told { IfErr result (λ told. told ≡ Fault.Memory) }
 {
     match read_deck(alloc, deck) {
         Ok(cards) => Ok(Some(cards)),
@@ -42,7 +42,8 @@ fn cards_of<'a>(alloc: Global, deck: &[u8]) -> Result<Option<Vec<Card>>, Fault<'
 
 // What is told of the large totals of a deck: nothing of one with bad cards.
 fn large_text<'a>(alloc: Global, chart: &Chart, deck: &[u8]) -> Result<Vec<u8>, Fault<'a>>
-    ensures { IfOk result (λ text. TellsLarge chart.now deck.now text.items) }
+    ensures tells { IfOk result (λ text. TellsLarge chart.now deck.now text.items) }
+    ensures told { IfErr result (λ told. (told ≡ Fault.Memory) ⊎ (told ≡ Fault.Write)) }
 {
     let mut text = Vec::new(alloc);
     let Some(cards) = cards_of(alloc, deck)? else {
@@ -57,22 +58,17 @@ fn large_text<'a>(alloc: Global, chart: &Chart, deck: &[u8]) -> Result<Vec<u8>, 
     }
 }
 
-/// Prints a line for each total of a deck that its line has no room for, with the total and for how much there is room; nothing of a deck with
-/// cards that the chart can't be run with.
-///
-/// # Errors
-///
-/// The fault of the chart, and nothing is printed. `Memory` where a growth was refused and `Write` where the output can't be written: then a part may
-/// have been printed.
-pub fn print_large_totals<'a, W: Write>(
+// Writes a line for each total of a deck that its line has no room for, with the total and for how much there is room; nothing of a deck with
+// cards that the chart can't be run with.
+pub(crate) fn put_large<'a, W: Write>(
     alloc: Global,
-    chart: &[u8],
+    chart: &Chart,
     deck: &[u8],
     out: &mut W,
 ) -> Result<(), Fault<'a>>
-    ensures { OnOk result (PrintsLarge chart.now deck.now (W.contents out.old) (W.contents out.new)) }
+    ensures written { OnOk result (WritesLarge chart.now deck.now (W.contents out.old) (W.contents out.new)) }
+    ensures told { IfErr result (λ told. (told ≡ Fault.Memory) ⊎ (told ≡ Fault.Write)) }
 {
-    let compiled = compile(alloc, chart)?;
-    let text = large_text(alloc, compiled.chart(), deck)?;
+    let text = large_text(alloc, chart, deck)?;
     put(out, text.as_slice())
 }

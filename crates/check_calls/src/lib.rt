@@ -9,7 +9,6 @@ mod serving;
 mod showing;
 
 pub use grouping::{check_groups_to_end, print_grouped};
-pub use large::print_large_totals;
 pub use laws::checks_tell_first_what_stops_runs;
 pub use serving::{check_deck_to_end, print_check};
 pub use showing::{print_shown, show_deck_to_end};

@@ -6,14 +6,16 @@ ghost use Rattle.faults.specs.Lines.{IsTold};
 ghost use Rattle.faults.specs.Status.{status_of};
 
 use crate::deck_checks::show_cards;
+use crate::large::put_large;
 use compile407::compile;
 use faults::{Ending, Fault, tell};
 use program_io::{put, read_whole};
 use std::alloc::Global;
 use std::io::{Read, Write};
 
-/// Compiles a chart, reads a deck whole, and prints all its cards that the chart can't be run with, each shown as it stands below its line, or,
-/// where there is none, `ok` and which cards there are. `path` names the deck in what is told of one that can't be read.
+/// Compiles a chart, reads a deck whole, and prints all its cards that the chart can't be run with, each shown as it stands below its line, and
+/// how large the totals are that their lines have no room for; or, if nothing is wrong, `ok` and which cards there are. `path` names the deck in
+/// what is told of one that can't be read.
 ///
 /// # Errors
 ///
@@ -33,11 +35,16 @@ pub fn print_shown<'a, R: Read + Drop, W: Write>(
 {
     let compiled = compile(alloc, chart)?;
     let bytes = read_whole(alloc, deck, path)?;
-    let shown = show_cards(alloc, compiled.chart(), bytes.as_slice())?;
+    let chart = compiled.chart();
+    let cards = bytes.as_slice();
+    let shown = show_cards(alloc, chart, cards)?;
     put(out, shown.text.as_slice())?;
     match shown.first {
         None => Ok(()),
-        Some(fault) => Err(fault),
+        Some(fault) => {
+            put_large(alloc, chart, cards, out)?;
+            Err(fault)
+        }
     }
 }
 

@@ -7,7 +7,7 @@ use crate::running::waiting_pages;
 use crate::watched::Watched;
 use crate::words::tell_waiting;
 use browser_pages::show_to_end;
-use check_calls::{check_deck_to_end, check_groups_to_end, print_large_totals, show_deck_to_end};
+use check_calls::{check_deck_to_end, check_groups_to_end, show_deck_to_end};
 use command_line::Wanted;
 use commands::{
     Command, Ending, Fault, chart_and_deck, read_whole, replay_by_orders_to_end, run_to_end,
@@ -24,9 +24,6 @@ use sheets::sheet_calls::{fields_to_end, layout_to_end};
 use std::alloc::Global;
 use text_lists::list_text_to_end;
 use whole_runs::run_whole_to_end;
-
-/// The status of a text or a deck that is refused.
-const REFUSED: u8 = 3;
 
 /// Does what the words ask for. Texts are read whole, and decks and an output are opened, before a fault of any of them is told.
 ///
@@ -72,8 +69,8 @@ pub fn obey<'a>(rt: &HostRuntime, wanted: Wanted<'a>) -> Result<Ending, Fault<'a
             if has_faults(alloc, text) {
                 list_text_to_end(alloc, text, out, faults)
             } else {
-                let cards = read(rt, deck)?;
-                show_deck(rt, text, deck, cards.as_slice())
+                let cards = open(rt, deck)?;
+                show_deck_to_end(alloc, text, deck, cards, out, faults)
             }
         }
         Wanted::GroupDeck { chart, deck } => {
@@ -207,20 +204,6 @@ fn has_faults(alloc: Global, chart: &[u8]) -> bool {
     let mut listed = Vec::new(alloc);
     let mut told = Vec::new(alloc);
     list_text_to_end(alloc, chart, &mut listed, &mut told).status != 0
-}
-
-// Shows the bad cards of a deck, and how large the totals are that don't fit.
-fn show_deck(rt: &HostRuntime, text: &[u8], path: &str, cards: &[u8]) -> Ending {
-    let out = &mut rt.stdout();
-    let faults = &mut rt.stderr();
-    let shown = show_deck_to_end(rt.alloc(), text, path, cards, out, faults);
-    if shown.status != REFUSED {
-        return shown;
-    }
-    match print_large_totals(rt.alloc(), text, cards, out) {
-        Ok(()) => shown,
-        Err(fault) => commands::tell(&fault, faults),
-    }
 }
 
 // Does a command that reads no deck.
