@@ -5,7 +5,7 @@ ghost use Rattle.std.specs.List.{list_any};
 ghost use Rattle.charts.specs.declared.statement.Field.{Field};
 ghost use Rattle.line_rules.specs.FieldRules.Fields.{fields_of};
 ghost use Rattle.line_rules.specs.PrintRules.Forms.{breaks_form};
-ghost use Rattle.line_rules.specs.PrintRules.Tapes.{are_within, is_good_tape, rise_above};
+ghost use Rattle.line_rules.specs.PrintRules.Tapes.{is_good_tape};
 ghost use Rattle.chart_rules.specs.Rules as law;
 ghost use Rattle.chart_faults.specs.Listed.{has_no_columns, is_at_fault, lacks_good_form, misnames, only_follows};
 
@@ -18,7 +18,7 @@ use line_rules::field_rules::{
 };
 use line_rules::print_rules::{
     breaks_form, breaks_mark_mismatch, breaks_print_kind, breaks_tape, breaks_wheel_clash,
-    breaks_wheel_overlap, breaks_wheel_range, lacks_form, lacks_print,
+    breaks_wheel_overlap, breaks_wheel_range, is_good_tape, lacks_form, lacks_print,
 };
 
 /// As many lines as the largest form has.
@@ -97,34 +97,6 @@ fn lacks_good_form(lines: &[Line]) -> bool
     lacks_form(lines) || has_bad_form(lines)
 }
 
-/// Whether stops rise, the first above a given line.
-fn rise_above(before: u16, stops: &[u16]) -> bool
-    ensures { result ≡ rise_above before stops.now }
-{
-    let mut last = before;
-    for stop in stops {
-        if *stop <= last {
-            return false;
-        }
-        last = *stop;
-    }
-    true
-}
-
-/// Whether stops are lines of the largest form.
-fn are_within(stops: &[u16]) -> bool
-    ensures { result ≡ are_within 144 stops.now }
-{
-    stops.iter().all(|stop| *stop <= MOST_LINES)
-}
-
-/// Whether a tape would be good on the largest form.
-fn is_good_somewhere(channel: u16, stops: &[u16]) -> bool
-    ensures { result ≡ is_good_tape 144 channel stops.now }
-{
-    2 <= channel && channel <= 11 && rise_above(0, stops) && are_within(stops)
-}
-
 /// Whether a line can break a rule only since something else is wrong.
 fn only_follows(rule: Rule, fields: &Fields, raw: &RawChart, statement: &Statement) -> bool
     requires { fields.now ≡ fields_of raw.now.lines }
@@ -134,7 +106,7 @@ fn only_follows(rule: Rule, fields: &Fields, raw: &RawChart, statement: &Stateme
         (Rule::TotalTextNotControl | Rule::CoupledMark, _) => misnames(fields, raw, statement),
         (Rule::AmountSize, _) => has_no_columns(statement),
         (Rule::Tape, Statement::Tape { channel, stops }) => {
-            lacks_good_form(raw.lines()) && is_good_somewhere(*channel, stops.lines())
+            lacks_good_form(raw.lines()) && is_good_tape(MOST_LINES, *channel, stops.lines())
         }
         _ => false,
     }

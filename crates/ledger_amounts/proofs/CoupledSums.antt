@@ -97,7 +97,7 @@ not-apart : (one : Bool) → not one ≡ false → one ≡ true
 not-apart true is = refl
 not-apart false is = sym is
 
-entered-within : (group : Counter) → IsCounter group → number group.entered < 10 ^ group.name.width
+pub entered-within : (group : Counter) → IsCounter group → number group.entered < 10 ^ group.name.width
 entered-within group lawful = subst (λ n. number group.entered < 10 ^ n) lawful.entries (number-lt group.entered lawful.entered)
 
 -- An entry of two groups that did the same thing is a sum.

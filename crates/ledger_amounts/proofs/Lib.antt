@@ -17,3 +17,6 @@ mod Changes
 mod Found
 mod Examples
 mod CoupledSums
+mod DigitWays
+mod RowLines
+mod OneLedger

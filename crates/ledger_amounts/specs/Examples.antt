@@ -1,19 +1,25 @@
 -- Examples, worked out by hand: the report of sales by department, whose cards have the department in the columns 1 and 2 and the sales in 3 to
--- 8; and a card by whose row 11 in column 9 an amount is negated.
-use Rattle.std.specs.Prelude.{◌≡◌, ℕ, ◌^◌, ℤ, pos, neg_ℤ, false, List, [], ◌∷◌, ◌++◌, Some, None}
+-- 8; a card by whose row 11 in column 9 an amount is negated; and the digits of 215.40 in a counter group of eight positions.
+use Rattle.std.specs.Prelude.{◌≡◌, ℕ, ◌^◌, ℤ, pos, neg_ℤ, false, List, [], ◌∷◌, ◌++◌, Some, None, codes}
 use Rattle.charts.specs.declared.chart.Line.{Line}
 use Rattle.charts.specs.declared.level.ControlLevel.TheVariants as control
 use Rattle.charts.specs.declared.statement.Field.{Field}
 use Rattle.charts.specs.declared.statement.FieldKind.TheVariants as holds
 use Rattle.charts.specs.declared.statement.SignRule.TheVariants as sign
 use Rattle.charts.specs.declared.statement.Statement.TheVariants as says
+use Rattle.hubs.specs.declared.hub.Group.{Group}
+use Rattle.hubs.specs.declared.hub.Hub.TheVariants.{GE}
+use Rattle.ledgers.specs.declared.account.Account.TheVariants.{One, Coupled}
 use Rattle.ledgers.specs.declared.entry.Change.TheVariants.{Minus}
 use Rattle.ledgers.specs.declared.entry.Entry.{Entry}
 use Rattle.net.specs.declared.cycle.Cycle.{Cycle}
 use Rattle.net.specs.declared.cycle.Cycle.TheVariants.{Card, Prog}
 use Rattle.net.specs.declared.cycle.Ordinal.TheVariants.{Third}
 use Rattle.net.specs.declared.cycle.ProgramLevel.TheVariants.{Minor}
+use Rattle.totals.specs.CounterCycles.Acts.{digit_of}
+use Rattle.wheel_ledgers.specs.LedgerHoles.Positions.{entry_at, position_in}
 use Rattle.ledger_amounts.specs.Amounts.{StandsBehind}
+use Rattle.ledger_amounts.specs.DigitWays.{AreRowLines, IsRowLine}
 use Rattle.ledger_amounts.specs.Postings.{Posting, posting_of, postings_of, sum_of}
 
 -- the department, and the sales in cents
@@ -103,3 +109,25 @@ pub record AddUp : Type 0 where
       postings_of chart_lines balance 0 1 3 debit_and_credit ≡ posting Card 4 (pos 6000) ∷ posting Card 5 (neg_ℤ (pos 8550)) ∷ []
   pub signs_sum : sum_of (postings_of chart_lines balance 0 1 3 debit_and_credit) ≡ neg_ℤ (pos 2550)
   pub entry : posting_of credit_entry ≡ Some (posting Card 5 (neg_ℤ (pos 8550)))
+
+-- a counter group
+abbrev pub counter_group : (width number : ℕ) → Group
+counter_group width number = record { width = width; number = number }
+
+-- the lines of the digits of 215.40, which came to the group 8.1 from the columns 18 to 22 of card 2; the 0 in column 22 has none
+abbrev pub digit_lines : List ℕ
+digit_lines =
+    codes "    row 2: SR.18 -> GE.8.1.5 (column 18 of card 2)\n"
+    ++ codes "    row 1: SR.19 -> GE.8.1.4 (column 19 of card 2)\n"
+    ++ codes "    row 5: SR.20 -> GE.8.1.3 (column 20 of card 2)\n"
+    ++ codes "    row 4: SR.21 -> GE.8.1.2 (column 21 of card 2)\n"
+
+-- The 2 of 215.40 stands at position 5, and the 0 at position 1. Of eight digits four have lines. The group 8.1 has place 24, and above the
+-- three positions of the group 3.1 it has the position 4 of both. Only a 0 has an empty line.
+pub record TellDigits : Type 0 where
+  pub highest : digit_of 21540 5 ≡ 2
+  pub units : digit_of 21540 1 ≡ 0
+  pub lines : AreRowLines 8 21540 digit_lines
+  pub alone : entry_at (position_in (One 24) 5) ≡ GE (counter_group 8 1) 5
+  pub coupled : entry_at (position_in (Coupled 24 0) 4) ≡ GE (counter_group 8 1) 1
+  pub some : (digit : ℕ) → IsRowLine digit [] → digit ≡ 0

@@ -3,8 +3,12 @@
 ghost use Rattle.ledger_amounts.specs.Amounts.{KeptLedgersAreAmounts, LedgersAreAmounts};
 ghost use Rattle.ledger_amounts.specs.Changes.{LedgersHoldAllChanges, LedgersHoldNoOthers, LedgersRise};
 ghost use Rattle.ledger_amounts.specs.CoupledSums.{CoupledEntriesAreSums, CoupledLedgersAreSums};
-ghost use Rattle.ledger_amounts.specs.Examples.{AddUp};
+ghost use Rattle.ledger_amounts.specs.DigitWays.{DigitsHaveWays, EntriesTellRows};
+ghost use Rattle.ledger_amounts.specs.Examples.{AddUp, TellDigits};
 ghost use Rattle.ledger_amounts.specs.Found.{TotalsAreFound};
+ghost use Rattle.ledger_amounts.specs.OneLedger.{KeptLedgersAreOne, LedgersAreOne, PlacesHaveLedgers};
+
+use cycle_ways::laws::ways_tell_digits;
 
 /// Before the cycle that prints a total, the entries of its ledger are the amounts of the report, with their signs and in their order, and
 /// they add up to the total that is printed: those of all cards of its group, each with the number of its card, or, if the amount has a
@@ -37,7 +41,29 @@ pub fn totals_are_found()
     ensures { TotalsAreFound }
 {}
 
+/// On every panel a way is told of each digit, 1 to 9, of the number that came to an account in a cycle of a run, at the row of the digit. So
+/// in the text that tells a ledger down to the holes no such digit is left out: the text of an entry ends with a line for each, that of the
+/// top digit first, and the line begins with the row of the digit. If the number turned, or if only a carry came, no digits are told.
+pub fn digits_have_ways()
+    ensures told { DigitsHaveWays }
+    ensures lines { EntriesTellRows }
+{
+    ways_tell_digits();
+}
+
+/// At each place of a run between two of its cycles an account has a ledger, and no other. So what is kept of it is one, too.
+pub fn ledgers_are_one()
+    ensures some { PlacesHaveLedgers }
+    ensures one { LedgersAreOne }
+    ensures kept { KeptLedgersAreOne }
+{}
+
 /// 272.34 of three cards, 2936.14 of three groups, and 25.50 below 0 of a debit and a credit.
 pub fn examples_add_up()
     ensures { AddUp }
+{}
+
+/// 215.40 in a group of eight positions has four lines of digits, and none of them is empty.
+pub fn examples_tell_digits()
+    ensures { TellDigits }
 {}

@@ -1,11 +1,11 @@
 //! What stands where on a line of a chart.
 
 ghost use Rattle.std.specs.Prelude.{◌≡◌, ◌≤◌, length};
-ghost use Rattle.line_rules.specs.PrintRules.Tapes.{form_lines};
 ghost use Rattle.chart_faults.specs.FaultWords.Parts as law;
 
 use chart_rules::Rule;
 use charts::{After, BodyLine, Field, Line, Name, Statement};
+use line_rules::print_rules::form_lines;
 
 /// The name that a line describes or uses, if it has one.
 pub(crate) fn name_on(statement: &Statement) -> Option<Name>
@@ -113,18 +113,6 @@ fn skip_place(line: BodyLine) -> usize
         BodyLine::Detail => 3,
         BodyLine::Total(_) => 4,
     }
-}
-
-/// The lines of a chart's form, by its first FORM line; 0 if there is none.
-fn form_lines(chart: &[Line]) -> u16
-    ensures { result ≡ form_lines chart.now }
-{
-    for line in chart {
-        if let Statement::Form { lines, .. } = &line.statement {
-            return *lines;
-        }
-    }
-    0
 }
 
 /// How many stops of a TAPE line stand before its first wrong one: each of them is above the one before it, and a line of the form.

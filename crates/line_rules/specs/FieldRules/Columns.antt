@@ -15,7 +15,7 @@ abbrev pub has_good_sign : Option ℕ → Bool
 has_good_sign (Some column) = is_column column
 has_good_sign None = true
 
--- Columns: not 1 ≤ first ≤ last ≤ 80, or a sign column that is not 1 to 80.
+-- Columns: a field that isn't a run of columns of the card, or whose sign stands in no column of it.
 abbrev pub breaks_columns : Statement → Bool
 breaks_columns (says.Field field) = not (nat_le 1 field.first && nat_le field.first field.last && nat_le field.last 80 && has_good_sign (sign_column field.kind))
 breaks_columns other = false
@@ -25,7 +25,7 @@ abbrev pub is_too_large : FieldKind → ℕ → Bool
 is_too_large (holds.Amount decimals rule) digits = nat_lt 8 digits || nat_lt 3 decimals || nat_lt digits decimals
 is_too_large holds.Text digits = false
 
--- Amount size: an amount of more than 8 digits, or whose decimals are over 3 or over its digits.
+-- Amount size: a FIELD line describes an amount with too many digits or decimals.
 abbrev pub breaks_amount_size : Statement → Bool
 breaks_amount_size (says.Field field) = is_too_large field.kind (columns_of field)
 breaks_amount_size other = false

@@ -32,7 +32,7 @@ abbrev pub is_uncontrolled : List Line → Option ControlLevel → Bool
 is_uncontrolled lines (Some level) = not (is_controlled lines level)
 is_uncontrolled lines None = false
 
--- No control: TOTAL or INDICATE of a level 1 to 3 without CONTROL of that level.
+-- No control: a total or an indicated field belongs to a level that no CONTROL line starts.
 abbrev pub breaks_no_control : List Line → Statement → Bool
 breaks_no_control lines line = is_uncontrolled lines (level_needed line)
 
@@ -45,7 +45,7 @@ controls_by lowest wanted other = false
 abbrev pub is_controlled_by : List Line → Level → List ℕ → Bool
 is_controlled_by lines lowest name = list_any (λ line. controls_by lowest name line.statement) lines
 
--- Total text not control: a text on a total line that is no control field of its level or higher.
+-- Total text not control: a total line is to print a text that needn't be the same on all cards of its group.
 abbrev pub breaks_total_text_not_control : List Line → Statement → Bool
 breaks_total_text_not_control lines (says.TotalText level wheel name) = not (is_controlled_by lines level name)
 breaks_total_text_not_control lines other = false

@@ -42,7 +42,7 @@ abbrev pub is_total : Statement → Bool
 is_total (says.TotalAmount total) = true
 is_total other = false
 
--- Coupled mark: in version 2, a total with COUPLED that needs 8 positions or fewer, or without it that needs more.
+-- Coupled mark: a chart of version 2 says of a total that it takes two groups, and it takes one, or the other way round.
 abbrev pub breaks_coupled_mark : List Field → Version → List ℕ → Line → Bool
 breaks_coupled_mark fields First coupled line = false
 breaks_coupled_mark fields Second coupled line =

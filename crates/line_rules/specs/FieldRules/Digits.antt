@@ -11,7 +11,7 @@ abbrev pub is_out_of_digits : Option Field → ℕ → Bool
 is_out_of_digits (Some field) digits = nat_lt digits (columns_of field) || nat_lt 16 digits || (is_some (sign_column field.kind) && nat_lt 15 digits)
 is_out_of_digits None digits = false
 
--- Digits range: a total in fewer digits than its field, in more than 16, or in more than 15 with a sign column.
+-- Digits range: a TOTAL line gives a total less room than one card of its field needs, or more than two groups have.
 abbrev pub breaks_digits_range : List Field → Statement → Bool
 breaks_digits_range fields (says.TotalAmount total) = is_out_of_digits (first_named fields total.name) total.digits
 breaks_digits_range fields other = false

@@ -7,7 +7,7 @@ use Rattle.charts.specs.declared.statement.Statement.TheVariants as says
 use Rattle.line_rules.specs.FieldRules.Fields.{first_named}
 use Rattle.charts.specs.Field.{is_amount}
 
--- Name twice: a FIELD whose name stands on an earlier FIELD.
+-- Name twice: a FIELD line describes a name that a line above it has described.
 abbrev pub breaks_name_twice : List Field → Statement → Bool
 breaks_name_twice earlier (says.Field field) = is_some (first_named earlier field.name)
 breaks_name_twice earlier other = false
@@ -25,7 +25,7 @@ abbrev pub is_unknown : List Field → Option (List ℕ) → Bool
 is_unknown fields (Some name) = is_none (first_named fields name)
 is_unknown fields None = false
 
--- Unknown name: a name without a FIELD.
+-- Unknown name: a line uses a name that no FIELD line describes.
 abbrev pub breaks_unknown_name : List Field → Statement → Bool
 breaks_unknown_name fields line = is_unknown fields (name_used line)
 
@@ -39,7 +39,8 @@ abbrev pub names_text : Option Field → Bool
 names_text (Some field) = not (is_amount field.kind)
 names_text None = false
 
--- Wrong kind: CONTROL, INDICATE or TOTAL without digits of an amount; MARK or TOTAL with digits of a text.
+-- Wrong kind: a line takes an amount as a text (it controls a level, is indicated, or prints without digits on a total line),
+-- or a text as an amount (it is to have a mark or to be added).
 abbrev pub breaks_wrong_kind : List Field → Statement → Bool
 breaks_wrong_kind fields (says.Control level name) = names_amount (first_named fields name)
 breaks_wrong_kind fields (says.DetailField wheel name (shown.Indicated level)) = names_amount (first_named fields name)

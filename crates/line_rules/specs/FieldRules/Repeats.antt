@@ -38,7 +38,6 @@ repeats (says.Tape one_channel one_stops) (says.Tape channel stops) = one_channe
 repeats (says.DetailField one_wheel one_name one_shown) (says.DetailField wheel name shown) = is_same_name one_name name
 repeats one other = is_same_total (total_field one) (total_field other)
 
--- Line twice: a second PRINT or FORM; a repeated CONTROL (level and name), SPACE kind, AFTER kind or TAPE channel; a name
--- twice among the DETAIL lines or among the TOTAL lines of one level.
+-- Line twice: a line settles what a line above it has settled, or prints a name again on a line of the report where it stands.
 abbrev pub breaks_line_twice : List Line → Statement → Bool
 breaks_line_twice earlier statement = list_any (λ line. repeats line.statement statement) earlier

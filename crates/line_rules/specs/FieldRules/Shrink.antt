@@ -18,7 +18,7 @@ is_wider_below above other = false
 abbrev pub has_wider_below : List Line → TotalLine → Bool
 has_wider_below lines above = list_any (λ line. is_wider_below above line.statement) lines
 
--- Digits shrink: a total in fewer digits than a total of the same amount at a lower level.
+-- Digits shrink: a total has less room than the totals of a lower level that are added up in it.
 abbrev pub breaks_digits_shrink : List Line → Statement → Bool
 breaks_digits_shrink lines (says.TotalAmount total) = has_wider_below lines total
 breaks_digits_shrink lines other = false

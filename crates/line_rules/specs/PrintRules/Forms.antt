@@ -22,7 +22,7 @@ abbrev pub has_room : ℕ → ℕ → ℕ → ℕ → Bool
 has_room headings lines first overflow =
     nat_le 1 first && nat_lt (first + max headings 1 - 1) overflow && nat_le (overflow + 2) lines && nat_le lines 144
 
--- Form: not 1 ≤ first line, first line + max(headings, 1) - 1 < overflow line, overflow line + 2 ≤ lines ≤ 144.
+-- Form: the form that a FORM line gives has no room for the chart's headings, for its overflow line or for the two lines below it.
 abbrev pub breaks_form : List Line → Statement → Bool
 breaks_form chart (says.Form lines first overflow) = not (has_room (heading_count chart) lines first overflow)
 breaks_form chart other = false

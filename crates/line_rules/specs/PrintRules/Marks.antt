@@ -20,7 +20,7 @@ abbrev pub is_mismatched : Option Field → Option Mark → Bool
 is_mismatched (Some field) mark = is_mismatched_kind field.kind mark
 is_mismatched None mark = false
 
--- Mark mismatch: an amount item with a mark without a sign column, or the reverse.
+-- Mark mismatch: a line puts an amount on the report whose mark and sign column don't go together.
 abbrev pub breaks_mark_mismatch : List Field → Statement → Bool
 breaks_mark_mismatch fields (says.DetailField wheel name shown) =
     is_mismatched (first_named fields name) (mark_shown shown)

@@ -43,8 +43,8 @@ is_print_group other = false
 abbrev pub prints_group : List Line → Bool
 prints_group lines = list_any (λ line. is_print_group line.statement) lines
 
--- Print kind: PRINT DETAIL without a DETAIL item or PRINT GROUP without a TOTAL item; a DETAIL item under PRINT GROUP;
--- SPACE or AFTER of a kind without items.
+-- Print kind: PRINT asks for a kind of line on which nothing is put; a chart that prints totals alone puts something on the line
+-- of a card; SPACE or AFTER speaks of a line on which nothing stands.
 abbrev pub breaks_print_kind : List Line → Statement → Bool
 breaks_print_kind lines (says.Print print.Detail) = not (has_item_of lines body.Detail)
 breaks_print_kind lines (says.Print print.Group) = not (has_total_item lines)

@@ -39,8 +39,7 @@ is_tape_of wanted other = false
 abbrev pub has_tape : List Line → ℕ → Bool
 has_tape lines channel = list_any (λ line. is_tape_of channel line.statement) lines
 
--- Tape: a channel that is not 2 to 11, stops that do not rise or are not 1 to the lines of the form; AFTER with SKIP
--- to a channel without a TAPE line.
+-- Tape: a TAPE line of a channel that can't have such stops on the chart's form; a skip to a channel of which no TAPE line speaks.
 abbrev pub breaks_tape : List Line → Statement → Bool
 breaks_tape chart (says.Tape channel stops) = not (is_good_tape (form_lines chart) channel stops)
 breaks_tape chart (says.After kind (after.Skip channel)) = not (has_tape chart channel)

@@ -18,7 +18,7 @@ abbrev pub is_off_wheels : Option Item → Bool
 is_off_wheels (Some item) = not (nat_le 1 item.first && nat_le item.end 121)
 is_off_wheels None = false
 
--- Wheel range: an item not within wheels 1 to 120.
+-- Wheel range: a line puts an item on wheels that the machine doesn't have.
 abbrev pub breaks_wheel_range : List Field → Statement → Bool
 breaks_wheel_range fields statement = is_off_wheels (item_of fields statement)
 
@@ -35,7 +35,7 @@ abbrev pub overlap : Option Item → Option Item → Bool
 overlap (Some one) (Some other) = is_same_line one.line other.line && meet one other
 overlap one other = false
 
--- Wheel overlap: an item that meets an earlier one of the same printed line.
+-- Wheel overlap: a line puts an item on wheels of which a line above it has taken one, for the same printed line.
 abbrev pub breaks_wheel_overlap : List Field → List Line → Statement → Bool
 breaks_wheel_overlap fields earlier statement =
     list_any (λ line. overlap (item_of fields line.statement) (item_of fields statement)) earlier
@@ -73,8 +73,7 @@ clash (Some one) (Some other) =
     && not (may_share one other)
 clash one other = false
 
--- Wheel clash: the later of two items of different body lines that meet, at least one an amount, unless both are
--- amounts with the same last wheel, decimals and mark.
+-- Wheel clash: a line puts an item on wheels that an item of another body line has already, and the two may not share them.
 abbrev pub breaks_wheel_clash : List Field → List Line → Statement → Bool
 breaks_wheel_clash fields earlier statement =
     list_any (λ line. clash (item_of fields line.statement) (item_of fields statement)) earlier

@@ -6,7 +6,7 @@ ghost use Rattle.line_rules.specs.PrintRules.Tapes as rule;
 use charts::{After, Line, Statement};
 
 /// The lines of a chart's form, by its first FORM line; 0 where there is none.
-fn form_lines(chart: &[Line]) -> u16
+pub fn form_lines(chart: &[Line]) -> u16
     ensures { result ≡ rule.form_lines chart.now }
 {
     for line in chart {
@@ -39,7 +39,7 @@ fn are_within(lines: u16, stops: &[u16]) -> bool
 }
 
 /// Whether a channel is 2 to 11, and its stops rise and are lines of a form.
-fn is_good_tape(lines: u16, channel: u16, stops: &[u16]) -> bool
+pub fn is_good_tape(lines: u16, channel: u16, stops: &[u16]) -> bool
     ensures { result ≡ rule.is_good_tape lines channel stops.now }
 {
     2 <= channel && channel <= 11 && rise_above(0, stops) && are_within(lines, stops)
