@@ -160,7 +160,7 @@ const AROUND: Word = Word::Value {
     name: "AROUND",
     long: "page",
     value: "N",
-    help: "shows page N with its neighbours, and the cycles from the card of the first line to the card of the last",
+    help: "shows page N and the pages next to it, with the cards and cycles of their lines",
 };
 
 const CHECK_FIRST: Word = Word::Flag {

@@ -1,5 +1,5 @@
 -- The slips of a line that no form derives: bytes that no line of a chart has, or none outside of its literals.
-use Rattle.std.specs.Prelude.{ℕ, ◌+◌, ◌==◌, ◌&&◌, ◌||◌, Bool, false, List, [], ◌∷◌, Option, Some, None, position, fold, is_some, nat_le, not, if◌then◌else◌}
+use Rattle.std.specs.Prelude.{ℕ, ◌+◌, ◌==◌, ◌&&◌, ◌||◌, Bool, false, List, [], ◌∷◌, Option, Some, None, position, is_some, nat_le, not, if◌then◌else◌}
 use Rattle.std.specs.List.{list_any}
 use Rattle.charts.specs.Literal.{is_printable}
 use Rattle.line_marks.specs.Spans.{span_of}
@@ -35,9 +35,14 @@ is_unprintable byte = not (is_printable byte) && not (is_apostrophe byte)
 abbrev pub is_open : Bool → ℕ → Bool
 is_open before byte = if is_apostrophe byte then not before else before
 
--- whether an odd number of bytes are apostrophes
-abbrev pub is_unclosed : List ℕ → Bool
-is_unclosed line = fold is_open false line
+-- where the apostrophe stands that is open behind a byte at a place, if one is: each one closes the one that is open before it
+abbrev pub open_behind : Option ℕ → (place byte : ℕ) → Option ℕ
+open_behind before place byte = if is_apostrophe byte then (if is_some before then None else Some place) else before
+
+-- where the apostrophe stands that none closes, in bytes that begin at a place, behind one that is open or none
+unfoldable pub unclosed_from : Option ℕ → ℕ → List ℕ → Option ℕ
+unclosed_from before place [] = before
+unclosed_from before place (byte ∷ bytes) = unclosed_from (open_behind before place byte) (place + 1) bytes
 
 -- where the first sign of a comment stands outside of literals, in bytes that begin at a place, behind an apostrophe that is open or none
 unfoldable pub comment_from : Bool → ℕ → List ℕ → Option ℕ
@@ -51,7 +56,7 @@ slip_of line =
     if list_any is_tab line then slip.Tab
     else if is_some (comment_from false 0 line) then slip.Comment
     else if list_any is_quotation line then slip.Quotation
-    else if is_unclosed line then slip.Unclosed
+    else if is_some (unclosed_from None 0 line) then slip.Unclosed
     else if list_any is_small line then slip.Small
     else if list_any is_unprintable line then slip.Unprintable
     else slip.Other
@@ -66,9 +71,10 @@ is_sign slip.Small byte = is_small byte
 is_sign slip.Unprintable byte = is_unprintable byte
 is_sign slip.Other byte = false
 
--- where the first byte stands by which a slip is known: that of a comment outside of literals
+-- where the first byte stands by which a slip is known: that of a comment outside of literals, and the apostrophe that none closes
 unfoldable pub sign_place : Slip → List ℕ → Option ℕ
 sign_place slip.Comment line = comment_from false 0 line
+sign_place slip.Unclosed line = unclosed_from None 0 line
 sign_place other line = position (is_sign other) line
 
 -- one byte of a line

@@ -1,6 +1,6 @@
 //! The slips of a line that no form derives.
 
-ghost use Rattle.std.specs.Prelude.{◌≡◌, ◌<◌, ◌≤◌, false, length, position, IfSome};
+ghost use Rattle.std.specs.Prelude.{◌≡◌, ◌<◌, ◌≤◌, false, length, position, IfSome, None};
 ghost use Rattle.std.specs.List.{list_any};
 ghost use Rattle.line_slips.specs.Slips as law;
 
@@ -16,7 +16,7 @@ pub enum Slip {
     Comment,
     /// It has a quotation mark, or a byte that is no ASCII.
     Quotation,
-    /// It has an odd number of apostrophes.
+    /// It has an apostrophe that none closes.
     Unclosed,
     /// It has a small letter.
     Small,
@@ -55,15 +55,19 @@ fn is_unprintable(byte: u8) -> bool
     !is_printable && byte != b'\''
 }
 
-/// Whether an odd number of bytes are apostrophes.
-fn is_unclosed(line: &[u8]) -> bool
-    ensures { result ≡ law.is_unclosed line.now }
+/// Where the apostrophe stands that none closes, if there is one.
+#[tactic(auto, unfolding(crate::specs::Slips::unclosed_from))]
+fn unclosed_place(line: &[u8]) -> Option<usize>
+    ensures value { result ≡ law.unclosed_from None 0 line.now }
+    ensures within { IfSome result (λ place. place < length line.now) }
 {
-    let mut unclosed = false;
-    for byte in line {
-        unclosed ^= *byte == b'\'';
+    let mut open = None;
+    for (place, byte) in line.iter().enumerate() {
+        if *byte == b'\'' {
+            open = if open.is_some() { None } else { Some(place) };
+        }
     }
-    unclosed
+    open
 }
 
 /// Where the first sign of a comment stands outside of literals.
@@ -121,7 +125,7 @@ pub fn slip_of(line: &[u8]) -> Slip
         Slip::Comment
     } else if has_quotation(line) {
         Slip::Quotation
-    } else if is_unclosed(line) {
+    } else if unclosed_place(line).is_some() {
         Slip::Unclosed
     } else if has_small(line) {
         Slip::Small
@@ -161,10 +165,10 @@ fn sign_place(line: &[u8], slip: Slip) -> Option<usize>
     ensures value { result ≡ law.sign_place slip line.now }
     ensures within { IfSome result (λ place. place < length line.now) }
 {
-    if slip == Slip::Comment {
-        comment_place(line)
-    } else {
-        byte_place(line, slip)
+    match slip {
+        Slip::Comment => comment_place(line),
+        Slip::Unclosed => unclosed_place(line),
+        _ => byte_place(line, slip),
     }
 }
 

@@ -1,30 +1,19 @@
--- A rule that marks a printed character holds no markup.
-use Rattle.std.proofs.Common.{◌≡◌, ◌∙◌, refl, ap, sym, arith, ℕ, ◌+◌, ◌<◌, ◌^◌, ◌%◌, Bool, true, List, [], ◌∷◌, ◌++◌, append-nil, append_assoc, codes, decimal}
-use Rattle.std.specs.Prelude.{◌&&◌, OnOk, Result}
+-- The rules that mark printed characters, line by line; and they hold no markup.
+use Rattle.std.proofs.Common.{◌≡◌, ◌∙◌, refl, ap, arith, ℕ, ◌+◌, ◌<◌, ◌^◌, ◌%◌, Bool, true, false, List, [], ◌∷◌, ◌++◌, codes, decimal}
+use Rattle.std.specs.Prelude.{◌&&◌, ◌==◌, if◌then◌else◌}
 use Rattle.std.specs.List.{list_all}
 use Rattle.std.proofs.lemmas.Bool.{and_from}
 use Rattle.std.proofs.lemmas.Bool.Decides.{nat_tests}
 use Rattle.std.proofs.lemmas.Fmt.{decimal_by_steps}
 use Rattle.std.proofs.lemmas.List.Folds.{list_all-append}
-use Rattle.markup.proofs.Pieces.{where_ok}
-use Rattle.markup.specs.Pieces.{GainsOne}
+use Rattle.page_text.specs.declared.placed_lines.placed_line.PlacedLine.{PlacedLine}
 use Rattle.show_page.specs.Frame.{IsStyle, is_of_style}
-use Rattle.show_page.specs.Marks.{page_rule}
+use Rattle.show_page.specs.Marks.{page_rule, page_rules, rule_behind, rules_behind}
 
 -- a style sheet behind another is one
 pub style_append : (one other : List ℕ) → IsStyle one → IsStyle other → IsStyle (one ++ other)
 style_append one other first next =
     list_all-append is_of_style one other ∙ ap (λ (b : Bool). b && list_all is_of_style other) first ∙ next
-
-pub style_none : (old : List ℕ) → GainsOne IsStyle old old
-style_none old = record { text = []; is = refl; gained = sym (append-nil old) }
-
-pub style_more : (old mid new : List ℕ) → GainsOne IsStyle old mid → GainsOne IsStyle mid new → GainsOne IsStyle old new
-style_more old mid new first next = record {
-  text = first.text ++ next.text;
-  is = style_append first.text next.text first.is next.is;
-  gained = next.gained ∙ ap (λ (l : List ℕ). l ++ next.text) first.gained ∙ append_assoc old first.text next.text;
-}
 
 -- a digit, and a number
 digit_is_of_style : (digit : ℕ) → digit < 10 → is_of_style (48 + digit) ≡ true
@@ -52,9 +41,13 @@ page_rule_is_style page low =
     (numbered target sheet page low (style_append (codes "body:has(>aside>:target[id^=p") (decimal page) refl (number_is_style page low)) refl)
     refl
 
--- what is gained with it
-pub page_rule_gained : {A E : Type 0} (result : Result A E) (old new : List ℕ) (page : ℕ) → page < 2 ^ 64
-    → OnOk result (new ≡ old ++ page_rule page) → OnOk result (GainsOne IsStyle old new)
-page_rule_gained result old new page low =
-    where_ok (new ≡ old ++ page_rule page) (GainsOne IsStyle old new) result
-    (λ gained. record { text = page_rule page; is = page_rule_is_style page low; gained = gained })
+pub rule_behind_is_style : (before page : ℕ) → page < 2 ^ 64 → IsStyle (rule_behind before page)
+rule_behind_is_style before page low = by (page == before) where
+  by : (same : Bool) → IsStyle (if same then [] else page_rule page)
+  by true = refl
+  by false = page_rule_is_style page low
+
+-- What is written so far, with the rules of the lines that are left, is what is to be written. These hold no markup if those don't.
+pub record RulesLeft (old text : List ℕ) (before : ℕ) (left lines : List PlacedLine) : Type 0 where
+  pub rules : text ++ rules_behind before left ≡ old ++ page_rules lines
+  pub style : IsStyle (rules_behind before left) → IsStyle (page_rules lines)

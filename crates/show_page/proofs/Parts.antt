@@ -3,7 +3,6 @@ use Rattle.std.proofs.Common.{◌≡◌, ◌∙◌, sym, ap, subst, ℕ, ◌+◌
 use Rattle.std.specs.Prelude.{All, IfOk, Result, Ok, Err, String, map}
 use Rattle.std.specs.declared.alloc.Global.{Global}
 use Rattle.std.proofs.lemmas.List.{map-append, take_more}
-use Rattle.std.proofs.lemmas.List.Elements.{All-cons, All-head, All-nil, All-tail, Contains-get_or}
 use Rattle.card_sections.specs.Sections.{sections_text}
 use Rattle.charts.specs.declared.chart.Line.{Line}
 use Rattle.cycle_steps.specs.Steps.{IsStepSection, links_text}
@@ -33,6 +32,7 @@ use Rattle.show_page.specs.Choice.{cycles_shown, pages_shown}
 use Rattle.show_page.specs.Cycles.{shown_cycles}
 use Rattle.show_page.specs.Frame.{document_close, stage_open}
 use Rattle.show_page.specs.Helper.{GainsBody, GainsHead}
+use Rattle.show_page.specs.Marks.{page_rules}
 use Rattle.show_page.specs.Page.{IsPage, cards_part, counts_of, lines_shown, page_text, sheets_part, unasked}
 use Rattle.show_page.specs.Shown.{cards_shown, shown_cards, shown_run}
 use Rattle.show_page.specs.Titles.{head_text, heading_of}
@@ -90,7 +90,7 @@ pub page_whole : (wiring : Wiring) (asked : List (String Global × Wiring)) (tot
     → AreShown wiring deck (pages_shown around (length deck)) placed found
     → IsTracePart wiring deck (cycles_shown around (length deck) found) part
     → AreTold wiring asked deck (printed_places placed) told → AreSums wiring totals deck told sums → none ≡ []
-    → GainsHead (heading_of chart) (record { cards = length deck; lines = part.lines; wires = length wires }) none one
+    → GainsHead (heading_of chart) (record { cards = length deck; lines = part.lines; wires = length wires }) placed none one
     → two ≡ one ++ sheets_part (cards_shown (cycles_shown around (length deck) found) (length deck)) around (length deck) placed found
     wiring.tape.lines
     → three ≡ two ++ cards_part chart (cards_shown (cycles_shown around (length deck) found) (length deck))
@@ -106,13 +106,14 @@ page_whole wiring asked totals deck chart around placed found part wires told su
     let run = shown_run choice cards part in
     let same : placed ≡ lines_shown around cards traced.lines = are.placed_are traced.lines traced.prints in
     let head =
-    subst (λ (n : ℕ). GainsHead (heading_of chart) (record { cards = cards; lines = n; wires = length wires }) none one)
-    traced.counted first in
+    subst (λ (l : List PlacedLine). GainsHead (heading_of chart) (counts_of deck traced.lines wires) l none one) same
+    (subst (λ (n : ℕ). GainsHead (heading_of chart) (record { cards = cards; lines = n; wires = length wires }) placed none one)
+    traced.counted first) in
     record {
-      style = head.style;
-      is_style = head.is_style;
       lines = traced.lines;
       run = traced.prints;
+      style = head.style;
+      is_style = head.is_style;
       found = found;
       are_found = subst (λ (l : List PlacedLine). AreFoundLines wiring deck l found) same are.found_are;
       told = told;
@@ -128,7 +129,9 @@ page_whole wiring asked totals deck chart around placed found part wires told su
       part = part;
       traced = traced;
       spelled =
-          let of_head = head_text head.style (heading_of chart) (counts_of deck traced.lines wires) in
+          let of_head =
+          head_text (head.style ++ page_rules (lines_shown around cards traced.lines)) (heading_of chart)
+          (counts_of deck traced.lines wires) in
           let sheets_text = sheets_part run.cards around cards (lines_shown around cards traced.lines) found wiring.tape.lines in
           let sheets_are : two ≡ one ++ sheets_text =
           sheets ∙ ap (λ (l : List PlacedLine). one ++ sheets_part run.cards around cards l found wiring.tape.lines) same in

@@ -34,7 +34,7 @@ first_character (told ∷ others) = character_entry told
 
 -- the link to the first card that is shown, which has this number; an empty deck has none
 unfoldable pub card_words : List ℕ
-card_words = codes "A card</a>: its holes, and what stands in the fields of the chart</li>\n"
+card_words = codes "A card</a>: its holes, and what became of it</li>\n"
 
 unfoldable pub card_entry : (first : ℕ) → List ℕ
 card_entry first = codes "<li>" ++ card_open first ++ card_words
@@ -45,7 +45,7 @@ first_card first (card ∷ others) = card_entry first
 
 -- the link to the first wire; a panel without one has none
 unfoldable pub wire_words : List ℕ
-wire_words = codes "<li><a href=\"#wire1\">A wire</a>: who asks for it, and the characters of which a way leads through it</li>\n"
+wire_words = codes "<li><a href=\"#wire1\">A wire</a>: which hubs it joins, and the characters of which a way leads through it</li>\n"
 
 abbrev pub first_wire : List PanelWire → List ℕ
 first_wire [] = []

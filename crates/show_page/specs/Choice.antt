@@ -22,10 +22,12 @@ abbrev pub last_card : (card : ℕ) → List FoundLine → ℕ
 last_card card [] = card
 last_card card (one ∷ others) = last_card one.cards others
 
--- the cycles of the cards from that of the first line to that of the last one: 1000 at most
+-- The cycles of the cards from the one before that of the first line to that of the last one: 1000 at most. Heading cycles before a card cycle
+-- belong to the card that is read next, but run while the card before it is the one that was read last; a trace counts them by that one. So
+-- the cycle of each line is among them, up to that limit.
 abbrev pub cycles_of_lines : List FoundLine → CycleChoice
 cycles_of_lines [] = record { first_card = 1; last_card = 0; most = 0 }
-cycles_of_lines (one ∷ others) = record { first_card = one.cards; last_card = last_card one.cards others; most = 1000 }
+cycles_of_lines (one ∷ others) = record { first_card = one.cards - 1; last_card = last_card one.cards others; most = 1000 }
 
 -- The cycles that are shown: those of the lines around a page; or, around none, the first 200, but all of a deck of 200 cards at most.
 abbrev pub cycles_shown : (around : Option ℕ) → (cards : ℕ) → List FoundLine → CycleChoice

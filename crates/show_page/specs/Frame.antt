@@ -24,11 +24,11 @@ header_open = codes "</style></head><body>\n<header><p class=\"kind\">A report o
 
 -- what is said where only the first pages and cycles are shown
 unfoldable pub cut_words : List ℕ
-cut_words = codes "<p class=\"cut\">The deck has more than 200 cards: its first two pages, its first 200 cards and its first 200 cycles are shown.</p>\n"
+cut_words = codes "<p class=\"cut\">The deck has more than 200 cards: at most its first two pages, its first 200 cards and its first 200 cycles are shown.</p>\n"
 
 -- what is said where the pages around one are shown
 unfoldable pub around_words : (page : ℕ) → List ℕ
-around_words page = codes "<p class=\"cut\">This is page " ++ decimal page ++ codes " of the report with its neighbours, and the cards and cycles from the card of the first line to the card of the last: 200 cards and 1000 cycles at most.</p>\n"
+around_words page = codes "<p class=\"cut\">This is page " ++ decimal page ++ codes " of the report with the pages next to it, if any. The cards and cycles begin with the card before that of the first line, if any, and end with the card of the last line: 200 cards and 1000 cycles at most.</p>\n"
 
 -- what stands before the sheets: a link to the report, one to the cards, where some are shown, and the others, up to how many characters the
 -- widest line has
@@ -39,7 +39,7 @@ unfoldable pub cards_link : List ℕ
 cards_link = codes "<a href=\"#cards\">Cards</a> "
 
 unfoldable pub main_open : List ℕ
-main_open = codes "<a href=\"#panel\">Panel</a> <a href=\"#chart\">Chart</a></nav>\n<h2 id=\"report\">The report</h2>\n<p>Each printed character is a link. The word at the left of a line tells which cycle printed it: that of a card, or the total of a level. The total of the whole deck is the final one.</p>\n<div class=\"sheets\" style=\"--n:"
+main_open = codes "<a href=\"#panel\">Panel</a> <a href=\"#chart\">Chart</a></nav>\n<h2 id=\"report\">The report</h2>\n<p>Each printed character is a link. The word at the left of a line tells which cycle printed it: one for a heading, that of a card, or one for the totals of a level. The final one comes after the last card.</p>\n<div class=\"sheets\" style=\"--n:"
 
 -- what stands behind that
 unfoldable pub sheets_open : List ℕ
@@ -55,11 +55,11 @@ cards_open = codes "<h2 id=\"cards\">The cards</h2>\n<p>The cards as they were r
 
 -- what stands before the drawing
 unfoldable pub panel_open : List ℕ
-panel_open = codes "<h2>The panel</h2>\n<p>Impulses leave the machine at the hubs above, and come back to it at those below. A wire has the colour of the line that asks for it. The drawing is our own schematic, not the real layout of the machine.</p>\n<div class=\"board\">\n"
+panel_open = codes "<h2>The panel</h2>\n<p>Impulses leave the machine at the hubs above, and come back to it at those below. The drawing is our own schematic, not the real layout of the machine.</p>\n<div class=\"board\">\n"
 
 -- what stands before the legend of a chart
 unfoldable pub legend_open : List ℕ
-legend_open = codes "</div>\n<h2 id=\"chart\">What each line asks for</h2>\n<p>The wires for which a line asks have its colour.</p>\n<div class=\"legend\">\n"
+legend_open = codes "</div>\n<h2 id=\"chart\">What each line asks for</h2>\n<p>A wire has the colour of the first line that asks for it.</p>\n<div class=\"legend\">\n"
 
 -- what stands around the text of a wiring chart
 unfoldable pub wiring_open : List ℕ

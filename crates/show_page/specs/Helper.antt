@@ -6,6 +6,7 @@ use Rattle.cycle_steps.specs.Steps.{AreStepSections, links_text}
 use Rattle.explanations.specs.declared.found.FoundLine.{FoundLine}
 use Rattle.page_links.specs.declared.shown.ShownRun.{ShownRun}
 use Rattle.drawings.specs.PanelDrawing.Drawing.{IsDrawing}
+use Rattle.page_text.specs.declared.placed_lines.placed_line.PlacedLine.{PlacedLine}
 use Rattle.setups.specs.Wiring.{Wiring}
 use Rattle.drawings.specs.declared.panel_drawing.drawing.PanelWire.{PanelWire}
 use Rattle.page_sections.specs.WheelSections.Sections.{told_sections}
@@ -19,14 +20,15 @@ use Rattle.wheel_ledgers.specs.declared.chart_totals.TitledAccount.{TitledAccoun
 use Rattle.show_page.specs.Begin.{begin_text}
 use Rattle.show_page.specs.Cycles.{shown_cycles}
 use Rattle.show_page.specs.Frame.{IsStyle, document_close, stage_open}
+use Rattle.show_page.specs.Marks.{page_rules}
 use Rattle.show_page.specs.Titles.{head_text}
 use Rattle.show_page.specs.declared.head.RunCounts.{RunCounts}
 
--- the head, with a style sheet
-pub record GainsHead (heading : List ℕ) (counts : RunCounts) (old new : List ℕ) : Type 0 where
+-- the head, with a style sheet that has the rules of some lines behind the others
+pub record GainsHead (heading : List ℕ) (counts : RunCounts) (lines : List PlacedLine) (old new : List ℕ) : Type 0 where
   pub style : List ℕ
-  pub is_style : IsStyle style
-  pub gained : new ≡ old ++ head_text style heading counts
+  pub is_style : IsStyle (style ++ page_rules lines)
+  pub gained : new ≡ old ++ head_text (style ++ page_rules lines) heading counts
 
 -- the drawing, the legend, where to begin, what is told of wheels, of sums at these places, of the cards that are shown and of wires, the
 -- cycles of a part of the trace, and the points of those that printed these lines

@@ -1,6 +1,6 @@
 -- The page of a setup and a deck: the printed pages, the drawing of the panel, the legend, an explanation of each printed character, and
 -- what came through each wire, and the cycles of the run.
-use Rattle.std.specs.Prelude.{◌≡◌, ℕ, Bool, List, [], ◌∷◌, ◌++◌, decimal, Option, None, Some, String, if◌then◌else◌, length, map, nat_le}
+use Rattle.std.specs.Prelude.{◌≡◌, ℕ, Bool, List, [], ◌++◌, decimal, Option, None, Some, String, if◌then◌else◌, length, map, nat_le}
 use Rattle.std.specs.declared.alloc.Global.{Global}
 use Rattle.drawings.specs.CardDrawing.Drawings.{shapes_text}
 use Rattle.card_sections.specs.Decks.{deck_text}
@@ -43,6 +43,7 @@ use Rattle.show_page.specs.Begin.{begin_text}
 use Rattle.show_page.specs.Choice.{cycles_shown, first_shown, pages_shown}
 use Rattle.show_page.specs.Cycles.{shown_cycles}
 use Rattle.show_page.specs.Frame.{IsStyle, around_words, cards_link, cards_open, cut_words, document_close, legend_open, main_open, nav_open, panel_open, sheets_close, sheets_open, stage_open, wiring_close, wiring_open}
+use Rattle.show_page.specs.Marks.{page_rules}
 use Rattle.show_page.specs.Shown.{shown_cards, shown_run}
 use Rattle.show_page.specs.Titles.{head_text, heading_of}
 use Rattle.show_page.specs.declared.head.RunCounts.{RunCounts}
@@ -86,7 +87,7 @@ unfoldable pub page_text : (style : List ℕ) → (chart : List Line) → (aroun
     → TracePart → List PlacedLine → List FoundLine → (long : ℕ) → List PanelWire → (drawing legend : List ℕ) → List TitledAccount
     → List ToldWheel → List PageSum → (ways steps : List ℕ) → List ℕ
 page_text style chart around run cards counts part lines found long wires drawing legend totals told sums ways steps =
-    head_text style (heading_of chart) counts
+    head_text (style ++ page_rules lines) (heading_of chart) counts
     ++ sheets_part run.cards around counts.cards lines found long
     ++ cards_part chart run.cards cards
     ++ drawing
@@ -114,14 +115,14 @@ counts_of deck lines wires = record { cards = length deck; lines = length lines;
 -- machine prints those that are shown, each with the cycle that printed it, each card that is shown is drawn, and each wire of the list is
 -- drawn once; each printed character that is shown is told of, where it is known who asks for wires, and has its element, and so have the
 -- sums behind them, by the totals that are known, each card that is shown, and each wire, with what came through it and the sums that its
--- counter held; the cycles are those of
--- the run that are shown; and each line that is shown has the points of the cycle that printed it.
+-- counter held; the cycles are those of the run that are shown; each line that is shown has the points of the cycle that printed it; and the
+-- style sheet has a rule for each page that is shown with a line, behind rules that nothing is said of but that they hold no markup.
 pub record IsPage (wiring : Wiring) (asked : List (String Global × Wiring)) (totals : List TitledAccount) (deck : List (List ℕ))
     (chart : List Line) (wires : List PanelWire) (legend : List ℕ) (around : Option ℕ) (text : List ℕ) : Type 0 where
-  pub style : List ℕ
-  pub is_style : IsStyle style
   pub lines : List PlacedLine
   pub run : MachineLines wiring deck lines
+  pub style : List ℕ
+  pub is_style : IsStyle (style ++ page_rules (lines_shown around (length deck) lines))
   pub found : List FoundLine
   pub are_found : AreFoundLines wiring deck (lines_shown around (length deck) lines) found
   pub told : List ToldWheel

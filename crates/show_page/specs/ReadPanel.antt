@@ -17,7 +17,7 @@ use Rattle.show_page.specs.Page.{IsPage}
 
 -- what stands before the legend
 unfoldable pub read_open : List ℕ
-read_open = codes "</div>\n<h2 id=\"chart\">The chart for which the panel is wired</h2>\n<p>It was read off the wires, jacks and stops of <a href=\"#wiring\">the wiring chart</a> below. The wires for which a line asks have its colour.</p>\n<div class=\"legend\">\n"
+read_open = codes "</div>\n<h2 id=\"chart\">The chart for which the panel is wired</h2>\n<p>It was read off the wires, jacks and stops of <a href=\"#wiring\">the wiring chart</a> below. A wire has the colour of the first line that asks for it.</p>\n<div class=\"legend\">\n"
 
 -- what stands between the legend and the text of the wiring chart
 unfoldable pub given_open : List ℕ

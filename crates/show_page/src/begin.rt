@@ -48,7 +48,7 @@ fn write_character_words(text: &mut String) -> Result<(), AllocError>
 fn write_card_words(text: &mut String) -> Result<(), AllocError>
     ensures { OnOk result (string_bytes text.new ≡ string_bytes text.old ++ card_words) }
 {
-    text.push_str("A card</a>: its holes, and what stands in the fields of the chart</li>\n")
+    text.push_str("A card</a>: its holes, and what became of it</li>\n")
 }
 
 #[tactic(auto, unfolding(crate::specs::Begin::wire_words))]
@@ -57,7 +57,7 @@ fn write_wire_words(text: &mut String) -> Result<(), AllocError>
     ensures { OnOk result (string_bytes text.new ≡ string_bytes text.old ++ wire_words) }
 {
     text.push_str(
-        "<li><a href=\"#wire1\">A wire</a>: who asks for it, and the characters of which a way leads through it</li>\n",
+        "<li><a href=\"#wire1\">A wire</a>: which hubs it joins, and the characters of which a way leads through it</li>\n",
     )
 }
 

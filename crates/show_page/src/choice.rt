@@ -93,13 +93,14 @@ fn last_card(card: u32, found: &[FoundLine]) -> u32
     last
 }
 
-// The cycles from those of the first of some lines to those of the last one.
+// The cycles from those of the card before the first of some lines to those of the last one. (A trace has the headings before a card's
+// cycle among the cycles of the card before.)
 fn cycles_of_lines(found: &[FoundLine]) -> CycleChoice
     ensures { result ≡ cycles_of_lines found.now }
 {
     match found.split_first() {
         Some((one, others)) => CycleChoice {
-            first_card: one.cards,
+            first_card: one.cards.saturating_sub(1),
             last_card: last_card(one.cards, others),
             most: 1000,
         },

@@ -132,7 +132,7 @@ pub(crate) fn write_cut_words(text: &mut String) -> Result<(), AllocError>
     ensures { OnOk result (string_bytes text.new ≡ string_bytes text.old ++ cut_words) }
 {
     text.push_str(
-        "<p class=\"cut\">The deck has more than 200 cards: its first two pages, its first 200 cards and its first 200 cycles are shown.</p>\n",
+        "<p class=\"cut\">The deck has more than 200 cards: at most its first two pages, its first 200 cards and its first 200 cycles are shown.</p>\n",
     )
 }
 
@@ -145,7 +145,7 @@ pub(crate) fn write_around_words(text: &mut String, page: u32) -> Result<(), All
         text,
         "<p class=\"cut\">This is page ",
         page,
-        " of the report with its neighbours, and the cards and cycles from the card of the first line to the card of the last: 200 cards and 1000 cycles at most.</p>\n",
+        " of the report with the pages next to it, if any. The cards and cycles begin with the card before that of the first line, if any, and end with the card of the last line: 200 cards and 1000 cycles at most.</p>\n",
     )
 }
 
@@ -171,7 +171,7 @@ pub(crate) fn write_main_open(text: &mut String) -> Result<(), AllocError>
     ensures { OnOk result (string_bytes text.new ≡ string_bytes text.old ++ main_open) }
 {
     text.push_str(
-        "<a href=\"#panel\">Panel</a> <a href=\"#chart\">Chart</a></nav>\n<h2 id=\"report\">The report</h2>\n<p>Each printed character is a link. The word at the left of a line tells which cycle printed it: that of a card, or the total of a level. The total of the whole deck is the final one.</p>\n<div class=\"sheets\" style=\"--n:",
+        "<a href=\"#panel\">Panel</a> <a href=\"#chart\">Chart</a></nav>\n<h2 id=\"report\">The report</h2>\n<p>Each printed character is a link. The word at the left of a line tells which cycle printed it: one for a heading, that of a card, or one for the totals of a level. The final one comes after the last card.</p>\n<div class=\"sheets\" style=\"--n:",
     )
 }
 
@@ -207,7 +207,7 @@ pub(crate) fn write_panel_open(text: &mut String) -> Result<(), AllocError>
     ensures { OnOk result (string_bytes text.new ≡ string_bytes text.old ++ panel_open) }
 {
     text.push_str(
-        "<h2>The panel</h2>\n<p>Impulses leave the machine at the hubs above, and come back to it at those below. A wire has the colour of the line that asks for it. The drawing is our own schematic, not the real layout of the machine.</p>\n<div class=\"board\">\n",
+        "<h2>The panel</h2>\n<p>Impulses leave the machine at the hubs above, and come back to it at those below. The drawing is our own schematic, not the real layout of the machine.</p>\n<div class=\"board\">\n",
     )
 }
 
@@ -217,7 +217,7 @@ pub(crate) fn write_legend_open(text: &mut String) -> Result<(), AllocError>
     ensures { OnOk result (string_bytes text.new ≡ string_bytes text.old ++ legend_open) }
 {
     text.push_str(
-        "</div>\n<h2 id=\"chart\">What each line asks for</h2>\n<p>The wires for which a line asks have its colour.</p>\n<div class=\"legend\">\n",
+        "</div>\n<h2 id=\"chart\">What each line asks for</h2>\n<p>A wire has the colour of the first line that asks for it.</p>\n<div class=\"legend\">\n",
     )
 }
 

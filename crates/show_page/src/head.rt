@@ -171,7 +171,7 @@ pub(crate) fn write_head(
     counts: RunCounts,
     lines: &[PlacedLine],
 ) -> Result<(), AllocError>
-    ensures { OnOk result (GainsHead heading.now counts (string_bytes text.old) (string_bytes text.new)) }
+    ensures { OnOk result (GainsHead heading.now counts lines.now (string_bytes text.old) (string_bytes text.new)) }
 {
     write_document_open(text)?;
     write_title(text, heading, counts.cards)?;

@@ -2,9 +2,8 @@
 
 ghost use Rattle.std.specs.Prelude.{◌≡◌, ◌++◌, codes, decimal, OnOk};
 ghost use Rattle.std.specs.String.{string_bytes};
-ghost use Rattle.markup.specs.Pieces.{GainsOne};
 ghost use Rattle.show_page.specs.Frame.{IsStyle};
-ghost use Rattle.show_page.specs.Marks.{page_rule};
+ghost use Rattle.show_page.specs.Marks.{page_rule, page_rules, rule_behind};
 
 use numerals::{push_between, push_number};
 use page_text::placed_lines::PlacedLine;
@@ -24,24 +23,27 @@ fn push_page_rule(text: &mut String, page: u64) -> Result<(), AllocError>
     text.push_str("{--lt:inherit;--lu:inherit;--wt:inherit;--wu:inherit}\n")
 }
 
-#[tactic(auto, using(crate::proofs::MarkRules::page_rule_gained))]
-// The rule of a page, in a style sheet.
-fn write_page_rule(text: &mut String, page: u64) -> Result<(), AllocError>
-    ensures { OnOk result (GainsOne IsStyle (string_bytes text.old) (string_bytes text.new)) }
+#[tactic(auto, using(crate::proofs::MarkRules::rule_behind_is_style))]
+// The rule of a page behind a line of another one, or of the same.
+fn write_rule_behind(text: &mut String, before: u64, page: u64) -> Result<(), AllocError>
+    ensures rule { OnOk result (string_bytes text.new ≡ string_bytes text.old ++ rule_behind before page) }
+    ensures style { IsStyle (rule_behind before page) }
 {
-    push_page_rule(text, page)
+    if page == before {
+        Ok(())
+    } else {
+        push_page_rule(text, page)
+    }
 }
 
-#[tactic(auto, using(crate::proofs::MarkRules::style_none, crate::proofs::MarkRules::style_more))]
-// The rules that mark a character of some lines, one for each page: pages are counted from 1.
+// The rules that mark a character of some lines, one for each page: the lines come page by page, and pages are counted from 1.
 pub(crate) fn write_marks(text: &mut String, lines: &[PlacedLine]) -> Result<(), AllocError>
-    ensures { OnOk result (GainsOne IsStyle (string_bytes text.old) (string_bytes text.new)) }
+    ensures rules { OnOk result (string_bytes text.new ≡ string_bytes text.old ++ page_rules lines.now) }
+    ensures style { OnOk result (IsStyle (page_rules lines.now)) }
 {
     let mut before = 0;
     for placed in lines {
-        if placed.page != before {
-            write_page_rule(text, placed.page)?;
-        }
+        write_rule_behind(text, before, placed.page)?;
         before = placed.page;
     }
     Ok(())

@@ -25,7 +25,7 @@ fn write_read_open(text: &mut String) -> Result<(), AllocError>
     ensures { OnOk result (string_bytes text.new ≡ string_bytes text.old ++ read_open) }
 {
     text.push_str(
-        "</div>\n<h2 id=\"chart\">The chart for which the panel is wired</h2>\n<p>It was read off the wires, jacks and stops of <a href=\"#wiring\">the wiring chart</a> below. The wires for which a line asks have its colour.</p>\n<div class=\"legend\">\n",
+        "</div>\n<h2 id=\"chart\">The chart for which the panel is wired</h2>\n<p>It was read off the wires, jacks and stops of <a href=\"#wiring\">the wiring chart</a> below. A wire has the colour of the first line that asks for it.</p>\n<div class=\"legend\">\n",
     )
 }
 

@@ -150,8 +150,8 @@ pub(crate) fn page(
 /// its fields hold, for each wire what came through it, for each cycle of the run what happened in it, and for each line which wires carried
 /// an impulse at the points of its cycle. `source` is the text of the chart.
 ///
-/// With `around` a page of the report is shown, the one before it and the one behind it, and the cards and cycles from the card of their first
-/// line to that of their last one, at most 200 cards and 1000 cycles. Without it all is shown, but of a deck of more than 200 cards the first
+/// With `around` a page of the report is shown, the one before it and the one behind it, and the cards and cycles from the card before that
+/// of their first line to that of their last one, at most 200 cards and 1000 cycles. Without it all is shown, but of a deck of more than 200 cards the first
 /// two pages, the first 200 cards and the first 200 cycles. Where not all is shown, the page says so. Its only refusal is memory.
 pub fn show_chart(
     alloc: Global,

@@ -1,10 +1,11 @@
 -- Into which sums something went: a card into those with an entry of its card cycle, a total into those with an entry of its cycle.
-use Rattle.std.specs.Prelude.{ℕ, ◌==◌, ◌&&◌, ◌||◌, Bool, false, true, List, [], ◌∷◌, ◌++◌, codes, if◌then◌else◌}
+use Rattle.std.specs.Prelude.{ℕ, ◌==◌, ◌&&◌, ◌||◌, Bool, false, true, List, [], ◌∷◌, ◌++◌, Option, Some, None, codes, if◌then◌else◌}
 use Rattle.std.specs.List.{flat_map}
 use Rattle.ledgers.specs.declared.entry.Entry.{Entry}
 use Rattle.net.specs.declared.cycle.Cycle.{Cycle}
 use Rattle.net.specs.declared.cycle.Cycle.TheVariants as in_cycle
 use Rattle.page_links.specs.SumPlaces.Places.{sum_open}
+use Rattle.wheel_ledgers.specs.declared.chart_totals.TitledAccount.{TitledAccount}
 use Rattle.sum_sections.specs.Labels.{label_text}
 use Rattle.sum_sections.specs.Targets.{same_amount}
 use Rattle.sum_sections.specs.declared.sums.PageSum.{PageSum}
@@ -18,9 +19,15 @@ has_entry (entry ∷ others) passed = (entry.passed == passed) || has_entry othe
 abbrev pub takes : PageSum → (passed : ℕ) → Bool
 takes sum passed = has_entry sum.ledger.first passed || has_entry sum.ledger.last passed
 
+-- How it came into a sum: into one of an amount of a chart it went. Of a sum without a name it isn't known whether an amount went into it, or
+-- only a count.
+abbrev pub into_words : Option TitledAccount → List ℕ
+into_words (Some total) = codes "<p>It went into "
+into_words None = codes "<p>It was counted in "
+
 -- a link to a sum, by what it is called
 unfoldable pub sum_link : PageSum → List ℕ
-sum_link sum = codes "<p>It went into " ++ sum_open sum.at ++ label_text sum ++ codes "</a>.</p>\n"
+sum_link sum = into_words sum.total ++ sum_open sum.at ++ label_text sum ++ codes "</a>.</p>\n"
 
 -- one of some entries is of the card cycle of the card with this number
 abbrev pub is_card_cycle : Cycle → Bool

@@ -57,7 +57,7 @@ sum_sections_text shown sums = flat_map (section_text shown sums) sums
 
 -- an entry of a list that links to the first sum, if there is one
 unfoldable pub sum_words : List ℕ
-sum_words = codes "A sum</a>: the cards or lower totals that made it, and what the counter held after each</li>\n"
+sum_words = codes "A sum</a>: how it came about, and what the counter held on the way</li>\n"
 
 unfoldable pub sum_entry : PageSum → List ℕ
 sum_entry sum = codes "<li>" ++ sum_open sum.at ++ sum_words

@@ -3,7 +3,7 @@
 ghost use Rattle.std.specs.Prelude.{◌≡◌, ◌++◌, codes, OnOk};
 ghost use Rattle.std.specs.List.{flat_map};
 ghost use Rattle.std.specs.String.{string_bytes};
-ghost use Rattle.sum_sections.specs.Into.{card_link, card_sums, has_card, has_entry, higher_link, higher_sums, is_card_cycle, is_of_card, sum_link, takes, takes_card};
+ghost use Rattle.sum_sections.specs.Into.{card_link, card_sums, has_card, has_entry, higher_link, higher_sums, into_words, is_card_cycle, is_of_card, sum_link, takes, takes_card};
 
 use crate::labels::write_label;
 use crate::sums::PageSum;
@@ -12,6 +12,7 @@ use ledgers::Entry;
 use net::Cycle;
 use page_links::sum_places::write_sum_open;
 use std::alloc::AllocError;
+use wheel_ledgers::TitledAccount;
 
 // Whether one of some entries is that of the cycle behind so many others.
 fn has_entry(entries: &[Entry], passed: u64) -> bool
@@ -32,12 +33,22 @@ fn takes(sum: &PageSum, passed: u64) -> bool
     has_entry(sum.ledger.first(), passed) || has_entry(sum.ledger.last(), passed)
 }
 
+// How something came into a sum.
+fn write_into(text: &mut String, total: &Option<TitledAccount>) -> Result<(), AllocError>
+    ensures { OnOk result (string_bytes text.new ≡ string_bytes text.old ++ into_words total.now) }
+{
+    match total {
+        Some(_) => text.push_str("<p>It went into "),
+        None => text.push_str("<p>It was counted in "),
+    }
+}
+
 #[tactic(auto, unfolding(crate::specs::Into::sum_link))]
 // A link to a sum, by what it is called.
 fn write_sum_link(text: &mut String, sum: &PageSum) -> Result<(), AllocError>
     ensures { OnOk result (string_bytes text.new ≡ string_bytes text.old ++ sum_link sum.now) }
 {
-    text.push_str("<p>It went into ")?;
+    write_into(text, &sum.total)?;
     write_sum_open(text, sum.at)?;
     write_label(text, sum)?;
     text.push_str("</a>.</p>\n")

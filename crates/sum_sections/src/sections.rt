@@ -168,9 +168,7 @@ pub fn write_sum_sections(
 fn write_words(text: &mut String) -> Result<(), AllocError>
     ensures { OnOk result (string_bytes text.new ≡ string_bytes text.old ++ sum_words) }
 {
-    text.push_str(
-        "A sum</a>: the cards or lower totals that made it, and what the counter held after each</li>\n",
-    )
+    text.push_str("A sum</a>: how it came about, and what the counter held on the way</li>\n")
 }
 
 #[tactic(auto, unfolding(crate::specs::Sections::sum_entry))]

@@ -1,5 +1,3 @@
-use Rattle.std.proofs.Common.{◌∙◌, subst, Some, ℕ, List}
-use Rattle.show_page.specs.ShownLines.Shown.{AreShown}
 use Rattle.show_page.proofs.choice.lines_around.Goals as goal
 
 pub returns : goal.returns

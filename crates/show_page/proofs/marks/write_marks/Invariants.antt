@@ -1,8 +1,9 @@
+use Rattle.std.specs.Prelude.{drop}
 use Rattle.std.specs.String.{string_bytes}
-use Rattle.markup.specs.Pieces.{GainsOne}
-use Rattle.show_page.specs.Frame.{IsStyle}
+use Rattle.show_page.proofs.MarkRules.{RulesLeft}
 use Rattle.show_page.proofs.marks.write_marks.Given as goal
 
--- the rules so far hold no markup
+-- the rules of the lines that are left are still to be written
 abbrev pub invariant-loop-placed : goal.invariant-loop-placed
-invariant-loop-placed l = GainsOne IsStyle (string_bytes l.initial.text) (string_bytes l.text)
+invariant-loop-placed l =
+    RulesLeft (string_bytes l.initial.text) (string_bytes l.text) l.before (drop l.placed-index l.lines) l.lines

@@ -1,7 +1,6 @@
 use Rattle.std.proofs.Common.{◌≡◌, ◌∙◌, ◌++◌, ap, subst, sym, ℕ, List, length}
 use Rattle.std.specs.Prelude.{All, map}
 use Rattle.std.specs.String.{string_bytes}
-use Rattle.explanations.specs.Pages.{AreFoundLines}
 use Rattle.explanations.specs.declared.found.FoundLine.{FoundLine}
 use Rattle.page_links.specs.declared.shown.ShownRun.{ShownRun}
 use Rattle.page_text.specs.declared.placed_lines.placed_line.PlacedLine.{PlacedLine}
@@ -68,8 +67,11 @@ returns c =
     c.in_ok-told.ensures)
     (subst (λ (l : List ToldWheel). AreSums setup totals deck l sums) c.deref-4.ensures.value c.in_ok-sums.ensures)
     c.new-text.ensures.bytes
-    (subst (λ (h : List ℕ). GainsHead h (record { cards = cards; lines = part.lines; wires = length wires }) none one)
-    c.heading_of.ensures c.in_ok-write_head.ensures)
+    (subst (λ (l : List PlacedLine).
+    GainsHead (heading_of chart) (record { cards = cards; lines = part.lines; wires = length wires }) l none one) c.deref-6.ensures.value
+    (subst (λ (h : List ℕ).
+    GainsHead h (record { cards = cards; lines = part.lines; wires = length wires }) c.deref-6.result.now none one)
+    c.heading_of.ensures c.in_ok-write_head.ensures))
     (subst (λ (r : ShownRun). two ≡ one ++ sheets_part r.cards around cards placed found setup.tape.lines) run
     (subst (λ (n : ℕ). two ≡ one ++ sheets_part c.shown_run-run.result.cards around cards placed found n) long
     (subst (λ (l : List PlacedLine). two ≡ one ++ sheets_part c.shown_run-run.result.cards around cards l found c.from-form_lines.result)
