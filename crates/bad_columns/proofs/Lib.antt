@@ -1,0 +1,4 @@
+mod Slips
+mod Rows
+mod Amounts
+mod Fields

@@ -1,6 +1,5 @@
 -- What was checked, by the text of the chart.
-use Rattle.std.proofs.Common.{◌≡◌, ◌≢◌, ◌⊎◌, inl, inr, ℕ, List, Option, Some, None, IfSome, Result, Ok, Err, OnOk, IfErr, codes, [], subst}
-use Rattle.std.specs.Io.KnownBytes.{Appends}
+use Rattle.std.proofs.Common.{◌≡◌, ◌≢◌, ◌⊎◌, inl, inr, ℕ, List, Option, Some, None, IfSome, Result, Ok, Err, OnOk, IfErr, subst}
 use Rattle.check_calls.specs.Served.{HasRunnableDeck, PrintsOk, StopsCheck, chart_refused, chart_unread, deck_told}
 use Rattle.commands.specs.Answers.{CompilesAs}
 use Rattle.compile407.specs.ChartFaults.{HasChartFault}

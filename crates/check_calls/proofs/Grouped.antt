@@ -1,15 +1,14 @@
 -- What was told of the keys that come back, by the text of the chart.
-use Rattle.std.proofs.Common.{◌≡◌, ◌≢◌, ◌∙◌, ◌⊎◌, inl, inr, refl, sym, ap, subst, ℕ, ◌+◌, ◌≤◌, List, [], ◌++◌, Option, Some, None, IfSome, Result, Ok, Err, IfErr, OnOk, length, take, arith, length-append}
+use Rattle.std.proofs.Common.{◌≡◌, ◌≢◌, ◌∙◌, ◌⊎◌, inl, inr, sym, subst, ℕ, List, ◌++◌, Option, Some, IfSome, Result, Ok, Err, IfErr, OnOk}
 use Rattle.std.proofs.KnownBytes.{Appends-trans}
-use Rattle.std.proofs.Math.Seq.{take_all}
 use Rattle.std.specs.Io.KnownBytes.{Appends}
 use Rattle.card_code.specs.Deck.{Deck, IsDeckText}
 use Rattle.charts.specs.Chart.{Chart}
 use Rattle.check_calls.proofs.TakenBehind.{taken_behind, taken_before}
-use Rattle.check_calls.specs.DeckChecks.Endings.{EndsCheck, IsFine, WritesFine}
+use Rattle.check_calls.specs.DeckChecks.Endings.{EndsCheck, WritesFine}
 use Rattle.check_calls.specs.DeckChecks.Fine.{fine_told}
 use Rattle.check_calls.specs.DeckChecks.HelperStanding.{BreaksOff}
-use Rattle.check_calls.specs.Grouped.{EndsGrouped, PrintsGrouped, StopsGrouped, WritesGrouped, checked, grouped_told, listed, memory_wanting, refused, unread, unwritten}
+use Rattle.check_calls.specs.Grouped.{EndsGrouped, PrintsGrouped, StopsGrouped, WritesGrouped, checked, listed, memory_wanting, refused, unread, unwritten}
 use Rattle.commands.proofs.Refusing.{chart_refused as refused_chart}
 use Rattle.commands.specs.Answers.{CompilesAs}
 use Rattle.compile407.specs.ChartFaults.{HasChartFault}

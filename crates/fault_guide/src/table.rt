@@ -13,7 +13,8 @@ pub struct FaultEntry {
     pub cause: &'static str,
     /// What helps.
     pub cure: &'static str,
-    /// A small input that has the fault, which the page doesn't show; empty if there is none.
+    /// A small input that has the fault, which the page doesn't show; empty if there is none. Its lines stand below one another, indented as far as
+    /// the first one is behind the word `example`.
     pub example: &'static str,
 }
 
@@ -87,7 +88,7 @@ static FIELD_RULES: [Words; 6] = [
         name: "NameTwice",
         cause: "a second FIELD with the same name",
         cure: "give it another name",
-        example: "FIELD A TEXT 1 2; FIELD A TEXT 3 4",
+        example: "FIELD A TEXT 1 2\n         FIELD A TEXT 3 4",
     },
     Words {
         name: "Columns",
@@ -111,13 +112,13 @@ static FIELD_RULES: [Words; 6] = [
         name: "WrongKind",
         cause: "an amount in CONTROL, INDICATE or a TOTAL without digits, or a text with MARK or total digits",
         cure: "a total needs its digits; only amounts have marks",
-        example: "FIELD A TEXT 1 2; DETAIL 1 A MARK CR",
+        example: "FIELD A TEXT 1 2\n         DETAIL 1 A MARK CR",
     },
     Words {
         name: "LineTwice",
         cause: "a second PRINT or FORM; a second SPACE or AFTER of one kind of line; a second TAPE of one channel; a CONTROL of the same level and name again; a name twice on the DETAIL lines or on the TOTAL lines of one level",
         cure: "take one of them out",
-        example: "PRINT DETAIL; PRINT GROUP",
+        example: "PRINT DETAIL\n         PRINT GROUP",
     },
 ];
 
@@ -139,19 +140,19 @@ static TOTAL_RULES: [Words; 5] = [
         name: "DigitsRange",
         cause: "a total in fewer digits than its field has, in more than 16, or in more than 15 with a sign column",
         cure: "choose the digits in that range",
-        example: "FIELD A AMOUNT 1 3 0; TOTAL 4 1 A 2",
+        example: "FIELD A AMOUNT 1 3 0\n         TOTAL 4 1 A 2",
     },
     Words {
         name: "DigitsShrink",
         cause: "a total in fewer digits than the same amount has on a lower level",
         cure: "a higher total needs at least as many",
-        example: "TOTAL 1 1 A 5; TOTAL 2 10 A 4, with CONTROL lines of both levels",
+        example: "TOTAL 1 1 A 5\n         TOTAL 2 10 A 4, with CONTROL lines of both levels",
     },
     Words {
         name: "MarkMismatch",
         cause: "a signed amount without MARK, or an unsigned one with it",
         cure: "every signed amount is printed with a mark",
-        example: "FIELD A AMOUNT 1 3 0; DETAIL 1 A MARK -",
+        example: "FIELD A AMOUNT 1 3 0\n         DETAIL 1 A MARK -",
     },
 ];
 
@@ -167,13 +168,13 @@ static WHEEL_RULES: [Words; 3] = [
         name: "WheelOverlap",
         cause: "an item that meets an earlier item of the same printed line",
         cure: "move one of them",
-        example: "DETAIL 1 NAME; DETAIL 3 ITEM",
+        example: "DETAIL 1 NAME\n         DETAIL 3 ITEM",
     },
     Words {
         name: "WheelClash",
         cause: "an item meets an earlier item of another body line. Only two texts or literals may, or two amounts with the same last wheel, decimals and mark",
         cure: "the later of the two is told, and the earlier may be the one to move. Zero control belongs to the wheels: let amounts end on the same wheel, or keep texts off their wheels",
-        example: "DETAIL 40 NAME; TOTAL 4 42 AMT 8",
+        example: "DETAIL 40 NAME\n         TOTAL 4 42 AMT 8",
     },
 ];
 
@@ -223,7 +224,7 @@ static CARDS: [Words; 3] = [
         name: "DoesNotFit",
         cause: "the total of amount N for the group of level L that ends with card K has more digits than its TOTAL line says. Of several, that of the earliest card is told, then that of the lower level, then that of the earlier line",
         cure: "give the total more digits (16 at most, 15 with a sign column), or divide the group; what the sum was on the way doesn't count; check --all tells how large the total is",
-        example: "FIELD A AMOUNT 1 1 0; TOTAL 4 1 A 1 over two cards of 5",
+        example: "FIELD A AMOUNT 1 1 0\n         TOTAL 4 1 A 1, over two cards of 5",
     },
 ];
 
@@ -325,12 +326,12 @@ static WIRING_TEXTS: [Words; 6] = [
         name: "LineTwice",
         cause: "a line above said the same stop, jack or wire, in version 2 also the same ring or couple",
         cure: "take one of them out, or correct the one that was to be another",
-        example: "JACK LIST; JACK LIST",
+        example: "JACK LIST\n         JACK LIST",
     },
     Words {
         name: "Unfit",
-        cause: "line K is well written, and the panel can't have what it says; N is 51, 52, 53 or 54",
-        cure: "see what is said of fault N, as by run407 fault 51",
+        cause: "line K is well written, and the panel can't have what it says; N is 51 to 54, and check --all prints its name",
+        cure: "see fault N, as by run407 fault 51",
         example: "WIRE W.1 SR.1",
     },
     Words {

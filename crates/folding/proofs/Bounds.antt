@@ -1,5 +1,5 @@
 -- How many bytes the lines of a text have.
-use Rattle.std.proofs.Common.{◌≡◌, ℕ, ◌+◌, ◌≤◌, suc, List, [], ◌∷◌, length, arith, Bool, cond, true, false, ◌==◌}
+use Rattle.std.proofs.Common.{◌≡◌, ℕ, ◌+◌, ◌≤◌, suc, List, [], ◌∷◌, length, arith, cond, true, false, ◌==◌}
 use Rattle.card_code.specs.Lines.{last_line, lines_of, lines_of_pieces, onto, pieces, without_cr}
 use Rattle.folding.specs.Changes.{count_in, count_of, is_changed}
 use Rattle.folding.specs.declared.changes.Change.{Change}

@@ -1,5 +1,5 @@
 -- The lines of a folded text are the lines, folded.
-use Rattle.std.proofs.Common.{◌≡◌, ◌≢◌, ℕ, ◌+◌, ◌<◌, suc, zero, List, [], ◌∷◌, ◌++◌, length, take, drop, get_or, map, refl, ap, arith, sym, ◌∙◌, subst, Bool, cond, true, false, ◌==◌, None, is_some}
+use Rattle.std.proofs.Common.{◌≡◌, ◌≢◌, ℕ, ◌+◌, ◌<◌, suc, zero, List, [], ◌∷◌, ◌++◌, length, take, drop, get_or, map, refl, ap, arith, sym, ◌∙◌, cond, false, ◌==◌, None, is_some}
 use Rattle.std.specs.Prelude.{IsSome}
 use Rattle.std.proofs.lemmas.Bool.{false≢true}
 use Rattle.std.proofs.lemmas.Bool.Decides.{nat_tests}

@@ -1,12 +1,12 @@
 -- What stands in a folded line can be punched.
-use Rattle.std.proofs.Common.{◌≡◌, ℕ, ◌+◌, ◌-◌, ◌%◌, ◌<◌, ◌≤◌, suc, zero, List, [], ◌∷◌, ◌++◌, length, drop, get_or, refl, ap, arith, sym, ◌∙◌, subst, Bool, cond, true, false, ◌==◌, ◌&&◌, Option, Some, None, is_some}
+use Rattle.std.proofs.Common.{◌≡◌, ℕ, ◌+◌, ◌-◌, ◌%◌, ◌<◌, ◌≤◌, suc, zero, List, [], ◌∷◌, ◌++◌, length, drop, get_or, refl, ap, arith, ◌∙◌, Bool, cond, true, false, ◌==◌, ◌&&◌, Some, None, is_some}
 use Rattle.std.specs.Prelude.{IsSome, codes}
 use Rattle.std.proofs.lemmas.Bool.Decides.{nat_tests}
 use Rattle.std.proofs.lemmas.Bool.{false≢true}
 use Rattle.card_code.specs.CardCode.{code, rows_of}
 use Rattle.folding.specs.Punchable.{ArePunchable}
 use Rattle.folding.specs.Changes.{change_of, is_small}
-use Rattle.folding.specs.Folded.{blanks_to_stop, changed_to, folded_from}
+use Rattle.folding.specs.Folded.{changed_to, folded_from}
 use Rattle.folding.specs.declared.changes.Change.TheVariants as change
 
 -- whether so many characters from one on can be punched

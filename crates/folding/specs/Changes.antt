@@ -1,5 +1,5 @@
 -- What is changed in the bytes of a text that is folded, how often, and where first.
-use Rattle.std.specs.Prelude.{◌≡◌, ℕ, ◌+◌, ◌≤◌, Bool, List, [], ◌∷◌, Option, Some, None, if◌then◌else◌, ◌==◌, ◌&&◌, is_some, nat_le, true, false}
+use Rattle.std.specs.Prelude.{◌≡◌, ℕ, ◌+◌, Bool, List, [], ◌∷◌, Option, Some, None, if◌then◌else◌, ◌==◌, ◌&&◌, is_some, nat_le, true, false}
 use Rattle.card_code.specs.CardCode.{rows_of}
 use Rattle.folding.specs.declared.changes.Change.{Change}
 use Rattle.folding.specs.declared.changes.Change.TheVariants as change

@@ -3,7 +3,6 @@ use Rattle.std.specs.Prelude.{ℕ, List, [], ◌++◌, Option, Some, None, codes
 use Rattle.folding.specs.declared.changes.Change.{Change}
 use Rattle.folding.specs.declared.changes.Change.TheVariants as change
 use Rattle.folding.specs.declared.changes.Place.{Place}
-use Rattle.folding.specs.declared.changes.Tally.{Tally}
 use Rattle.folding.specs.declared.folding.Changes.{Changes}
 
 -- the words for a kind of change

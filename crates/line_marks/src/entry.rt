@@ -1,6 +1,6 @@
 //! What entries of faults have in common.
 
-ghost use Rattle.std.specs.Prelude.{◌≡◌, ◌≤◌, length, OnOk};
+ghost use Rattle.std.specs.Prelude.{◌≡◌, ◌≤◌, length, map, OnOk};
 ghost use Rattle.std.specs.Io.KnownBytes.{Appends};
 ghost use Rattle.line_marks.specs.Entries as law;
 
@@ -38,7 +38,28 @@ pub fn write_below<W: Write>(out: &mut W, text: &[u8]) -> io::Result<()>
     out.write_all(b"\n")
 }
 
-/// Writes a line as it stands, and a mark under a part of it, both indented.
+/// A byte as it is shown: no line that somebody hands in may steer the terminal of who reads of it.
+fn shown_byte(byte: u8) -> u8
+    ensures { result ≡ law.shown_byte byte }
+{
+    if (byte < 32 && byte != b'\t') || byte == 127 {
+        b'?'
+    } else {
+        byte
+    }
+}
+
+/// Writes bytes as they are shown.
+fn write_shown_bytes<W: Write>(out: &mut W, bytes: &[u8]) -> io::Result<()>
+    ensures { OnOk result (Appends (W.contents out.old) (W.contents out.new) (map law.shown_byte bytes.now)) }
+{
+    for byte in bytes {
+        out.write_all(&[shown_byte(*byte)])?;
+    }
+    Ok(())
+}
+
+/// Writes a line and a mark under a part of it, both indented. `?` stands for each of its control characters but the tab.
 ///
 /// # Errors
 ///
@@ -48,8 +69,9 @@ pub fn write_shown<W: Write>(out: &mut W, line: &[u8], span: Span) -> io::Result
     requires within { span.end ≤ length line.now }
     ensures { OnOk result (Appends (W.contents out.old) (W.contents out.new) (law.shown line.now span)) }
 {
-    write_below(out, line)?;
     out.write_all(b"  ")?;
+    write_shown_bytes(out, line)?;
+    out.write_all(b"\n  ")?;
     write_mark(out, line, span)?;
     out.write_all(b"\n")
 }

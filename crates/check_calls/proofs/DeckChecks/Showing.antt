@@ -1,5 +1,5 @@
 -- What was shown of a deck, line by line.
-use Rattle.std.proofs.Common.{◌≡◌, ◌≢◌, ◌∙◌, refl, sym, ap, subst, ℕ, ◌+◌, ◌-◌, ◌≤◌, true, false, List, [], ◌∷◌, ◌++◌, Option, Some, None, Result, Ok, Err, OnOk, IfSome, is_some, length, slice_get, arith, append_assoc, append-nil, length-append, option_to_list, option_map}
+use Rattle.std.proofs.Common.{◌≡◌, ◌≢◌, ◌∙◌, refl, sym, ap, subst, ℕ, ◌+◌, ◌≤◌, true, false, List, [], ◌∷◌, ◌++◌, Option, Some, None, Result, Ok, Err, OnOk, is_some, length, slice_get, arith, append_assoc, append-nil, length-append, option_to_list, option_map}
 use Rattle.std.proofs.Math.Seq.{get_or-append_seam}
 use Rattle.std.proofs.lemmas.Bool.{false≢true}
 use Rattle.std.proofs.lemmas.Grind.{flat_map-append}
@@ -13,14 +13,13 @@ use Rattle.charts.specs.Chart.{Chart}
 use Rattle.check_calls.proofs.DeckChecks.Steps.{edges_of, first_more}
 use Rattle.check_calls.proofs.DeckChecks.Whole.{fine_written}
 use Rattle.check_calls.specs.DeckChecks.BadLines.{IsBadLine, no_card, not_amount, not_text}
-use Rattle.check_calls.specs.DeckChecks.Endings.{IsFine}
-use Rattle.check_calls.specs.DeckChecks.Fine.{fine_told, fine_words}
+use Rattle.check_calls.specs.DeckChecks.Fine.{fine_words}
 use Rattle.check_calls.specs.DeckChecks.HelperShown.{Gains, HasShown, TakesShown}
 use Rattle.check_calls.specs.DeckChecks.HelperStanding.{HasEnded, IsAt, Takes, bad, good}
 use Rattle.check_calls.specs.DeckChecks.HelperTold.{first_with}
 use Rattle.check_calls.specs.DeckChecks.Listings as listings
 use Rattle.check_calls.specs.DeckChecks.Listings.{IsListing, Lists, lines_told, misfit_told, totals_told, with_card}
-use Rattle.check_calls.specs.DeckChecks.Shown.{IsShown, IsTooLong, ShowsFaults, ShowsNone, card_named, entries_told, entry_in, entry_told}
+use Rattle.check_calls.specs.DeckChecks.Shown.{IsShown, IsTooLong, card_named, entries_told, entry_in, entry_told}
 use Rattle.check_calls.specs.declared.deck_checks.shown.Shown.{Shown}
 use Rattle.check_calls.specs.declared.deck_checks.standing.Standing.{Standing}
 use Rattle.report.specs.FollowedDecks.FitSoFar.{misfits_of_last}

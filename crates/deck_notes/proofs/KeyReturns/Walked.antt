@@ -1,10 +1,10 @@
 -- Cards, one after another.
-use Rattle.std.proofs.Common.{◌≡◌, ◌∙◌, refl, sym, ap, subst, ℕ, suc, ◌≤◌, ◌+◌, ◌<◌, List, [], ◌∷◌, ◌++◌, append-nil, append_assoc, Option, Some, None, length, drop, get_or, arith}
+use Rattle.std.proofs.Common.{◌≡◌, ◌∙◌, sym, ap, ℕ, suc, ◌≤◌, ◌+◌, ◌<◌, List, [], ◌∷◌, ◌++◌, append-nil, append_assoc, Option, Some, length, drop, get_or, arith}
 use Rattle.std.proofs.Math.ListN.{drop_of_length-le}
 use Rattle.std.proofs.Math.Seq.{drop-cons}
 use Rattle.chart_rules.specs.Below.charts.declared.chart.Line.{Line}
-use Rattle.deck_notes.specs.KeyReturns.HelperKept.{AreEarlier, Goes, Walks}
-use Rattle.deck_notes.specs.KeyReturns.Returns.{Earlier, broken_before, earlier_with, returns, returns_from, stood, told_of}
+use Rattle.deck_notes.specs.KeyReturns.HelperKept.{Goes, Walks}
+use Rattle.deck_notes.specs.KeyReturns.Returns.{broken_before, earlier_with, returns, returns_from, stood, told_of}
 use Rattle.deck_notes.specs.declared.key_returns.returns.Return.{Return}
 use Rattle.deck_notes.specs.declared.key_returns.returns.Walk.{Walk}
 

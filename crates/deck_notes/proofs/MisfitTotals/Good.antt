@@ -1,5 +1,5 @@
 -- The total lines of a lawful chart can be summed up and told.
-use Rattle.std.proofs.Common.{◌≡◌, refl, ap, ℕ, ◌≤◌, Contains, Some, arith}
+use Rattle.std.proofs.Common.{◌≡◌, refl, ap, ◌≤◌, Contains, arith}
 use Rattle.charts.proofs.Listed.{listed-place}
 use Rattle.charts.specs.Chart.{Chart}
 use Rattle.charts.specs.Field.{decimals_of, is_amount}

@@ -1,11 +1,11 @@
 -- Groups of a deck by where they begin.
-use Rattle.std.proofs.Common.{◌≡◌, ◌∙◌, refl, sym, ap, subst, ℕ, zero, suc, ◌+◌, ◌-◌, ◌<◌, ◌≤◌, ◌==◌, nat_le, Bool, true, false, List, [], ◌∷◌, ◌++◌, append-nil, append_assoc, Option, Some, None, length, drop, take, get_or, slice_get, slice_index_or, slice_range, arith, if◌then◌else◌}
+use Rattle.std.proofs.Common.{◌≡◌, ◌∙◌, refl, sym, ap, subst, ℕ, zero, suc, ◌+◌, ◌-◌, ◌<◌, ◌≤◌, ◌==◌, nat_le, Bool, true, false, List, [], ◌∷◌, ◌++◌, append-nil, append_assoc, Option, length, drop, take, get_or, slice_get, slice_range, arith, if◌then◌else◌}
 use Rattle.std.proofs.Math.ListN.{drop_of_length-le}
 use Rattle.std.proofs.Math.Seq.{drop-cons, take-suc}
 use Rattle.std.proofs.lemmas.List.{get_or-drop, length-drop}
 use Rattle.charts.specs.declared.chart.Line.{Line}
 use Rattle.deck_notes.specs.MisfitTotals.HelperStarts.{Walks, ended_at, rest_told, start_of}
-use Rattle.deck_notes.specs.MisfitTotals.Large.{large_from, large_in, large_to, large_told}
+use Rattle.deck_notes.specs.MisfitTotals.Large.{large_in, large_to, large_told}
 use Rattle.deck_notes.specs.declared.misfit_totals.walk.Starts.{Starts}
 use Rattle.report.specs.Breaks.{cleared, ended_after, no_cards, taking}
 

@@ -1,5 +1,5 @@
 -- The total of an amount, card by card.
-use Rattle.std.proofs.Common.{◌≡◌, ◌∙◌, sym, ap, ℕ, suc, ◌+ℤ◌, ◌+◌, ◌<◌, List, [], ◌∷◌, length, drop, get_or, arith}
+use Rattle.std.proofs.Common.{◌≡◌, ◌∙◌, sym, ap, ℕ, suc, ◌+ℤ◌, ◌+◌, ◌<◌, List, ◌∷◌, length, drop, get_or, arith}
 use Rattle.std.proofs.Math.Seq.{drop-cons}
 use Rattle.charts.specs.declared.statement.Field.{Field}
 use Rattle.report.specs.Amounts.{value_of}

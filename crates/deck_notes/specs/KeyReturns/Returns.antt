@@ -63,6 +63,6 @@ returns_from lines earlier last number (card ∷ cards) =
     told_of broken number (stood lines earlier broken card)
     ++ returns_from lines (earlier_with earlier broken card number) (Some card) (number + 1) cards
 
--- the keys of a deck that come back
+-- the keys of a deck that come back, each as often as it does
 abbrev pub returns : List Line → List (List ℕ) → List Return
 returns lines cards = returns_from lines none_earlier None 1 cards

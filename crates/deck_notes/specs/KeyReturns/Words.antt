@@ -1,4 +1,4 @@
--- What is written of the keys of a deck that come back: how many there are, and a line for each.
+-- What is written of the keys of a deck that come back: how often keys do, and a line for each time.
 use Rattle.std.specs.Prelude.{ℕ, ◌-◌, List, [], ◌++◌, Option, Some, None, codes, decimal, length, nat_le, slice_get, if◌then◌else◌}
 use Rattle.std.specs.List.{flat_map}
 use Rattle.chart_rules.specs.Below.charts.Name.{name_text}
@@ -39,9 +39,9 @@ return_words lines cards each =
     codes "level " ++ decimal each.level ++ codes " card " ++ decimal each.again ++ codes " has the key of card " ++ decimal each.first
     ++ codes ":" ++ key_at lines cards each ++ codes "\n"
 
--- how many keys come back
+-- how often keys come back; one that does so twice counts twice
 unfoldable pub count_words : ℕ → List ℕ
-count_words count = codes "keys that come back: " ++ decimal count ++ codes "\n"
+count_words count = codes "times a key comes back: " ++ decimal count ++ codes "\n"
 
 -- some keys that come back
 abbrev pub returns_words : List Line → (cards : List (List ℕ)) → List Return → List ℕ

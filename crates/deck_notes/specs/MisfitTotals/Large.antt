@@ -1,6 +1,6 @@
 -- Which totals of a deck have more digits than their total lines have room for, and what is written of each: its level and name, the last card
 -- of its group, the total itself, and for how much the line has room.
-use Rattle.std.specs.Prelude.{ℕ, zero, suc, ℤ, pos, ◌+◌, ◌-◌, ◌^◌, ◌==◌, List, [], ◌∷◌, ◌++◌, Option, Some, None, codes, decimal, if◌then◌else◌}
+use Rattle.std.specs.Prelude.{ℕ, zero, suc, ℤ, ◌+◌, ◌-◌, ◌^◌, ◌==◌, List, [], ◌∷◌, ◌++◌, Option, Some, None, codes, decimal, if◌then◌else◌}
 use Rattle.std.specs.List.{flat_map}
 use Rattle.charts.specs.Field.{decimals_of}
 use Rattle.charts.specs.Levels.{level_number}

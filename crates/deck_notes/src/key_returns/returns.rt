@@ -68,8 +68,8 @@ impl Walk {
     }
 }
 
-/// The keys that come back in a deck of at most 999,999 cards, in the order of the cards with which they do. With one card at most one key comes
-/// back: that of the level of the break before it.
+/// The keys that come back in a deck of at most 999,999 cards, each as often as it does, in the order of the cards with which they do. With one
+/// card at most one key comes back: that of the level of the break before it.
 ///
 /// For each level one look-up a card; the keys of the unfinished groups are held. It fails only if memory is refused.
 pub fn key_returns(alloc: Global, chart: &Chart, cards: &[Card]) -> Result<Vec<Return>, AllocError>

@@ -80,11 +80,11 @@ fn write_return(text: &mut Vec<u8>, chart: &Chart, cards: &[Card], each: &Return
 }
 
 #[tactic(auto, unfolding(crate::specs::KeyReturns::Words::count_words))]
-// How many keys come back.
+// How often keys come back.
 fn write_count(text: &mut Vec<u8>, count: usize) -> io::Result<()>
     ensures { OnOk result (text.new.items ≡ text.old.items ++ told.count_words count) }
 {
-    write_numbered(text, "keys that come back: ", count)?;
+    write_numbered(text, "times a key comes back: ", count)?;
     text.write_all(b"\n")
 }
 
@@ -98,8 +98,8 @@ fn write_lines(text: &mut Vec<u8>, chart: &Chart, cards: &[Card], list: &[Return
     Ok(())
 }
 
-/// Writes behind a text how many keys come back in a deck, and a line for each: its level, the card with which it comes back, the first card
-/// with it, and what the control fields of the level and of the levels above it read, the highest level first.
+/// Writes behind a text how often keys come back in a deck, and a line for each time: the level of the key, the card with which it comes back,
+/// the first card with it, and what the control fields of the level and of the levels above it read, the highest level first.
 ///
 /// # Errors
 ///

@@ -6,16 +6,16 @@ use Rattle.fault_guide.specs.declared.table.FaultEntry.{FaultEntry}
 abbrev pub entry_heading : (number : ℕ) → (name : List ℕ) → List ℕ
 entry_heading number name = codes "fault " ++ decimal number ++ codes " " ++ name ++ codes "\n"
 
--- the line of one thing that an entry says
+-- one thing that an entry says: a line, or several of an example
 abbrev pub named_line : (name words : List ℕ) → List ℕ
 named_line name words = name ++ codes ": " ++ words ++ codes "\n"
 
--- the line of the example; none where the guide has none
+-- the example; nothing where the guide has none
 abbrev pub example_line : List ℕ → List ℕ
 example_line [] = []
 example_line (first ∷ others) = named_line (codes "example") (first ∷ others)
 
--- the number and the name of the fault, its cause, its cure and its example, a line each
+-- the number and the name of the fault, its cause and its cure, a line each, and its example
 abbrev pub entry_text : FaultEntry → List ℕ
 entry_text entry =
     entry_heading entry.number entry.name.now

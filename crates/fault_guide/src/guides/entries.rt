@@ -8,14 +8,14 @@ use crate::FaultEntry;
 use numerals::push_numbered;
 use std::alloc::{AllocError, Global};
 
-// Adds the line of one thing that an entry says: its name, a colon and the words.
+// Adds one thing that an entry says: its name, a colon and the words.
 fn add_named(text: &mut String, name: &str, words: &str) -> Result<(), AllocError>
     ensures { OnOk result (string_bytes text.new ≡ string_bytes text.old ++ named_line name.now words.now) }
 {
     write!(text, "{name}: {words}\n")
 }
 
-// Adds the line of an example, where there is one.
+// Adds the example, where there is one.
 fn add_example(text: &mut String, example: &str) -> Result<(), AllocError>
     ensures { OnOk result (string_bytes text.new ≡ string_bytes text.old ++ example_line example.now) }
 {
@@ -44,8 +44,8 @@ fn add_entry(text: &mut String, entry: &FaultEntry) -> Result<(), AllocError>
     add_example(text, entry.example)
 }
 
-/// The text of an entry: a line with the number and the name of the fault, then a line each for its cause, its cure and its example, which
-/// not every fault has.
+/// The text of an entry: a line with the number and the name of the fault, a line each for its cause and its cure, and its example, which not
+/// every fault has, in one line or more.
 ///
 /// # Errors
 ///

@@ -1,10 +1,8 @@
 -- The lines that are told of as cards which are too long, one after the other.
-use Rattle.std.proofs.Common.{◌≡◌, ℕ, ◌+◌, ◌-◌, ◌<◌, ◌≤◌, suc, zero, Bool, true, false, cond, Option, List, [], ◌∷◌, ◌++◌, length, take, refl, ap, sym, ◌∙◌, subst, arith, nat_lt}
+use Rattle.std.proofs.Common.{◌≡◌, ℕ, ◌+◌, ◌<◌, ◌≤◌, suc, zero, Bool, true, false, cond, Option, List, [], ◌∷◌, ◌++◌, length, take, refl, subst, arith, nat_lt}
 use Rattle.std.proofs.KnownBytes.{Appends-nil, Appends-trans}
 use Rattle.std.proofs.lemmas.Bool.Decides.{nat_tests}
-use Rattle.std.proofs.lemmas.Bool.{false≢true}
 use Rattle.std.specs.Io.KnownBytes.{Appends}
-use Rattle.card_code.specs.MostCards.{most_cards}
 use Rattle.faults.specs.Lines.{fault_line}
 use Rattle.faults.specs.declared.fault.Fault.TheVariants as fault
 use Rattle.folding.specs.FoldCalls.LongCards.{long_cards}

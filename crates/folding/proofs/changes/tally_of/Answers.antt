@@ -1,4 +1,4 @@
-use Rattle.std.proofs.Common.{◌≡◌, ◌+◌, ◌∙◌, ap, arith}
+use Rattle.std.proofs.Common.{◌≡◌, ◌+◌, ap, arith}
 use Rattle.card_code.specs.Lines.{lines_of}
 use Rattle.folding.proofs.Bounds.{count_of_lines_within}
 use Rattle.folding.specs.Changes.{count_in, count_of}

@@ -1,6 +1,3 @@
-use Rattle.std.proofs.Common.{IfOk, subst}
-use Rattle.charts.specs.Chart.{Chart}
-use Rattle.matching.specs.Answers.{IsMatched, IsMatchingOf}
 use Rattle.panel_charts.proofs.Beside.{found-as}
 use Rattle.panel_charts.proofs.answer.found_of.Goals as goal
 

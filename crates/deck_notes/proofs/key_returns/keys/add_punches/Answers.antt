@@ -1,4 +1,4 @@
-use Rattle.std.proofs.Common.{◌≡◌, ◌∙◌, ◌+◌, ◌-◌, ◌++◌, [], ◌∷◌, ap, refl, arith, List, ℕ, map}
+use Rattle.std.proofs.Common.{◌≡◌, ◌∙◌, ◌+◌, ◌-◌, ◌++◌, [], ◌∷◌, ap, refl, arith, ℕ, map}
 use Rattle.std.specs.List.{range_with_len}
 use Rattle.chart_rules.specs.ValidCard.{column_of}
 use Rattle.sheets.proofs.Columns.{column-more, column-none}

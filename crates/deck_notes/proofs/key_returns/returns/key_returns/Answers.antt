@@ -1,4 +1,4 @@
-use Rattle.std.proofs.Common.{refl, ap, sym, arith, List, ◌++◌, None, ◌≤◌, length}
+use Rattle.std.proofs.Common.{ap, arith, List, ◌++◌, None}
 use Rattle.deck_notes.proofs.KeyReturns.Walked.{walked, walks_on}
 use Rattle.deck_notes.specs.KeyReturns.Returns.{none_earlier, returns_from}
 use Rattle.deck_notes.specs.declared.key_returns.returns.Return.{Return}

@@ -1,4 +1,4 @@
-use Rattle.std.proofs.Common.{◌≡◌, ◌∙◌, List, refl, subst, sym, ℕ}
+use Rattle.std.proofs.Common.{◌∙◌, List, refl, subst, sym, ℕ}
 use Rattle.card_code.specs.Deck.{HasDeckFault}
 use Rattle.folding.specs.FoldCalls.Served.{IsRefused}
 use Rattle.folding.proofs.fold_calls.serving.fold_to_end.Goals as goal

@@ -1,4 +1,4 @@
-use Rattle.std.proofs.Common.{◌≡◌, ◌∙◌, sym, subst}
+use Rattle.std.proofs.Common.{◌∙◌, sym, subst}
 use Rattle.faults.specs.Lines.{IsTold}
 use Rattle.faults.specs.declared.fault.Fault.{Fault}
 use Rattle.folding.proofs.FoldCalls.Refusing.{long_is_refused}

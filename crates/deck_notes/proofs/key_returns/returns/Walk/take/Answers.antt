@@ -1,4 +1,4 @@
-use Rattle.std.proofs.Common.{refl, subst, ap, sym, ◌∙◌}
+use Rattle.std.proofs.Common.{refl}
 use Rattle.deck_notes.proofs.key_returns.returns.Walk.take.Goals as goal
 
 pub returns : goal.returns
