@@ -4,7 +4,7 @@ use Rattle.capacity.specs.Capacities.{Capacities, standard, IsAtMost}
 use Rattle.wanted.specs.Wanted.{Parts, Wanted}
 use Rattle.plans.specs.Assignments.{IsAssignment}
 use Rattle.plans.proofs.Numbers.{in-order}
-use Rattle.plans.specs.PartNumbers.{AreNumbersOf, in_order}
+use Rattle.plans.specs.PartNumbers.{AreInOrder}
 use Rattle.plans.specs.Plans.{Lists, IsWithinMachine, Serves}
 use Rattle.allocate.specs.Exceeded.{FitsMachine}
 use Rattle.allocate.specs.HelperCounters.{HasGroupsFor}
@@ -13,7 +13,7 @@ use Rattle.allocate.proofs.Order.{NotOver-fits}
 
 -- a plan within the machine that has counters for the totals and the other parts in order, and no text that is too wide
 Serves-from : (wanted : Wanted) (plan : Lists) → IsWithinMachine plan.parts → IsAssignment wanted.totals standard plan.counters
-    → plan.parts ≡ wanted.parts → plan.numbers ≡ in_order wanted.parts → [] ≡ wanted.wide_texts → Serves wanted plan
+    → plan.parts ≡ wanted.parts → AreInOrder wanted.parts plan.numbers → [] ≡ wanted.wide_texts → Serves wanted plan
 Serves-from wanted plan within assigned same ordered narrow =
     let pilots = ap (λ (p : Parts). length p.pilots) same in
     let comparing = ap (λ (p : Parts). length p.comparing) same in
@@ -26,7 +26,7 @@ Serves-from wanted plan within assigned same ordered narrow =
     record {
       counters = assigned;
       parts = same;
-      numbers = subst (AreNumbersOf plan.parts) (ap in_order same ∙ sym ordered) (in-order plan.parts within);
+      numbers = in-order plan.parts plan.numbers within (rw same ordered);
       pilots = λ over. omega arith;
       comparing = λ over. omega arith;
       storage_width = λ over. omega arith;
@@ -69,7 +69,7 @@ HasGroupsFor-fits wanted machine fits =
 
 -- a plan that serves all where what is wanted fits a machine
 pub Serves-fits : (wanted : Wanted) (machine : Capacities) (plan : Lists) → FitsMachine wanted machine → IsAtMost machine standard
-    → IsAssignment wanted.totals machine plan.counters → plan.parts ≡ wanted.parts → plan.numbers ≡ in_order wanted.parts
+    → IsAssignment wanted.totals machine plan.counters → plan.parts ≡ wanted.parts → AreInOrder wanted.parts plan.numbers
     → Serves wanted plan
 Serves-fits wanted machine plan fits most assigned same ordered =
     Serves-from wanted plan (rw same (IsWithinMachine-fits wanted machine fits most))

@@ -2,7 +2,7 @@
 use Rattle.std.specs.Prelude.{◌≡◌}
 use Rattle.capacity.specs.Capacities.{Capacities}
 use Rattle.wanted.specs.Wanted.{Wanted}
-use Rattle.plans.specs.PartNumbers.{in_order}
+use Rattle.plans.specs.PartNumbers.{AreInOrder}
 use Rattle.plans.specs.Plans.{Lists}
 use Rattle.allocate.specs.Groups.{IsByRule}
 
@@ -11,4 +11,4 @@ use Rattle.allocate.specs.Groups.{IsByRule}
 pub record IsPlanOf (wanted : Wanted) (machine : Capacities) (plan : Lists) : Type 0 where
   pub counters : IsByRule wanted.totals machine plan.counters
   pub parts : plan.parts ≡ wanted.parts
-  pub numbers : plan.numbers ≡ in_order wanted.parts
+  pub numbers : AreInOrder wanted.parts plan.numbers

@@ -15,7 +15,7 @@ use Rattle.bit_sets.specs.declared.contacts.Run.{Run}
 use Rattle.bit_sets.specs.declared.shorts.Short.{Short}
 use Rattle.bit_sets.proofs.BitLemmas.{is_bit-above, is_bit-and, none_set}
 use Rattle.bit_sets.proofs.ContactLemmas.{IsRow}
-use Rattle.bit_sets.proofs.LedLemmas.{GainsLed-same, are_zeros, in_both, leads-low, leads-past, leads-zeros, length-zeros, near_word}
+use Rattle.bit_sets.proofs.LedLemmas.{GainsLed-same, are_zeros, in_both, leads-low, leads-once, leads-past, leads-zeros, length-zeros, near_word}
 
 all : (a b c : Bool) → a ≡ true → b ≡ true → c ≡ true → (a && (b && c)) ≡ true
 all a b c e f g = grind (arith, nat_tests)
@@ -166,6 +166,7 @@ GainsLed-bundled rows marked apart new runs shorts old now after are_rows gained
       (or_cases (has_place old to) (nat_lt to 1984 && follows new runs to) (sym (gained to) ∙ at_now)))
       (λ by. inr (by.0, (and_parts _ _ by.1).0, by.2))
       (gains.only to held);
+  last = λ from to next at leads. leads-once rows are_rows.short are_rows.onward from to next leads;
 }
 
 -- the places of one word alone, led on by runs and, those kept apart, by rows
@@ -228,11 +229,11 @@ AreCovered-more rows runs at old new is_covered before gained covers from to low
           inl (gained from ∙ or_right (has_place old from) _ (and_from _ _ (ap not is) equal))
 
 -- as far as there are rows is all
-pub AreCovered-all : (rows : List (List ℕ)) (runs : List Run) (end : ℕ) (apart : List ℕ) → length rows ≤ 1040 → 1040 ≤ end
+pub AreCovered-all : (rows : List (List ℕ)) (runs : List Run) (end : ℕ) (apart : List ℕ) → length rows ≤ end
     → AreCoveredBelow end apart runs rows → AreCovered apart runs rows
-AreCovered-all rows runs end apart short far covered from to leads_on = ⊎_elim
+AreCovered-all rows runs end apart far covered from to leads_on = ⊎_elim
     (λ (low : from < end). covered from to low leads_on)
-    (λ past. absurd (false≢true (sym (leads-past rows from to (omega (arith, short, far, past))) ∙ leads_on)))
+    (λ past. absurd (false≢true (sym (leads-past rows from to (omega (arith, far, past))) ∙ leads_on)))
     (cases_lt from end)
 
 -- rows of zeros have no wire and no run

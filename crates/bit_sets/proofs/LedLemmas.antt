@@ -24,6 +24,7 @@ module _ (rows : List (List ℕ)) where
     kept = λ place held. held;
     led = λ from to at leads. absurd (none from to at leads);
     only = λ to held. inl held;
+    last = λ from to next at leads. absurd (none from to at leads);
   }
 
   -- one test after another
@@ -38,6 +39,9 @@ module _ (rows : List (List ℕ)) where
         (λ at_now. ⊎_elim (λ at_old. inl at_old) (λ by_one. inr (by_one.0, or_left _ _ by_one.1, by_one.2)) (first.only to at_now))
         (λ by_other. inr (by_other.0, or_right (one by_other.0) _ by_other.1, by_other.2))
         (then.only to held);
+    last = λ from to next at leads.
+        ⊎_elim (λ at_one. first.last from to next at_one leads) (λ at_other. then.last from to next at_other leads)
+        (or_cases (one from) (other from) at);
   }
 
   -- a test that is true of the same places with a row
@@ -48,6 +52,7 @@ module _ (rows : List (List ℕ)) where
     kept = gains.kept;
     led = λ from to at leads. gains.led from to (back from to at leads) leads;
     only = λ to held. ⊎_elim (λ at_old. inl at_old) (λ by. inr (by.0, forth by.0 by.1, by.2)) (gains.only to held);
+    last = λ from to next at leads. gains.last from to next (back from to at leads) leads;
   }
 
   -- a place past the rows leads nowhere
@@ -66,9 +71,10 @@ module _ (rows : List (List ℕ)) where
 
   -- the row of one place
   pub GainsLed-row : (from : ℕ) (row old new : List ℕ) → slice_index_or rows from [] ≡ row
+      → ((to next : ℕ) → leads rows from to ≡ true → leads rows to next ≡ false)
       → ((place : ℕ) → has_place new place ≡ (has_place old place || is_in_entries row place))
       → GainsLed rows (λ place. place == from) old new
-  GainsLed-row from row old new is joined = record {
+  GainsLed-row from row old new is last joined = record {
     kept = λ place held. joined place ∙ or_left _ _ held;
     led = λ place to at leads.
         let same : place ≡ from = grind (arith, nat_tests, at) in
@@ -77,6 +83,9 @@ module _ (rows : List (List ℕ)) where
         (λ at_old. inl at_old)
         (λ at_row. inr (from, (eq-eqb from from refl), ap (λ (r : List ℕ). is_in_entries r to) is ∙ at_row))
         (or_cases (has_place old to) (is_in_entries row to) (sym (joined to) ∙ held));
+    last = λ place to next at leads_on.
+        let same : place ≡ from = grind (arith, nat_tests, at) in
+        last to next (ap (λ n. leads rows n to) (sym same) ∙ leads_on);
   } where
     of_row : (place to : ℕ) → place ≡ from → leads rows place to ≡ true → is_in_entries row to ≡ true
     of_row place to same at =
@@ -141,6 +150,54 @@ module _ (rows : List (List ℕ)) where
 
         forth : (a b : Bool) → (a && not b) ≡ true → a ≡ true
         forth a b e = grind (arith, nat_tests)
+
+  -- words after words
+  pub GainsLed-words : (first middle end : ℕ) → first ≤ middle → middle ≤ end
+      → (old now new : List ℕ) → GainsLed rows (is_in_words first middle old) old now
+      → GainsLed rows (is_in_words middle end now) now new → GainsLed rows (is_in_words first end old) old new
+  GainsLed-words first middle end low high old now new before then = record {
+    kept = λ place held. then.kept place (before.kept place held);
+    led = λ from to at leads.
+        let parts = in_words first end from old at in
+        ⊎_elim
+        (λ (below : from / 64 < middle). then.kept to (before.led from to (words_in first middle from old parts.0 below parts.2) leads))
+        (λ above. then.led from to (words_in middle end from now above parts.1 (before.kept from parts.2)) leads)
+        (cases_lt (from / 64) middle);
+    only = λ to held. ⊎_elim
+        (λ at_now. ⊎_elim
+        (λ at_old. inl at_old)
+        (λ led.
+        let parts = in_words first middle led.0 old led.1 in
+        inr (led.0, words_in first end led.0 old parts.0 (omega (arith, high, parts.1)) parts.2, led.2))
+        (before.only to at_now))
+        (λ led.
+        let parts = in_words middle end led.0 now led.1 in
+        ⊎_elim
+        (λ at_old. inr (led.0, words_in first end led.0 old (omega (arith, low, parts.0)) parts.1 at_old, led.2))
+        (λ other. absurd (false≢true (sym (before.last other.0 led.0 to other.1 other.2) ∙ led.2)))
+        (before.only led.0 parts.2))
+        (then.only to held);
+    last = λ from to next at leads.
+        let parts = in_words first end from old at in
+        ⊎_elim
+        (λ (below : from / 64 < middle). before.last from to next (words_in first middle from old parts.0 below parts.2) leads)
+        (λ above. then.last from to next (words_in middle end from now above parts.1 (before.kept from parts.2)) leads)
+        (cases_lt (from / 64) middle);
+  } where
+    in_words : (a b place : ℕ) (words : List ℕ) → is_in_words a b words place ≡ true
+        → (a ≤ place / 64) × (place / 64 < b) × (has_place words place ≡ true)
+    in_words a b place words at =
+        let one : nat_le a (place / 64) ≡ true = (and_parts _ _ at).0 in
+        let rest = (and_parts (nat_le a (place / 64)) _ at).1 in
+        let two : nat_lt (place / 64) b ≡ true = (and_parts _ _ rest).0 in
+        (leb-true _ _ one, ltb-true _ _ two, (and_parts (nat_lt (place / 64) b) _ rest).1)
+
+    words_in : (a b place : ℕ) (words : List ℕ) → a ≤ place / 64 → place / 64 < b → has_place words place ≡ true
+        → is_in_words a b words place ≡ true
+    words_in a b place words low high at =
+        let one : nat_le a (place / 64) ≡ true = grind (arith, nat_tests) in
+        let two : nat_lt (place / 64) b ≡ true = grind (arith, nat_tests) in
+        and_from _ _ one (and_from _ _ two at)
 
 -- The places of a word of a set, as a row of bits.
 pub run_is_word : (words : List ℕ) (number from : ℕ) → slice_index_or words number 0 < 2 ^ 64
@@ -246,6 +303,7 @@ module _ (rows : List (List ℕ)) (short : length rows ≤ 1040) where
     kept = gains.kept;
     led = λ from to at leads. gains.led from to (back from to at leads) leads;
     only = λ to held. ⊎_elim (λ at_old. inl at_old) (λ by. inr (by.0, forth by.0 to by.1 by.2, by.2)) (gains.only to held);
+    last = λ from to next at leads. gains.last from to next (back from to at leads) leads;
   }
 
   -- a place with a row is low
@@ -255,50 +313,10 @@ module _ (rows : List (List ℕ)) (short : length rows ≤ 1040) where
       (λ high. absurd (false≢true (sym (leads-past rows from to (omega (arith, short, high))) ∙ at)))
       (cases_lt from 1040)
 
-  -- words after words
-  pub GainsLed-words : ((from to : ℕ) → leads rows from to ≡ true → 1040 ≤ to) → (first middle end : ℕ) → first ≤ middle → middle ≤ end
-      → (old now new : List ℕ) → GainsLed rows (is_in_words first middle old) old now
-      → GainsLed rows (is_in_words middle end now) now new → GainsLed rows (is_in_words first end old) old new
-  GainsLed-words onward first middle end low high old now new before then = record {
-    kept = λ place held. then.kept place (before.kept place held);
-    led = λ from to at leads.
-        let parts = in_words first end from old at in
-        ⊎_elim
-        (λ (below : from / 64 < middle). then.kept to (before.led from to (words_in first middle from old parts.0 below parts.2) leads))
-        (λ above. then.led from to (words_in middle end from now above parts.1 (before.kept from parts.2)) leads)
-        (cases_lt (from / 64) middle);
-    only = λ to held. ⊎_elim
-        (λ at_now. ⊎_elim
-        (λ at_old. inl at_old)
-        (λ led.
-        let parts = in_words first middle led.0 old led.1 in
-        inr (led.0, words_in first end led.0 old parts.0 (omega (arith, high, parts.1)) parts.2, led.2))
-        (before.only to at_now))
-        (λ led.
-        let parts = in_words middle end led.0 now led.1 in
-        ⊎_elim
-        (λ at_old. inr (led.0, words_in first end led.0 old (omega (arith, low, parts.0)) parts.1 at_old, led.2))
-        (λ other.
-        let up = onward other.0 led.0 other.2 in
-        let down = leads-low led.0 to led.2 in
-        absurd (omega (arith, up, down)))
-        (before.only led.0 parts.2))
-        (then.only to held);
-  } where
-    in_words : (a b place : ℕ) (words : List ℕ) → is_in_words a b words place ≡ true
-        → (a ≤ place / 64) × (place / 64 < b) × (has_place words place ≡ true)
-    in_words a b place words at =
-        let one : nat_le a (place / 64) ≡ true = (and_parts _ _ at).0 in
-        let rest = (and_parts (nat_le a (place / 64)) _ at).1 in
-        let two : nat_lt (place / 64) b ≡ true = (and_parts _ _ rest).0 in
-        (leb-true _ _ one, ltb-true _ _ two, (and_parts (nat_lt (place / 64) b) _ rest).1)
-
-    words_in : (a b place : ℕ) (words : List ℕ) → a ≤ place / 64 → place / 64 < b → has_place words place ≡ true
-        → is_in_words a b words place ≡ true
-    words_in a b place words low high at =
-        let one : nat_le a (place / 64) ≡ true = grind (arith, nat_tests) in
-        let two : nat_lt (place / 64) b ≡ true = grind (arith, nat_tests) in
-        and_from _ _ one (and_from _ _ two at)
+  -- what a row leads to leads nowhere
+  pub leads-once : ((from to : ℕ) → leads rows from to ≡ true → 1040 ≤ to) → (from to next : ℕ) → leads rows from to ≡ true
+      → leads rows to next ≡ false
+  leads-once onward from to next at = let high = onward from to at in leads-past rows to next (omega (arith, short, high))
 
   -- the first words have all places with a row
   pub GainsLed-all : (old new : List ℕ) → GainsLed rows (is_in_words 0 17 old) old new → GainsLed rows (has_place old) old new

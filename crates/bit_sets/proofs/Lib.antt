@@ -7,3 +7,4 @@ pub mod BundleLemmas
 pub mod PassLemmas
 pub mod SearchLemmas
 pub mod ShortLemmas
+pub mod MaskLemmas

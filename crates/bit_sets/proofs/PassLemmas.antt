@@ -8,10 +8,9 @@ use Rattle.bit_sets.specs.Contacts.{is_any_contact, is_contact, passes_run}
 use Rattle.bit_sets.specs.Passing.{GainsPassed, IsPassedOn}
 use Rattle.bit_sets.specs.Reached.{IsReached}
 use Rattle.bit_sets.specs.Reached.IsReached.{by_row, by_contact}
-use Rattle.bit_sets.specs.Rows.{GainsLed, leads}
+use Rattle.bit_sets.specs.Rows.{GainsLed}
 use Rattle.bit_sets.specs.declared.contacts.Run.{Run}
 use Rattle.bit_sets.proofs.BitLemmas.{first_set}
-use Rattle.bit_sets.proofs.LedLemmas.{leads-low, leads-past}
 use Rattle.bit_sets.proofs.PlaceLemmas.{has_place-past}
 
 -- what a passed contact says
@@ -70,6 +69,7 @@ GainsPassed-none rows closed words run none = record {
   passed = λ place at. absurd (false≢true (sym (none place) ∙ (and_parts (nat_lt place 1984) _ at).1));
   led = λ from to at leads_on. absurd (false≢true (sym (none from) ∙ (and_parts (nat_lt from 1984) _ at).1));
   only = λ to at. inl at;
+  last = λ from to next at leads_on. absurd (false≢true (sym (none from) ∙ (and_parts (nat_lt from 1984) _ at).1));
 }
 
 pub passed-none : (closed words : List ℕ) (run : Run) → ((place : ℕ) → passes_run closed words run place ≡ false)
@@ -78,12 +78,19 @@ passed-none closed words run none place = ap (λ b. nat_lt place 1984 && b) (non
   no_more : (a : Bool) → (a && false) ≡ false
   no_more a = grind (arith, nat_tests)
 
+-- a set of 31 words has no place past them
+place-low : (words : List ℕ) → length words ≡ 31 → (place : ℕ) → has_place words place ≡ true → nat_lt place 1984 ≡ true
+place-low words long place at = ⊎_elim
+    (λ (low : place < 1984). grind (arith, nat_tests))
+    (λ high. absurd (false≢true (sym (has_place-past words place (omega (arith, long, high))) ∙ at)))
+    (cases_lt place 1984)
+
 -- the bits of a run that is passed, and what their rows lead to
-pub GainsPassed-run : (rows : List (List ℕ)) (closed old now new : List ℕ) (run : Run) (bits : ℕ) → length rows ≤ 1040
+pub GainsPassed-run : (rows : List (List ℕ)) (closed old now new : List ℕ) (run : Run) (bits : ℕ) → length closed ≡ 31
     → ((place : ℕ) → is_in_run run.exits bits place ≡ passes_run closed old run place)
     → ((place : ℕ) → has_place now place ≡ (has_place old place || (nat_lt place 1984 && is_in_run run.exits bits place)))
     → GainsLed rows (is_in_run run.exits bits) now new → GainsPassed rows (is_passed closed old run) old new
-GainsPassed-run rows closed old now new run bits short is put gains = record {
+GainsPassed-run rows closed old now new run bits long is put gains = record {
   kept = λ place at. gains.kept place (put place ∙ or_left _ _ at);
   passed = λ place at. gains.kept place (put place ∙ or_right (has_place old place) _ (in_bits place at));
   led = λ from to at leads_on. gains.led from to (is from ∙ (and_parts (nat_lt from 1984) _ at).1) leads_on;
@@ -91,10 +98,11 @@ GainsPassed-run rows closed old now new run bits short is put gains = record {
       (λ at_now. ⊎_elim inl (λ in_run. inr (inl (out_bits to in_run)))
       (or_cases (has_place old to) (nat_lt to 1984 && is_in_run run.exits bits to) (sym (put to) ∙ at_now)))
       (λ led.
-      let low = leads-low rows short led.0 to led.2 in
-      let yes : nat_lt led.0 1984 ≡ true = grind (arith, nat_tests, low) in
-      inr (inr (led.0, and_from _ _ yes (sym (is led.0) ∙ led.1), led.2)))
+      let passes = sym (is led.0) ∙ led.1 in
+      let low = place-low closed long led.0 (passed_by closed old run led.0 passes).shut in
+      inr (inr (led.0, and_from _ _ low passes, led.2)))
       (gains.only to at);
+  last = λ from to next at leads_on. gains.last from to next (is from ∙ (and_parts (nat_lt from 1984) _ at).1) leads_on;
 } where
   in_bits : (place : ℕ) → is_passed closed old run place ≡ true → (nat_lt place 1984 && is_in_run run.exits bits place) ≡ true
   in_bits place at = ap (λ b. nat_lt place 1984 && b) (is place) ∙ at
@@ -113,12 +121,8 @@ passed-some closed words run bits some small long is =
     let index : run.exits + lowest.0 - run.exits ≡ lowest.0 = omega arith in
     let passes : passes_run closed words run (run.exits + lowest.0) ≡ true =
     sym (is (run.exits + lowest.0)) ∙ and_from _ _ there (ap (is_bit bits) index ∙ lowest.1) in
-    (run.exits + lowest.0, and_from _ _ (within (run.exits + lowest.0) (passed_by closed words run (run.exits + lowest.0) passes)) passes) where
-      within : (place : ℕ) → IsPassed closed words run place → nat_lt place 1984 ≡ true
-      within place passed = ⊎_elim
-          (λ (low : place < 1984). grind (arith, nat_tests))
-          (λ high. absurd (false≢true (sym (has_place-past closed place (omega (arith, long, high))) ∙ passed.shut)))
-          (cases_lt place 1984)
+    let low = place-low closed long (run.exits + lowest.0) (passed_by closed words run (run.exits + lowest.0) passes).shut in
+    (run.exits + lowest.0, and_from _ _ low passes)
 
 -- the contact of a run, and of the runs
 pub contact_number : (runs : List Run) (from to : ℕ) → is_any_contact runs from to ≡ true
@@ -145,12 +149,12 @@ contact_default (run ∷ runs) (suc number) from to one other inside at =
 
 -- one run is passed on
 pub IsPassedOn-run : (rows : List (List ℕ)) (runs : List Run) (closed old new : List ℕ) (number : ℕ) (default : Run) (has_passed : Bool)
-    → length rows ≤ 1040 → ((from to : ℕ) → leads rows from to ≡ true → 1040 ≤ to) → length closed ≡ 31 → number < length runs
+    → length closed ≡ 31 → number < length runs
     → GainsPassed rows (is_passed closed old (slice_index_or runs number default)) old new
     → (has_passed ≡ true → (place : ℕ) × (is_passed closed old (slice_index_or runs number default) place ≡ true))
     → (has_passed ≡ false → (place : ℕ) → is_passed closed old (slice_index_or runs number default) place ≡ false)
     → IsPassedOn rows runs closed number (number + 1) old new has_passed
-IsPassedOn-run rows runs closed old new number default has_passed short onward long inside gains some none = record {
+IsPassedOn-run rows runs closed old new number default has_passed long inside gains some none = record {
   kept = gains.kept;
   sound = λ emits reached place at. ⊎_elim
       (λ at_old. reached place at_old)
@@ -163,9 +167,7 @@ IsPassedOn-run rows runs closed old new number default has_passed short onward l
       (λ at_old. gains.kept to (joined from to at_old leads_on))
       (λ more. ⊎_elim
       (λ passed. gains.led from to passed leads_on)
-      (λ led.
-      let high = onward led.0 from led.2 in
-      absurd (false≢true (sym (leads-past rows from to (omega (arith, short, high))) ∙ leads_on)))
+      (λ led. absurd (false≢true (sym (gains.last led.0 from to led.1 led.2) ∙ leads_on)))
       more)
       (gains.only from at);
   some = λ is.
@@ -201,11 +203,8 @@ IsPassedOn-run rows runs closed old new number default has_passed short onward l
       → (b : Bool) → has_place old to ≡ b → has_place old to ≡ true
   nothing is from to at contact shut true there = there
   nothing is from to at contact shut false out =
-      let low : nat_lt to 1984 ≡ true = below to shut (cases_lt to 1984) in
-      absurd (false≢true (sym (none is to) ∙ and_from _ _ low (passes_on closed old run from to at contact shut out))) where
-        below : (to : ℕ) → has_place closed to ≡ true → (to < 1984) ⊎ (1984 ≤ to) → nat_lt to 1984 ≡ true
-        below to shut (inl low) = grind (arith, nat_tests, low)
-        below to shut (inr high) = absurd (false≢true (sym (has_place-past closed to (omega (arith, long, high))) ∙ shut))
+      let low = place-low closed long to shut in
+      absurd (false≢true (sym (none is to) ∙ and_from _ _ low (passes_on closed old run from to at contact shut out)))
 
 -- some runs are passed on, and then those after them
 pub IsPassedOn-then : (rows : List (List ℕ)) (runs : List Run) (closed : List ℕ) (first middle end : ℕ) (old now new : List ℕ) (before after : Bool)

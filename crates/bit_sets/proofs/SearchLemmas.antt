@@ -9,7 +9,6 @@ use Rattle.bit_sets.specs.Reached.{IsReached}
 use Rattle.bit_sets.specs.Reached.IsReached.{emitting, by_row, by_contact}
 use Rattle.bit_sets.specs.Rows.{GainsLed, leads}
 use Rattle.bit_sets.specs.declared.contacts.Run.{Run}
-use Rattle.bit_sets.proofs.LedLemmas.{leads-past}
 use Rattle.bit_sets.proofs.PassLemmas.{contact_number}
 use Rattle.bit_sets.proofs.PlaceLemmas.{has_place-past}
 
@@ -74,19 +73,16 @@ pub record IsSearching (rows : List (List ℕ)) (runs : List Run) (emits closed 
 
 -- it begins with the rows of what emits
 pub IsSearching-start : (rows : List (List ℕ)) (runs : List Run) (emits closed commons words : List ℕ) (has_new : Bool)
-    → length rows ≤ 1040 → ((from to : ℕ) → leads rows from to ≡ true → 1040 ≤ to) → length words ≡ 31
-    → GainsLed rows (has_place emits) emits words → AreCommons runs commons → (has_new ≡ false → ArePlacesApart commons words)
+    → length words ≡ 31 → GainsLed rows (has_place emits) emits words → AreCommons runs commons → (has_new ≡ false → ArePlacesApart commons words)
     → IsSearching rows runs emits closed words has_new
-IsSearching-start rows runs emits closed commons words has_new short onward long gains are_commons apart = record {
+IsSearching-start rows runs emits closed commons words has_new long gains are_commons apart = record {
   kept = gains.kept;
   sound = λ place at.
       ⊎_elim (λ at_emits. emitting place at_emits) (λ led. by_row led.0 place (emitting led.0 led.1) led.2) (gains.only place at);
   joined = λ from to at leads_on.
       ⊎_elim
       (λ at_emits. gains.led from to at_emits leads_on)
-      (λ led.
-      let high = onward led.0 from led.2 in
-      absurd (false≢true (sym (leads-past rows from to (omega (arith, short, high))) ∙ leads_on)))
+      (λ led. absurd (false≢true (sym (gains.last led.0 from to led.1 led.2) ∙ leads_on)))
       (gains.only from at);
   passed = λ over from to at contact shut.
       let low : from < 1984 = inside from at (cases_lt from 1984) in
@@ -140,10 +136,10 @@ IsReached-found rows runs emits closed words has_new over searching place = (sea
   found (by_contact from to at contact shut) = searching.passed over from to (found at) contact shut
 
 -- where no contact is closed, the places and what their rows lead to are all that is reached
-pub IsReached-by_rows : (rows : List (List ℕ)) (runs : List Run) (emits now : List ℕ) → length rows ≤ 1040
-    → ((from to : ℕ) → leads rows from to ≡ true → 1040 ≤ to) → GainsLed rows (has_place emits) emits now → (place : ℕ)
+pub IsReached-by_rows : (rows : List (List ℕ)) (runs : List Run) (emits now : List ℕ)
+    → GainsLed rows (has_place emits) emits now → (place : ℕ)
     → (has_place now place ≡ true) ↔ IsReached rows runs emits [] place
-IsReached-by_rows rows runs emits now short onward gains place = (sound place, found) where
+IsReached-by_rows rows runs emits now gains place = (sound place, found) where
   sound : (place : ℕ) → has_place now place ≡ true → IsReached rows runs emits [] place
   sound place at =
       ⊎_elim (λ at_emits. emitting place at_emits) (λ led. by_row led.0 place (emitting led.0 led.1) led.2) (gains.only place at)
@@ -153,8 +149,6 @@ IsReached-by_rows rows runs emits now short onward gains place = (sound place, f
   found (by_row from to at leads) =
       ⊎_elim
       (λ at_emits. gains.led from to at_emits leads)
-      (λ led.
-      let high = onward led.0 from led.2 in
-      absurd (false≢true (sym (leads-past rows from to (omega arith)) ∙ leads)))
+      (λ led. absurd (false≢true (sym (gains.last led.0 from to led.1 led.2) ∙ leads)))
       (gains.only from (found at))
   found (by_contact from to at contact shut) = absurd (false≢true (sym (has_place-past [] to (omega arith)) ∙ shut))

@@ -8,7 +8,7 @@ use Rattle.std.proofs.lemmas.List.{get_or_past, length-set, length-append}
 use Rattle.std.proofs.Math.ListN.{get_or-append}
 use Rattle.std.proofs.Math.Seq.{get_or-append_seam}
 use Rattle.bit_sets.specs.Bits.{is_bit, has_place}
-use Rattle.bit_sets.specs.Rows.{GainsLed, is_in_entries}
+use Rattle.bit_sets.specs.Rows.{GainsLed, is_in_entries, leads}
 use Rattle.bit_sets.specs.Shorts.{AreShorts, IsShort, is_in_short}
 use Rattle.bit_sets.specs.declared.shorts.Short.{Short}
 use Rattle.bit_sets.proofs.BitLemmas.{none_set}
@@ -78,11 +78,12 @@ short_whole row first last long low_first low_last none place = ⊎_elim
 -- a set joined with the two words gains the row
 pub GainsLed-short : (rows : List (List ℕ)) (from : ℕ) (short : Short) (old : List ℕ) → length old ≡ 31
     → IsShort (slice_index_or rows from []) short → short.is_whole ≡ true
+    → ((to next : ℕ) → leads rows from to ≡ true → leads rows to next ≡ false)
     → (now new : List ℕ) → now ≡ slice_set old short.first (bit_or (slice_index_or old short.first 0) short.first_bits)
     → new ≡ slice_set now short.last (bit_or (slice_index_or now short.last 0) short.last_bits)
     → GainsLed rows (λ place. place == from) old new
-GainsLed-short rows from short old long is_short whole now new at_first at_last =
-    GainsLed-row rows from (slice_index_or rows from []) old new refl
+GainsLed-short rows from short old long is_short whole last now new at_first at_last =
+    GainsLed-row rows from (slice_index_or rows from []) old new refl last
     (λ place. twice place ∙ ap (λ b. has_place old place || b) (sym (is_short.whole whole place))) where
       bit : (word number j : ℕ) → j < 64 → is_bit word j ≡ is_bit word ((64 * number + j) % 64)
       bit word number j low = let same : j ≡ (64 * number + j) % 64 = omega arith in ap (is_bit word) same

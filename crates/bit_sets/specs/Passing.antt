@@ -6,7 +6,7 @@ use Rattle.bit_sets.specs.Reached.{IsReached}
 use Rattle.bit_sets.specs.Rows.{leads}
 use Rattle.bit_sets.specs.declared.contacts.Run.{Run}
 
--- new has what old has, each place of the test and what these places lead to, and no more
+-- new has what old has, each place of the test and what these places lead to, and no more; what they lead to leads nowhere
 pub record GainsPassed (rows : List (List ℕ)) (test : ℕ → Bool) (old new : List ℕ) : Type 0 where
   pub kept : (place : ℕ) → has_place old place ≡ true → has_place new place ≡ true
   pub passed : (place : ℕ) → test place ≡ true → has_place new place ≡ true
@@ -14,6 +14,7 @@ pub record GainsPassed (rows : List (List ℕ)) (test : ℕ → Bool) (old new :
   pub only :
       (to : ℕ) → has_place new to ≡ true
       → (has_place old to ≡ true) ⊎ ((test to ≡ true) ⊎ ((from : ℕ) × (test from ≡ true) × (leads rows from to ≡ true)))
+  pub last : (from to next : ℕ) → test from ≡ true → leads rows from to ≡ true → leads rows to next ≡ false
 
 -- Contacts of the runs from one number to another are passed: the set gains only what is reached, it has what the rows of its places
 -- lead to where it had that before, and the answer tells whether it gained any. Where it gained none, none of these contacts leads out of it.

@@ -1,5 +1,5 @@
 -- Rows of places: which places each place leads to. A row stands for the places from 1024 on.
-use Rattle.std.specs.Prelude.{◌≡◌, ℕ, ◌-◌, ◌/◌, ◌&&◌, ◌⊎◌, nat_le, nat_lt, Bool, true, List, [], slice_index_or}
+use Rattle.std.specs.Prelude.{◌≡◌, ℕ, ◌-◌, ◌/◌, ◌&&◌, ◌⊎◌, nat_le, nat_lt, Bool, true, false, List, [], slice_index_or}
 use Rattle.bit_sets.specs.Bits.{has_place}
 
 -- whether a row has a place
@@ -10,13 +10,14 @@ is_in_entries row to = nat_le 1024 to && has_place row (to - 1024)
 abbrev pub leads : List (List ℕ) → ℕ → ℕ → Bool
 leads rows from to = is_in_entries (slice_index_or rows from []) to
 
--- new has what old has and what the places of the test lead to, and no more
+-- new has what old has and what the places of the test lead to, and no more; what they lead to leads nowhere
 pub record GainsLed (rows : List (List ℕ)) (test : ℕ → Bool) (old new : List ℕ) : Type 0 where
   pub kept : (place : ℕ) → has_place old place ≡ true → has_place new place ≡ true
   pub led : (from to : ℕ) → test from ≡ true → leads rows from to ≡ true → has_place new to ≡ true
   pub only :
       (to : ℕ) → has_place new to ≡ true
       → (has_place old to ≡ true) ⊎ ((from : ℕ) × (test from ≡ true) × (leads rows from to ≡ true))
+  pub last : (from to next : ℕ) → test from ≡ true → leads rows from to ≡ true → leads rows to next ≡ false
 
 -- whether a set has a place in its words from one to another
 abbrev pub is_in_words : ℕ → ℕ → List ℕ → ℕ → Bool

@@ -96,7 +96,6 @@ fn pass_one(
     requires { All IsRunInRange runs.now }
     ensures { IsPassedOn rows.now runs.now closed.now at (at + 1) words.old words.new result }
 {
-    rows.known();
     if at < runs.len() {
         pass_run(rows, runs[at], closed, words)
     } else {
@@ -113,7 +112,6 @@ fn pass_run(rows: &Rows, contacts: Run, closed: &[u64; WORDS], words: &mut [u64;
     ensures some { result ≡ true → (place : ℕ) × ((nat_lt place 1984 && passes_run closed.now words.old contacts place) ≡ true) }
     ensures none { result ≡ false → (place : ℕ) → (nat_lt place 1984 && passes_run closed.now words.old contacts place) ≡ false }
 {
-    rows.known();
     let impulsed = run(words, contacts.common) & first_bits(contacts.count);
     if impulsed == 0 {
         return false;

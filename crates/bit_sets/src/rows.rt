@@ -93,20 +93,12 @@ impl Rows {
         Ok(())
     }
 
-    // What is known of all rows: no row leads to a place that has a row.
-    pub(crate) fn known(&self)
-        ensures short { length self.now ≤ EXITS }
-        ensures onward { (from to : ℕ) → leads self.now from to ≡ true → EXITS ≤ to }
-    {
-        let _rows = &self.rows;
-    }
-
     // Adds to a set what its places lead to. Only the first words have places with a row.
     #[inline(always)]
     pub(crate) fn join_own(&self, words: &mut [u64; WORDS])
-        ensures { GainsLed self.now (has_place words.old) words.old words.new }
+        ensures gains { GainsLed self.now (has_place words.old) words.old words.new }
+        ensures short { length self.now ≤ EXITS }
     {
-        self.known();
         for block in 0..4 {
             self.join_four(4 * block, words);
         }
@@ -119,7 +111,6 @@ impl Rows {
         requires { at + 4 ≤ 16 }
         ensures { GainsLed self.now (is_in_words at (at + 4) words.old) words.old words.new }
     {
-        self.known();
         self.join_word(at, words);
         self.join_word(at + 1, words);
         self.join_word(at + 2, words);
@@ -130,7 +121,8 @@ impl Rows {
     #[inline(always)]
     fn join_word(&self, number: usize, words: &mut [u64; WORDS])
         requires { number < 17 }
-        ensures { GainsLed self.now (is_in_words number (number + 1) words.old) words.old words.new }
+        ensures gains { GainsLed self.now (is_in_words number (number + 1) words.old) words.old words.new }
+        ensures short { length self.now ≤ EXITS }
     {
         if words[number] & self.marked[number] != 0 {
             self.join_marked(number, words);
@@ -298,9 +290,8 @@ impl Rows {
     fn set_apart(&self, runs: &[Run]) -> [u64; WORDS]
         ensures { AreCovered result runs.now self.now }
     {
-        self.known();
         let mut apart = [0; WORDS];
-        for from in 0..EXITS {
+        for from in 0..self.rows.len() {
             put_where(&mut apart, from, !self.is_covered(from, runs));
         }
         apart

@@ -27,7 +27,6 @@ pub fn reach(
         → (has_place words.new place ≡ true) ↔ IsReached rows.now runs.now words.old closed.now place }
     ensures short { length rows.now ≤ EXITS }
 {
-    rows.known();
     rows.join_own(words);
     let mut has_new = meet(commons, words);
     while has_new {
@@ -43,7 +42,6 @@ pub fn reach_by_rows(rows: &Rows, emits: &[u64; WORDS], out: &mut [u64; WORDS])
         → (has_place out.new place ≡ true) ↔ IsReached rows.now runs emits.now [] place }
     ensures short { length rows.now ≤ EXITS }
 {
-    rows.known();
     *out = *emits;
     rows.join_own(out);
 }

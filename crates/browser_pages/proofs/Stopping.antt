@@ -2,7 +2,7 @@
 use Rattle.std.proofs.Common.{◌≡◌, ◌≢◌, ◌∙◌, ap, sym, subst, ℕ, List, [], Option, Some, Result, unwrap_or}
 use Rattle.std.specs.Prelude.{IfErr, IfSome}
 use Rattle.browser_pages.specs.Asked.{LacksAsked}
-use Rattle.browser_pages.specs.Served.{LeavesUnshown, StopsShow}
+use Rattle.browser_pages.specs.ShowEnds.{LeavesUnshown, StopsShow}
 use Rattle.browser_pages.specs.Shown.{IsUnshown, no_such_page, texts}
 use Rattle.faults.specs.declared.fault.Fault.{Fault}
 use Rattle.faults.specs.declared.fault.Fault.TheVariants as fault

@@ -1,3 +1,3 @@
 pub mod Asked
-pub mod Served
+pub mod ShowEnds
 pub mod Shown

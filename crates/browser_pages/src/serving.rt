@@ -4,7 +4,7 @@ ghost use Rattle.std.specs.Prelude.{◌≡◌, ◌≤◌, ◌⊎◌, IfErr, OnOk
 ghost use Rattle.faults.specs.Lines.{IsTold};
 ghost use Rattle.panel_guides.specs.Panels.{HasPanel};
 ghost use Rattle.panel_guides.specs.Unexplained.{IsToldUnexplained};
-ghost use Rattle.browser_pages.specs.Served.{LeavesUnshown, PrintsPage, PrintsPageOf, StopsShow};
+ghost use Rattle.browser_pages.specs.ShowEnds.{LeavesUnshown, PrintsPage, PrintsPageOf, StopsShow};
 
 use crate::pages::page_of;
 use faults::{Ending, Fault};

@@ -17,7 +17,7 @@ const BALANCE: &[u8] =
 /// The plan of the chart, but with the last pilot in place of the first.
 fn with_last_pilot(alloc: Global, chart: &Chart) -> Result<Plan, Fail> {
     let own = allocate(alloc, chart, &Profile::standard())?;
-    // What is known of the parts of every plan is told with them.
+    // What is known of the parts of every plan is told with them: that saves a check of them against the machine.
     let _pilots = own.pilots();
     let counters = own.counters().to_vec(alloc)?;
     let parts = Wanted::of(alloc, chart)?.into_parts();

@@ -1,7 +1,8 @@
--- What the fields of a chart have on a card: a row of a table for each, with its name, its columns and the characters in them.
-use Rattle.std.specs.Prelude.{ℕ, ◌-◌, List, [], ◌++◌, codes, decimal, drop, take}
+-- What the fields of a chart have on a card: a row of a table for each, with its name, its columns and the characters in them, and with
+-- the sign column, if it has one, and the character there.
+use Rattle.std.specs.Prelude.{ℕ, ◌-◌, List, [], ◌++◌, Option, Some, None, codes, decimal, drop, take}
 use Rattle.std.specs.List.{flat_map}
-use Rattle.charts.specs.Field.{columns_of}
+use Rattle.charts.specs.Field.{columns_of, sign_column}
 use Rattle.charts.specs.Name.{name_text}
 use Rattle.charts.specs.declared.chart.Line.{Line}
 use Rattle.charts.specs.declared.statement.Field.{Field}
@@ -30,13 +31,32 @@ columns_text first last = first_text first ++ last_text last
 unfoldable pub named_open : (number : ℕ) → (name : List ℕ) → List ℕ
 named_open number name = field_open number ++ escaped (name_text name)
 
+-- the character of a column, of those of a card
+abbrev pub column_character : (characters : List ℕ) → ℕ → List ℕ
+column_character characters column = take 1 (drop (column - 1) characters)
+
+-- a sign column, and its character
+unfoldable pub sign_open : ℕ → List ℕ
+sign_open column = codes ", sign in column " ++ decimal column ++ codes ": <code>"
+
+unfoldable pub characters_close : List ℕ
+characters_close = codes "</code>"
+
+unfoldable pub column_sign : (characters : List ℕ) → ℕ → List ℕ
+column_sign characters column = sign_open column ++ escaped (column_character characters column) ++ characters_close
+
+-- that of a field, if it has one
+abbrev pub sign_text : (characters : List ℕ) → Option ℕ → List ℕ
+sign_text characters (Some column) = column_sign characters column
+sign_text characters None = []
+
 unfoldable pub field_close : List ℕ
-field_close = codes "</code></td></tr>\n"
+field_close = codes "</td></tr>\n"
 
 unfoldable pub field_text : (characters : List ℕ) → (number : ℕ) → Field → List ℕ
 field_text characters number field =
     named_open number field.name ++ columns_text field.first field.last
-    ++ escaped (field_characters characters field) ++ field_close
+    ++ escaped (field_characters characters field) ++ characters_close ++ sign_text characters (sign_column field.kind) ++ field_close
 
 -- the field that a line of the chart names
 abbrev pub field_of : (characters : List ℕ) → (number : ℕ) → Statement → List ℕ

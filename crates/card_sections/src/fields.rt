@@ -3,8 +3,8 @@
 ghost use Rattle.std.specs.Prelude.{◌≡◌, ◌-◌, ◌++◌, codes, drop, take, OnOk};
 ghost use Rattle.std.specs.List.{flat_map};
 ghost use Rattle.std.specs.String.{string_bytes};
-ghost use Rattle.charts.specs.Field.{columns_of};
-ghost use Rattle.card_sections.specs.Fields.{card_fields, columns_text, field_characters, field_close, field_of, field_open, field_text, fields_text, first_text, last_text, line_field, named_open};
+ghost use Rattle.charts.specs.Field.{columns_of, sign_column};
+ghost use Rattle.card_sections.specs.Fields.{card_fields, characters_close, column_character, column_sign, columns_text, field_characters, field_close, field_of, field_open, field_text, fields_text, first_text, last_text, line_field, named_open, sign_open, sign_text};
 
 use card_code::Card;
 use charts::{Field, Line, Name, Statement};
@@ -86,12 +86,55 @@ fn write_columns(text: &mut String, first: u16, last: u16) -> Result<(), AllocEr
     write_last(text, last)
 }
 
+// The character of a column.
+fn column_character(characters: &[u8], column: u16) -> &[u8]
+    ensures { result.now ≡ column_character characters.now column }
+{
+    up_to(behind(characters, usize::from(column.saturating_sub(1))), 1)
+}
+
+#[tactic(auto, unfolding(crate::specs::Fields::characters_close))]
+// What stands behind characters.
+fn write_characters_close(text: &mut String) -> Result<(), AllocError>
+    ensures { OnOk result (string_bytes text.new ≡ string_bytes text.old ++ characters_close) }
+{
+    text.push_str("</code>")
+}
+
+#[tactic(auto, unfolding(crate::specs::Fields::sign_open))]
+// What stands before the character of a sign column.
+fn write_sign_open(text: &mut String, column: u16) -> Result<(), AllocError>
+    ensures { OnOk result (string_bytes text.new ≡ string_bytes text.old ++ sign_open column) }
+{
+    push_between(text, ", sign in column ", column, ": <code>")
+}
+
+#[tactic(auto, unfolding(crate::specs::Fields::column_sign))]
+// A sign column, and its character.
+fn write_column_sign(text: &mut String, characters: &[u8], column: u16) -> Result<(), AllocError>
+    ensures { OnOk result (string_bytes text.new ≡ string_bytes text.old ++ column_sign characters.now column) }
+{
+    write_sign_open(text, column)?;
+    push_escaped(text, column_character(characters, column))?;
+    write_characters_close(text)
+}
+
+// The sign column of a field, if it has one.
+fn write_sign(text: &mut String, characters: &[u8], column: Option<u16>) -> Result<(), AllocError>
+    ensures { OnOk result (string_bytes text.new ≡ string_bytes text.old ++ sign_text characters.now column) }
+{
+    match column {
+        Some(column) => write_column_sign(text, characters, column),
+        None => Ok(()),
+    }
+}
+
 #[tactic(auto, unfolding(crate::specs::Fields::field_close))]
-// What stands behind the characters of a field.
+// What stands behind a field.
 fn write_field_close(text: &mut String) -> Result<(), AllocError>
     ensures { OnOk result (string_bytes text.new ≡ string_bytes text.old ++ field_close) }
 {
-    text.push_str("</code></td></tr>\n")
+    text.push_str("</td></tr>\n")
 }
 
 #[tactic(auto, unfolding(crate::specs::Fields::field_text))]
@@ -107,6 +150,8 @@ fn write_field(
     write_name(text, number, field.name)?;
     write_columns(text, field.first, field.last)?;
     push_escaped(text, field_characters(characters, field))?;
+    write_characters_close(text)?;
+    write_sign(text, characters, field.kind.sign_column())?;
     write_field_close(text)
 }
 

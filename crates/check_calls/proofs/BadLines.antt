@@ -14,7 +14,7 @@ use Rattle.compile407.proofs.Exclusions.{none_told}
 use Rattle.compile407.specs.Below.charts.Chart.{Chart}
 use Rattle.check_calls.specs.DeckChecks.BadLines as lines
 use Rattle.check_calls.specs.DeckChecks.BadLines.{IsBadLine, IsGoodLine}
-use Rattle.faults.specs.Told.{deck_told, of_card, run_told}
+use Rattle.faults.specs.ToldFaults.{deck_told, of_card, run_told}
 use Rattle.faults.specs.declared.fault.Fault.{Fault}
 
 -- a line has one card

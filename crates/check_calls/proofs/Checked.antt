@@ -1,13 +1,13 @@
 -- What was checked, by the text of the chart.
 use Rattle.std.proofs.Common.{◌≡◌, ◌≢◌, ◌⊎◌, inl, inr, ℕ, List, Option, Some, None, IfSome, Result, Ok, Err, OnOk, IfErr, subst}
-use Rattle.check_calls.specs.Served.{HasRunnableDeck, PrintsOk, StopsCheck, chart_refused, chart_unread, deck_told}
+use Rattle.check_calls.specs.CheckEnds.{HasRunnableDeck, PrintsOk, StopsCheck, chart_refused, chart_unread, deck_told}
 use Rattle.commands.specs.Answers.{CompilesAs}
 use Rattle.compile407.specs.ChartFaults.{HasChartFault}
 use Rattle.compile407.specs.Compilation.{Compilation}
 use Rattle.check_calls.specs.DeckChecks.Endings.{EndsCheck, IsFine, WritesFine}
 use Rattle.compile407.specs.Below.charts.Chart.{Chart}
 use Rattle.faults.proofs.Statuses.{memory_or_not}
-use Rattle.faults.specs.Told.{chart_told}
+use Rattle.faults.specs.ToldFaults.{chart_told}
 use Rattle.faults.specs.declared.chart.ChartFault.{ChartFault}
 use Rattle.faults.specs.declared.chart.ChartFault.TheVariants as chart
 use Rattle.faults.specs.declared.fault.Fault.{Fault}

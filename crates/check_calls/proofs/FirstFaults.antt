@@ -27,7 +27,7 @@ use Rattle.compile407.specs.Below.streamed_runs.declared.fault.StreamCause.TheVa
 use Rattle.check_calls.specs.DeckChecks.BadLines.{IsGoodLine}
 use Rattle.check_calls.specs.DeckChecks.Listings.{IsListing, misfit_told, totals_told}
 use Rattle.report.specs.FollowedDecks.FitSoFar.{FitSoFar}
-use Rattle.faults.specs.Told.{deck_told, of_card, run_told}
+use Rattle.faults.specs.ToldFaults.{deck_told, of_card, run_told}
 use Rattle.faults.specs.declared.fault.Fault.{Fault}
 
 -- lines of valid cards are good

@@ -12,7 +12,7 @@ use Rattle.compile407.specs.ChartFaults.{HasChartFault}
 use Rattle.compile407.specs.Compilation.{Compilation}
 use Rattle.faults.proofs.Statuses.{memory_or_not}
 use Rattle.faults.specs.Status.{status_of}
-use Rattle.faults.specs.Told.{chart_told}
+use Rattle.faults.specs.ToldFaults.{chart_told}
 use Rattle.faults.specs.declared.chart.ChartFault.{ChartFault}
 use Rattle.faults.specs.declared.chart.ChartFault.TheVariants as chart
 use Rattle.faults.specs.declared.fault.Fault.{Fault}

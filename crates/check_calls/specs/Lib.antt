@@ -1,6 +1,6 @@
 pub mod Grouped
 pub mod Large
 pub mod Laws
-pub mod Served
+pub mod CheckEnds
 pub mod Showing
 pub mod DeckChecks

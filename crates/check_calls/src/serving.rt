@@ -1,7 +1,7 @@
 //! The command that checks a chart and all cards of a deck, over any reader and writers.
 
 ghost use Rattle.std.specs.Prelude.{◌≡◌, ◌≢◌, ◌≤◌, ◌⊎◌, IfErr, OnOk};
-ghost use Rattle.check_calls.specs.Served.{PrintsOk, StopsCheck};
+ghost use Rattle.check_calls.specs.CheckEnds.{PrintsOk, StopsCheck};
 ghost use Rattle.faults.specs.Lines.{IsTold};
 ghost use Rattle.faults.specs.Status.{status_of};
 

@@ -9,8 +9,8 @@ use Rattle.commands.proofs.Refusing.{wiring_refused}
 use Rattle.program_io.proofs.Refusing.{is_known, read_is_known, refusal_is_not_memory}
 use Rattle.commands.specs.Answers.{Answers, Compiles, IsUpgradeOf, IsWiringChartOf, PrintAlike}
 use Rattle.commands.specs.Refusals.{Refuses, RefusesReplay}
-use Rattle.faults.specs.Told.{wiring_told}
-use Rattle.commands.specs.Served.{IsDone, IsRefused, PrintsReplay}
+use Rattle.faults.specs.ToldFaults.{wiring_told}
+use Rattle.commands.specs.CommandEnds.{IsDone, IsRefused, PrintsReplay}
 use Rattle.faults.specs.Status.{status_of}
 use Rattle.program_io.specs.declared.command.Command.{Command}
 use Rattle.program_io.specs.declared.command.Command.TheVariants as command

@@ -3,7 +3,7 @@ use Rattle.std.proofs.Common.{◌⊎◌, inr, refl, List, ℕ, Option, Result, O
 use Rattle.std.specs.Prelude.{OnErr, OnOk}
 use Rattle.card_code.specs.Deck.{Deck}
 use Rattle.commands.specs.Answers.{AreReplayedPages}
-use Rattle.commands.specs.Served.{PrintsFront, PrintsReplay}
+use Rattle.commands.specs.CommandEnds.{PrintsFront, PrintsReplay}
 use Rattle.machine.specs.Runs.{MachineLines}
 use Rattle.page_text.specs.Pages.{Pages}
 use Rattle.page_text.specs.declared.placed_lines.placed_line.PlacedLine.{PlacedLine}

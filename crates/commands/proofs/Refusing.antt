@@ -18,7 +18,7 @@ use Rattle.wire_chart.specs.WrittenText.{IsWritten}
 use Rattle.commands.specs.Answers.{ArePagesOf, ArePagesOn, AreReplayedPages, CompilesAs, IsWiringChartOf}
 use Rattle.commands.specs.Refusals.{RefusesChart, RefusesReplay, RefusesRun, cards, punches, wires}
 use Rattle.program_io.specs.Refusals.{RefusesDeck}
-use Rattle.faults.specs.Told.{chart_told, run_told, wiring_told}
+use Rattle.faults.specs.ToldFaults.{chart_told, run_told, wiring_told}
 use Rattle.faults.specs.declared.fault.Fault.{Fault}
 use Rattle.faults.specs.declared.fault.Fault.TheVariants as fault
 

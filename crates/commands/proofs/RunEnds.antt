@@ -7,7 +7,7 @@ use Rattle.commands.specs.Streamed.{EndsRun, IsToldOf, chart_refused, chart_unre
 use Rattle.faults.proofs.Statuses.{deck_status, memory_or_not, run_status}
 use Rattle.faults.specs.Lines.{IsTold}
 use Rattle.faults.specs.Status.{status_of}
-use Rattle.faults.specs.Told.{deck_told, of_card, run_told}
+use Rattle.faults.specs.ToldFaults.{deck_told, of_card, run_told}
 use Rattle.faults.specs.declared.deck.RunFault.{RunFault}
 use Rattle.faults.specs.declared.deck.RunFault.TheVariants as deck
 use Rattle.faults.specs.declared.fault.Fault.{Fault}

@@ -18,7 +18,7 @@ use Rattle.compile407.specs.Compilation.{Compilation}
 use Rattle.faults.proofs.Statuses.{memory_or_not}
 use Rattle.faults.specs.Lines.{IsTold}
 use Rattle.faults.specs.Status.{status_of}
-use Rattle.faults.specs.Told.{deck_told, of_card, run_told}
+use Rattle.faults.specs.ToldFaults.{deck_told, of_card, run_told}
 use Rattle.faults.specs.declared.deck.RunFault.{RunFault}
 use Rattle.faults.specs.declared.deck.RunFault.TheVariants as deck
 use Rattle.faults.specs.declared.fault.Fault.{Fault}

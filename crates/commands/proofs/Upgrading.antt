@@ -14,7 +14,7 @@ use Rattle.wire_chart.specs.Below.wiring_text.declared.statement.Statement.{Stat
 use Rattle.wire_chart.specs.Below.wiring_text.declared.statement.Version.TheVariants.{Second}
 use Rattle.commands.specs.Answers.{AreReplayedPages, IsUpgradeOf, PrintAlike}
 use Rattle.program_io.specs.Refusals.{RefusesWiring}
-use Rattle.faults.specs.Told.{wiring_told}
+use Rattle.faults.specs.ToldFaults.{wiring_told}
 use Rattle.faults.specs.declared.fault.Fault.{Fault}
 use Rattle.faults.specs.declared.fault.Fault.TheVariants as fault
 

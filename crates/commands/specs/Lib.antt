@@ -1,7 +1,7 @@
 pub mod Answers
 pub mod Laws
 pub mod Refusals
-pub mod Served
+pub mod CommandEnds
 pub mod Streamed
 pub mod ServedReplays
 pub mod UnitOrders

@@ -12,7 +12,7 @@ use Rattle.wire_chart.specs.Below.wiring_text.WiringFaults as wiring_faults
 use Rattle.wire_chart.specs.Below.wiring_text.WiringText.{ReadsAs}
 use Rattle.wire_chart.specs.Below.wiring_text.declared.fault.WiringFault.{WiringFault}
 use Rattle.commands.specs.Answers.{CompilesAs}
-use Rattle.faults.specs.Told.{chart_told, run_told, wiring_told}
+use Rattle.faults.specs.ToldFaults.{chart_told, run_told, wiring_told}
 use Rattle.program_io.specs.declared.command.Command.{Command}
 use Rattle.program_io.specs.declared.command.Command.TheVariants as command
 use Rattle.faults.specs.declared.fault.Fault.{Fault}

@@ -2,4 +2,4 @@ pub mod Answers
 pub mod Counted
 pub mod Laws
 pub mod Refusals
-pub mod Served
+pub mod OrderedEnds

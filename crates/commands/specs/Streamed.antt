@@ -5,12 +5,12 @@ use Rattle.card_lines.specs.declared.fault.ReadFault.{ReadFault}
 use Rattle.card_lines.specs.declared.fault.ReadFault.TheVariants as read
 use Rattle.commands.specs.Answers.{CompilesAs, HasWiring}
 use Rattle.commands.specs.Refusals.{RefusesChart}
-use Rattle.commands.specs.Served.{IsDone, IsRefused}
+use Rattle.commands.specs.CommandEnds.{IsDone, IsRefused}
 use Rattle.program_io.specs.Stops.{Stops}
 use Rattle.program_io.specs.declared.command.Command.{Command}
 use Rattle.program_io.specs.declared.command.Command.TheVariants as command
 use Rattle.compile407.specs.Compilation.{Compilation}
-use Rattle.faults.specs.Told.{deck_told, of_card, run_told}
+use Rattle.faults.specs.ToldFaults.{deck_told, of_card, run_told}
 use Rattle.faults.specs.declared.deck.RunFault.TheVariants as deck
 use Rattle.faults.specs.declared.fault.Fault.{Fault}
 use Rattle.faults.specs.declared.fault.Fault.TheVariants as fault

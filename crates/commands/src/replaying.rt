@@ -3,7 +3,7 @@
 ghost use Rattle.std.specs.Prelude.{◌≡◌, ◌⊎◌, ℕ, IfErr, OnErr, OnOk};
 ghost use Rattle.card_code.specs.Deck.{IsDeckText};
 ghost use Rattle.commands.specs.Refusals.{RefusesReplay};
-ghost use Rattle.commands.specs.Served.{PrintsFront, PrintsReplay};
+ghost use Rattle.commands.specs.CommandEnds.{PrintsFront, PrintsReplay};
 ghost use Rattle.program_io.specs.Stops.{Stops};
 ghost use Rattle.faults.specs.Status.{status_of};
 ghost use Rattle.commands.specs.DeckReplays.Replays.{GainsFront, GainsPages};
@@ -42,6 +42,7 @@ fn print_deck<'a, W: Write>(
 {
     let Replayed { sink, written } = replay(alloc, setup, deck, Lent::new(out));
     let unwritten = sink.told();
+    // The lent output is handed back, so that it is known what was written: that saves a caller to give it away.
     let _out = sink.into_writer();
     match written {
         Ok(()) => Ok(()),

@@ -75,12 +75,14 @@ pub fn print_run<'a, R: Read + Drop, W: Write>(
     let unwritten = sink.told();
     match run {
         Ok(_) => {
+            // The lent output is handed back, so that it is known what was written: that saves a caller to give it away.
             let _out = sink.into_writer();
             Ok(())
         }
         Err(fault) => {
             // What was written is handed on; where that fails too, the first fault is told.
             let _ = sink.flush();
+            // As above.
             let _out = sink.into_writer();
             Err(told_of(fault.cause, unwritten))
         }

@@ -3,7 +3,7 @@
 ghost use Rattle.std.specs.Prelude.{◌≡◌, ◌≢◌, ◌≤◌, ◌⊎◌, ℕ, List, Option, IfErr, OnOk};
 ghost use Rattle.program_io.specs.Commands.{IsNoCommand, word_of};
 ghost use Rattle.commands.specs.Answers.{HasWiring};
-ghost use Rattle.commands.specs.Served.{IsDone, IsRefused};
+ghost use Rattle.commands.specs.CommandEnds.{IsDone, IsRefused};
 ghost use Rattle.program_io.specs.Stops.{Stops};
 ghost use Rattle.commands.specs.Streamed.{HasFailed, HasRefused, HasServed};
 ghost use Rattle.faults.specs.Lines.{IsTold};

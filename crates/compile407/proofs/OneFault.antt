@@ -30,7 +30,7 @@ use Rattle.compile407.specs.ChartFaults.{HasChartFault}
 use Rattle.streamed_runs.specs.PrintPromises.Promises.{IsDeck}
 use Rattle.compile407.specs.Outcomes.{ChartsHaveOneFault, DecksHaveOneFault}
 use Rattle.compile407.specs.RunFaults.{HasRunFault, IsInvalidDeck, IsMisfit}
-use Rattle.faults.specs.Told.{of_card}
+use Rattle.faults.specs.ToldFaults.{of_card}
 use Rattle.faults.specs.declared.chart.ChartFault.{ChartFault}
 use Rattle.faults.specs.declared.chart.ChartFault.TheVariants as chart
 use Rattle.faults.specs.declared.deck.RunFault.{RunFault}

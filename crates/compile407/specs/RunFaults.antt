@@ -6,7 +6,7 @@ use Rattle.chart_rules.specs.Below.line_rules.FieldRules.Fields.{fields_of}
 use Rattle.chart_rules.specs.ValidCard.{IsValidCard, IsFirstInvalid}
 use Rattle.chart_rules.specs.declared.card.CardFault.{CardFault}
 use Rattle.misfits.specs.Below.report.Misfits.{Misfit, first_of, misfits}
-use Rattle.faults.specs.Told.{of_card}
+use Rattle.faults.specs.ToldFaults.{of_card}
 use Rattle.faults.specs.declared.deck.RunFault.{RunFault}
 use Rattle.faults.specs.declared.deck.RunFault.TheVariants as deck
 use Rattle.streamed_runs.specs.PrintPromises.Promises.{IsDeck}

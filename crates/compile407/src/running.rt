@@ -2,7 +2,7 @@
 
 ghost use Rattle.std.specs.Prelude.{◌≡◌, ◌≢◌, ◌≤◌, ◌<◌, ◌+◌, length, IfOk, IfErr, OnOk, All, option_map};
 ghost use Rattle.card_code.specs.MostCards.{most_cards};
-ghost use Rattle.misfits.specs.Told.{told};
+ghost use Rattle.misfits.specs.ToldMisfits.{told};
 ghost use Rattle.misfits.specs.Below.report.Misfits.{first_of, misfits};
 ghost use Rattle.misfits.specs.Below.report.Totals.{Fits};
 ghost use Rattle.compile407.specs.RunFaults.{HasRunFault, IsInvalidDeck, IsMisfit};

@@ -22,8 +22,9 @@ use Rattle.net.specs.declared.cycle.Point.{Point}
 use Rattle.net.specs.declared.cycle.Point.TheVariants.{C, Row, K}
 use Rattle.setups.specs.Wiring.{Wiring}
 use Rattle.cycle_ways.proofs.Named.{named}
-use Rattle.cycle_ways.specs.Points.{TellsOf, TellsPoint}
-use Rattle.cycle_ways.specs.Told.{ControlsAreTold, IsToldBy}
+use Rattle.cycle_ways.specs.Points.{TellsOf}
+use Rattle.explanations.specs.Explanations.{TellsPoint}
+use Rattle.cycle_ways.specs.ToldImpulses.{ControlsAreTold, IsToldBy}
 
 -- whether a point comes behind the control point
 abbrev is_later : Point → Bool

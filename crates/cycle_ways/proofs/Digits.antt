@@ -23,8 +23,8 @@ use Rattle.ledgers.proofs.Points.{StandsAt, reached-stands}
 use Rattle.ledgers.proofs.Whole.{holds, ready-groups}
 use Rattle.cycle_ways.proofs.Controls.{group-sensed, stood}
 use Rattle.cycle_ways.proofs.Named.{named}
-use Rattle.cycle_ways.specs.Points.{TellsPoint}
-use Rattle.cycle_ways.specs.Told.{DigitsAreTold, digit_at}
+use Rattle.explanations.specs.Explanations.{TellsPoint}
+use Rattle.cycle_ways.specs.ToldImpulses.{DigitsAreTold, digit_at}
 
 digit-none : (here : Bool) (rest : ℕ) → rest ≡ 0 → (if here then 0 else rest) ≡ 0
 digit-none true rest none = refl

@@ -1,2 +1,2 @@
 pub mod Points
-pub mod Told
+pub mod ToldImpulses

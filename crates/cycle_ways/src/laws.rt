@@ -1,6 +1,6 @@
 //! Laws of ways. Each is a function that does nothing: its contract is the law.
 
-ghost use Rattle.cycle_ways.specs.Told.{ControlsAreTold, DigitsAreTold};
+ghost use Rattle.cycle_ways.specs.ToldImpulses.{ControlsAreTold, DigitsAreTold};
 
 /// In a cycle of a run a counter group is under plus exactly if a way to its plus entry is told at the control point, and so for minus and
 /// read-out.

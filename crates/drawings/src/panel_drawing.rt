@@ -9,7 +9,7 @@ mod blocks;
 mod drawing;
 mod laws;
 
-pub use blocks::{Block, Place, hub_place};
+pub use blocks::{Block, Coordinates, hub_place};
 pub use drawing::{
     PanelWire, ends_at, has_number, has_wire_at, write_block_name, write_drawing,
     write_picture_open, write_way, write_wire_name,

@@ -4,7 +4,7 @@ use Rattle.std.specs.Prelude.{String}
 use Rattle.std.specs.declared.alloc.Global.{Global}
 use Rattle.setups.specs.Wiring.{Wiring}
 use Rattle.explanations.specs.declared.found.FoundLine.{FoundLine}
-use Rattle.explanation_text.specs.Told.{Explains}
+use Rattle.explanation_text.specs.ExplanationTexts.{Explains}
 
 pub explained_there : (wiring : Wiring) (asked : List (String Global × Wiring)) (deck : List (List ℕ)) (found other : FoundLine)
     (page line wheel : ℕ) (text : List ℕ) → found ≡ other → other.kept.line.page ≡ page → other.kept.line.line ≡ line

@@ -8,7 +8,7 @@ use Rattle.explanations.specs.declared.explanation.Explanation.{Explanation}
 use Rattle.machine.specs.declared.kept.KeptPoint.{KeptPoint}
 use Rattle.setups.specs.Wiring.{Wiring}
 use Rattle.explanation_text.specs.Closing.{row_listed, rows_listed}
-use Rattle.explanation_text.specs.Told.{all_lines, lines_at}
+use Rattle.explanation_text.specs.ExplanationTexts.{all_lines, lines_at}
 
 pub rows_whole : (received : List Bool) → rows_listed received ≡ flat_map (row_listed received) (range_with_len 0 12)
 unfolding rows_listed

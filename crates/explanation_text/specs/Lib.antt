@@ -2,5 +2,5 @@ pub mod Asked
 pub mod Text
 pub mod Notes
 pub mod Closing
-pub mod Told
+pub mod ExplanationTexts
 pub mod Laws

@@ -5,7 +5,7 @@ ghost use Rattle.std.specs.String.{string_bytes};
 ghost use Rattle.explanations.specs.Pages.{IsPage, IsPageOfSome};
 ghost use Rattle.explanations.specs.PlacedInRun.{PrintsNoneAt};
 ghost use Rattle.explanations.specs.declared.refusal.Refusal.TheVariants.{NoSuchLine, NoSuchWheel};
-ghost use Rattle.explanation_text.specs.Told.{Explains};
+ghost use Rattle.explanation_text.specs.ExplanationTexts.{Explains};
 
 use crate::text::told_text;
 use explanations::{PageWays, Refusal};

@@ -6,7 +6,7 @@ ghost use Rattle.card_code.specs.MostCards.{most_cards};
 ghost use Rattle.explanations.specs.Pages.{HasWays};
 ghost use Rattle.explanations.specs.PlacedInRun.{IsFound, PrintsNoneAt};
 ghost use Rattle.explanations.specs.declared.refusal.Refusal.TheVariants.{NoSuchLine, NoSuchWheel};
-ghost use Rattle.explanation_text.specs.Told.{Explains, all_lines, lines_at, text_of};
+ghost use Rattle.explanation_text.specs.ExplanationTexts.{Explains, all_lines, lines_at, text_of};
 
 use crate::asked::write_asked;
 use crate::closing::write_closing;

@@ -2,6 +2,7 @@ mod Feeding
 mod Givers
 mod PageFeeding
 pub mod PageLines
+pub mod PointsTold
 mod Printed
 mod ReadyRuns
 mod RowLists

@@ -1,17 +1,14 @@
 -- A machine is ready for each cycle of a run.
-use Rattle.std.proofs.Common.{sym, subst, ℕ, Bool, true, false, List, [], ◌∷◌, Option, Some, if◌then◌else◌}
+use Rattle.std.proofs.Common.{sym, subst, ℕ, List, [], ◌∷◌, Some}
 use Rattle.page_text.specs.declared.placed_lines.placed_line.PlacedLine.{PlacedLine}
 use Rattle.setups.specs.Wiring.{Wiring}
 use Rattle.net.specs.declared.cycle.Cycle.{Cycle}
-use Rattle.net.specs.declared.cycle.Cycle.TheVariants.{RunIn, Card, Prog, Head}
-use Rattle.program_unit.specs.CycleOrder.{is_fresh}
-use Rattle.machine.specs.Feeds.{Fed, FedLines, begun, taken}
+use Rattle.machine.specs.Feeds.{Fed, FedLines, taken}
 use Rattle.machine.specs.Kept.{Steps}
 use Rattle.machine.specs.Kept.Steps.{none, more}
 use Rattle.machine.specs.Machine.{MachineState, machine_at_start}
-use Rattle.machine.specs.Runs.{moved_on}
 use Rattle.whole_cycles.specs.Between.{IsReady}
-use Rattle.whole_cycles.proofs.Ready.{machines-ready, ready-moved}
+use Rattle.whole_cycles.proofs.Ready.{machines-ready, ready-begun, ready-taken}
 use Rattle.explanations.specs.PlacedInRun.{PlacedInRun, machine_before}
 
 ready-fed : (wiring : Wiring) (old : MachineState) (cards : List (List ℕ)) (new : MachineState) (lines : List PlacedLine)
@@ -20,24 +17,6 @@ unfolding FedLines
 ready-fed wiring old [] new lines ready (same, no_lines) = subst (λ (m : MachineState). IsReady wiring m) (sym same) ready
 ready-fed wiring old (card ∷ cards) new lines ready (mid, first, others, feeds, fed, is) =
     ready-fed wiring mid cards new others (machines-ready.feeds wiring old (Some card) mid first ready feeds) fed
-
-ready-begun : (wiring : Wiring) (next : Option (List ℕ)) (machine : MachineState)
-    → IsReady wiring machine → IsReady wiring (begun machine next).machine
-ready-begun wiring next machine ready = by (is_fresh machine.program.stage)
-  where
-    by : (fresh : Bool)
-        → let fed : Fed = if fresh
-        then record { machine = moved_on next machine; waits = false; next = next }
-        else record { machine = machine; waits = true; next = next } in
-        IsReady wiring fed.machine
-    by true = ready-moved wiring next machine ready
-    by false = ready
-
-ready-taken : (wiring : Wiring) (cycle : Cycle) (fed : Fed) → IsReady wiring fed.machine → IsReady wiring (taken cycle fed).machine
-ready-taken wiring RunIn fed ready = ready
-ready-taken wiring Card fed ready = ready-moved wiring fed.next fed.machine ready
-ready-taken wiring (Prog level ordinal) fed ready = ready
-ready-taken wiring (Head heading) fed ready = ready
 
 ready-steps : (wiring : Wiring) (start : Fed) → IsReady wiring start.machine → {now : Fed} → Steps wiring start now
     → IsReady wiring now.machine

@@ -1,5 +1,5 @@
 -- What a cycle saw at its rows, point by point, and the line that it made.
-use Rattle.std.proofs.Common.{◌≡◌, ◌∙◌, sym, ap, subst, refl, arith, ℕ, zero, suc, ◌<◌, Bool, ◌∷◌, map}
+use Rattle.std.proofs.Common.{◌≡◌, ◌∙◌, sym, ap, refl, arith, ℕ, zero, suc, ◌<◌, Bool, ◌∷◌, map}
 use Rattle.std.specs.List.{range_with_len}
 use Rattle.card_code.specs.declared.row.Row.{Row as CardRow}
 use Rattle.card_code.specs.declared.row.Row.TheVariants.{Zero, One, Two, Three, Four, Five, Six, Seven, Eight, Nine, Eleven, Twelve}
@@ -10,9 +10,8 @@ use Rattle.net.specs.declared.cycle.Cycle.{Cycle}
 use Rattle.net.specs.declared.cycle.Point.{Point}
 use Rattle.net.specs.declared.cycle.Point.TheVariants.{C, Row}
 use Rattle.print_unit.specs.ZeroControl.{has_zero_control, printed_line}
-use Rattle.machine.specs.Cycles.{CycleRun, PointStep, Reached, point_at}
-use Rattle.machine.specs.Machine.{MachineState, closes, emits, sensed}
-use Rattle.machine.proofs.OneOutcome.{same_picture}
+use Rattle.machine.specs.Cycles.{CycleRun, Reached}
+use Rattle.machine.specs.Machine.{MachineState, closes, emits}
 use Rattle.machine.proofs.Pictures.{IsPicture-same}
 use Rattle.whole_cycles.specs.Between.{IsReady}
 use Rattle.whole_cycles.specs.WholeCycles.{WholeCycle, control_emits, row_emits, wheel_received}
@@ -22,20 +21,6 @@ use Rattle.whole_cycles.proofs.Walks.{rows_before}
 use Rattle.whole_cycles.proofs.Wheels.{wheels-jacks}
 use Rattle.whole_cycles.proofs.Wholes.{cycles-whole}
 use Rattle.explanations.specs.Explanations.{SeesRow}
-
--- the points of a cycle lead to one state
-pub Reached-one : (wiring : Wiring) (cycle : Cycle) (place : ℕ) (old one other : MachineState)
-    → Reached wiring cycle place old one → Reached wiring cycle place old other → one ≡ other
-unfolding Reached
-Reached-one wiring cycle zero old one other first second = first ∙ sym second
-Reached-one wiring cycle (suc place) old one other (mid, reached, step) (also_mid, also_reached, also_step) =
-    let same = Reached-one wiring cycle place old mid also_mid reached also_reached in
-    let here : PointStep wiring cycle (point_at place) also_mid one =
-    subst (λ (m : MachineState). PointStep wiring cycle (point_at place) m one) same step in
-    let pictures =
-    same_picture wiring (emits also_mid cycle (point_at place)) (closes also_mid cycle (point_at place)) here.picture
-    also_step.picture here.is_picture also_step.is_picture in
-    here.is_new ∙ ap (λ (p : Hub → Bool). sensed also_mid cycle (point_at place) p) pictures ∙ sym also_step.is_new
 
 -- The rows of a cycle of a ready machine, and its line.
 pub record Seen (wiring : Wiring) (cycle : Cycle) (old new : MachineState) : Type 0 where

@@ -1,43 +1,33 @@
 -- What was found of a line, told of one of its wheels, is its explanation.
-use Rattle.std.proofs.Common.{◌≡◌, ◌∙◌, sym, ap, subst, refl, arith, ℕ, ◌+◌, ◌-◌, ◌<◌, ◌≤◌, Bool, ◌↔◌, List, Option, None, map, slice_index_or}
-use Rattle.std.specs.Prelude.{Vec, is_some, IfSome, IsSome}
+use Rattle.std.proofs.Common.{◌≡◌, ◌∙◌, sym, ap, subst, refl, arith, ℕ, ◌+◌, ◌-◌, ◌<◌, ◌≤◌, Bool, List, Option, None, map, slice_index_or}
+use Rattle.std.specs.Prelude.{Vec, is_some}
 use Rattle.std.specs.declared.alloc.Global.{Global}
 use Rattle.std.proofs.lemmas.List.{length-map}
 use Rattle.hubs.specs.declared.hub.Hub.{Hub}
 use Rattle.hubs.specs.declared.hub.Hub.TheVariants.{W}
 use Rattle.setups.specs.Wiring.{Wiring}
 use Rattle.net.specs.HubSets.{has_hub}
-use Rattle.net.specs.Impulsed.{IsImpulsed, IsPicture}
+use Rattle.net.specs.Impulsed.{IsPicture}
 use Rattle.net.specs.declared.cycle.Cycle.{Cycle}
 use Rattle.net.specs.declared.cycle.Point.{Point}
 use Rattle.machine.specs.Cycles.{point_at}
 use Rattle.machine.specs.Kept.{KeepsPoints, kept_at}
 use Rattle.machine.specs.Machine.{MachineState, closes, emits}
 use Rattle.machine.specs.declared.kept.KeptPoint.{KeptPoint}
+use Rattle.machine.proofs.OneOutcome.{Reached-one}
 use Rattle.print_unit.specs.Wheels.{wheel_at_start}
 use Rattle.print_unit.specs.ZeroControl.{shown}
-use Rattle.ways.specs.Ways.{IsWay}
-use Rattle.explanations.specs.Explanations.{ExplainsBy, IsExplanation, IsTold, SeesRow, TellsRow, TellsRows, TellsSignificance, character_on, is_significant}
+use Rattle.explanations.specs.Explanations.{ExplainsBy, IsExplanation, IsTold, SeesRow, TellsPoint, TellsRows, TellsSignificance, character_on, is_significant}
 use Rattle.explanations.specs.PlacedInRun.{IsFound, machine_before}
 use Rattle.explanations.specs.Rows.{ArePictures}
 use Rattle.explanations.specs.declared.explanation.Explanation.{Explanation}
 use Rattle.explanations.specs.declared.found.FoundLine.{FoundLine}
 use Rattle.explanations.specs.declared.significance.Significance.{Significance}
+use Rattle.explanations.proofs.PointsTold.{point-told}
 use Rattle.explanations.proofs.ReadyRuns.{ready-before}
 use Rattle.explanations.proofs.RowLists.{received-is, told-received}
-use Rattle.explanations.proofs.SeenRows.{Reached-one, cycle-seen}
+use Rattle.explanations.proofs.SeenRows.{cycle-seen}
 use Rattle.explanations.proofs.ZeroControl.{line-shows, placed-text}
-
--- what is told by the exits and the contacts of a point is told by the same exits and contacts
-abbrev Tells : Wiring → Hub → Option (Vec Hub Global) → (Hub → Bool) → (Hub → Bool) → Type 0
-Tells wiring hub found exits closed =
-    IfSome found (λ way. IsWay wiring exits closed hub way.items) × (IsSome found ↔ IsImpulsed wiring exits closed hub)
-
-told-same : (wiring : Wiring) (hub : Hub) (found : Option (Vec Hub Global)) (exits closed other_exits other_closed : Hub → Bool)
-    → exits ≡ other_exits → closed ≡ other_closed
-    → Tells wiring hub found exits closed → Tells wiring hub found other_exits other_closed
-told-same wiring hub found exits closed other_exits other_closed one other tells =
-    subst (λ (c : Hub → Bool). Tells wiring hub found other_exits c) other (subst (λ (e : Hub → Bool). Tells wiring hub found e closed) one tells)
 
 picture-same : (wiring : Wiring) (picture exits closed other_exits other_closed : Hub → Bool)
     → exits ≡ other_exits → closed ≡ other_closed
@@ -48,13 +38,9 @@ picture-same wiring picture exits closed other_exits other_closed one other is =
 module _ (wiring : Wiring) (cycle : Cycle) (old : MachineState) (points : List KeptPoint) (keeps : KeepsPoints wiring cycle old 14 points) where
   -- a row is told by the state of the machine just before it
   told-row : (hub : Hub) (row : ℕ) → row < 12 → (found : Option (Vec Hub Global)) → IsTold wiring (kept_at points (row + 1)) hub found
-      → TellsRow wiring cycle old hub row found
+      → TellsPoint wiring cycle old (row + 1) hub found
   told-row hub row less found told =
-      let kept = keeps (row + 1) (omega (arith, less)) in
-      let same =
-      told-same wiring hub found _ _ (emits kept.0 cycle (point_at (row + 1))) (closes kept.0 cycle (point_at (row + 1)))
-      (λ i hub. kept.2.exits hub i) (λ i hub. kept.2.contacts hub i) (told.way, told.exactly) in
-      record { now = kept.0; reached = kept.1; way = same.0; exactly = same.1 }
+      point-told wiring cycle old points keeps (row + 1) (omega (arith, less)) hub found (told.way, told.exactly)
 
   -- what the machine saw at the rows is the pictures of the points that are kept
   pictures-kept : (pictures : Point → Hub → Bool) → ((row : ℕ) → row < 12 → SeesRow wiring cycle old pictures row)

@@ -38,15 +38,14 @@ pub record TellsRows (wiring : Wiring) (points : List KeptPoint) (count : ℕ) (
   pub long : length rows ≡ count
   pub told : (row : ℕ) → row < count → IsTold wiring (kept_at points (row + 1)) hub (slice_index_or rows row None)
 
--- What is told of a hub at a row of a cycle, by the state of the machine just before that row: a way where the hub is impulsed, from
--- an exit that emits then, by wires of the setup and contacts that are closed then, and only there.
-pub record TellsRow (wiring : Wiring) (cycle : Cycle) (old : MachineState) (hub : Hub) (row : ℕ) (found : Option (Vec Hub Global)) :
+-- What is told of a hub at a point of a cycle, by the state of the machine just before that point: a way if the hub is impulsed, from an
+-- exit that emits then, by wires of the setup and contacts that are closed then, and only if it is.
+pub record TellsPoint (wiring : Wiring) (cycle : Cycle) (old : MachineState) (place : ℕ) (hub : Hub) (found : Option (Vec Hub Global)) :
     Type 0 where
   pub now : MachineState
-  pub reached : Reached wiring cycle (row + 1) old now
-  pub way : IfSome found (λ way. IsWay wiring (emits now cycle (point_at (row + 1))) (closes now cycle (point_at (row + 1))) hub way.items)
-  pub exactly :
-      IsSome found ↔ IsImpulsed wiring (emits now cycle (point_at (row + 1))) (closes now cycle (point_at (row + 1))) hub
+  pub reached : Reached wiring cycle place old now
+  pub way : IfSome found (λ way. IsWay wiring (emits now cycle (point_at place)) (closes now cycle (point_at place)) hub way.items)
+  pub exactly : IsSome found ↔ IsImpulsed wiring (emits now cycle (point_at place)) (closes now cycle (point_at place)) hub
 
 -- the row of a card that passes at a place in the order of the points
 abbrev pub row_passing : ℕ → CardRow
@@ -102,8 +101,9 @@ abbrev pub character_on : PlacedLine → ℕ → ℕ
 character_on line wheel = slice_index_or line.text (wheel - 1) 0
 
 -- An explanation of a wheel of a printed line. In the machine's run over the deck its cycle placed the line at the page and the line
--- of it. It tells whether the card's own cycle was still to come then, and its points are kept. At each row a way is told exactly where the wheel was impulsed. The character is that of the line, and it is what the wheel
--- shows that received exactly the rows that are told, has the jacks of the setup, and has significance as it is told.
+-- of it. It tells whether the card's own cycle was still to come then, and its points are kept. At each row, a point behind the first
+-- one, a way is told exactly if the wheel was impulsed. The character is that of the line, and it is what the wheel shows that received
+-- exactly the rows that are told, has the jacks of the setup, and has significance as it is told.
 pub record IsExplanation (wiring : Wiring) (deck : List (List ℕ)) (page line wheel : ℕ) (told : Explanation) : Type 0 where
   pub run : PlacedInRun wiring deck told.cards told.cycle told.line
   pub waits : told.waits ≡ run.after.waits
@@ -115,7 +115,7 @@ pub record IsExplanation (wiring : Wiring) (deck : List (List ℕ)) (page line w
   pub long : length told.rows.items ≡ 12
   pub rows :
       (row : ℕ) → row < 12
-      → TellsRow wiring told.cycle (machine_before run) (W wheel) row (slice_index_or told.rows.items row None)
+      → TellsPoint wiring told.cycle (machine_before run) (row + 1) (W wheel) (slice_index_or told.rows.items row None)
   pub pictures : Point → Hub → Bool
   pub seen : (row : ℕ) → row < 12 → SeesRow wiring told.cycle (machine_before run) pictures row
   pub significance : TellsSignificance wiring pictures told.cycle wheel told.significance

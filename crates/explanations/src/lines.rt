@@ -1,8 +1,9 @@
 //! The lines of a run, found one after another.
 
-ghost use Rattle.std.specs.Prelude.{◌≡◌, ◌≤◌, All, None, IfOk, OnOk, length};
+ghost use Rattle.std.specs.Prelude.{◌≡◌, ◌≤◌, All, List, None, IfOk, OnOk, length};
 ghost use Rattle.card_code.specs.MostCards.{most_cards};
 ghost use Rattle.machine.specs.Running.{fed, refusal};
+ghost use Rattle.machine.specs.declared.kept.KeptCycle.{KeptCycle};
 ghost use Rattle.explanations.specs.LineFeeds.{AreFoundTo, FeedsSome};
 ghost use Rattle.explanations.specs.PageFeeds.{found_by};
 ghost use Rattle.explanations.specs.Pages.{AreFoundLines, IsFoundLine};
@@ -99,24 +100,18 @@ fn feed_counted(
     ensures feeds { OnOk result (FeedsSome machine.old.net machine.old.machine next machine.new.machine kept.old.items kept.new.items) }
 {
     if count == 0 {
-        feed_unkept(alloc, machine, next, kept)
+        feed_unkept(alloc, machine, next)
     } else {
         feed_kept(machine, next, page, kept)
     }
 }
 
-// Feeds a machine without keeping a cycle.
-fn feed_unkept(
-    alloc: Global,
-    machine: &mut Machine,
-    next: Option<Card>,
-    kept: &mut Vec<KeptCycle>,
-) -> Result<(), AllocError>
+// Feeds a machine without keeping a cycle: whatever cycles were kept, there are no more.
+fn feed_unkept(alloc: Global, machine: &mut Machine, next: Option<Card>) -> Result<(), AllocError>
     requires { refusal machine.old next ≡ None }
     ensures goes_on { OnOk result (machine.new ≡ fed next machine.new.machine machine.old) }
-    ensures feeds { OnOk result (FeedsSome machine.old.net machine.old.machine next machine.new.machine kept.old.items kept.new.items) }
+    ensures feeds { OnOk result ((kept : List KeptCycle) → FeedsSome machine.old.net machine.old.machine next machine.new.machine kept kept) }
 {
-    let _kept = kept;
     let mut placed = Vec::new(alloc);
     match machine.feed(next, &mut placed) {
         Ok(()) => Ok(()),

@@ -7,7 +7,7 @@ use Rattle.card_code.specs.declared.deck.DeckFault.TheVariants as deck
 use Rattle.chart_rules.specs.Rules.{rule_number}
 use Rattle.chart_rules.specs.declared.rule.Rule.{Rule}
 use Rattle.chart_rules.specs.declared.rule.Rule.TheVariants as rule
-use Rattle.faults.specs.Told.{capacity_told, chart_told, deck_told, run_told, unfit_told, wiring_told}
+use Rattle.faults.specs.ToldFaults.{capacity_told, chart_told, deck_told, run_told, unfit_told, wiring_told}
 use Rattle.faults.specs.declared.chart.ChartFault.{ChartFault}
 use Rattle.faults.specs.declared.chart.ChartFault.TheVariants as chart
 use Rattle.faults.specs.declared.deck.RunFault.{RunFault}

@@ -1,7 +1,7 @@
 -- The numbers of faults, and that each number which a fault line can have is one of them.
 use Rattle.std.specs.Prelude.{◌≡◌, ℕ, ◌&&◌, ◌||◌, ◌==◌, nat_le, Bool, true}
 use Rattle.card_code.specs.declared.deck.DeckFault.{DeckFault}
-use Rattle.faults.specs.Told.{chart_told, deck_told, run_told, wiring_told}
+use Rattle.faults.specs.ToldFaults.{chart_told, deck_told, run_told, wiring_told}
 use Rattle.faults.specs.declared.chart.ChartFault.{ChartFault}
 use Rattle.faults.specs.declared.deck.RunFault.{RunFault}
 use Rattle.faults.specs.declared.fault.Fault.{Fault}

@@ -5,7 +5,7 @@ ghost use Rattle.fault_guide.specs.Numbered.{ToldFaultsHaveEntries, is_numbered}
 
 use crate::table::{
     FaultEntry, capacity_entry, card_entry, chart_text_entry, deck_text_entry, explanation_entry,
-    match_entry, order_entry, rule_entry, sheet_entry, unfit_entry, wiring_text_entry,
+    match_entry, order_entry, rule_entry, setup_entry, sheet_entry, wiring_text_entry,
 };
 
 /// The entry of the fault with a number; none where the program tells no fault with the number.
@@ -18,7 +18,7 @@ pub fn fault_entry(number: u8) -> Option<FaultEntry>
         11..=14 => Some(chart_text_entry(number)),
         21..=38 => Some(rule_entry(number)),
         41..=43 => Some(card_entry(number)),
-        51..=54 => Some(unfit_entry(number)),
+        51..=54 => Some(setup_entry(number)),
         61..=67 => Some(capacity_entry(number)),
         71..=76 => Some(wiring_text_entry(number)),
         84 => Some(order_entry()),

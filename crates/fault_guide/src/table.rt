@@ -267,7 +267,7 @@ static CAPACITIES: [Words; 7] = [
     Words {
         name: "Pilots",
         cause: "more than 16 amounts with a sign column stand on DETAIL or TOTAL lines",
-        cure: "drop the sign column of amounts that are never negative, or leave amounts out; an amount on several lines counts once",
+        cure: "drop the sign column of amounts that are never negative, or print fewer of them; an amount on several lines counts once",
         example: "",
     },
     Words {
@@ -370,7 +370,7 @@ static EXPLANATIONS: [Words; 2] = [
 static MATCHES: [Words; 2] = [
     Words {
         name: "Unwired",
-        cause: "no plan is found by which the panel is wired for the chart: by the plan read off it, A wires, jacks and stops are missing and B are extra; another form counts as one missing and one extra",
+        cause: "the panel isn't wired for the chart: by the plan read off it, A wires, jacks and stops are missing and B are extra; a wrong FORM line counts as one of each",
         cure: "wire what stands under missing, and take out what stands under extra. If all wires of a total seem wrong, look at its counter groups: one is too narrow, and match says so, as line 8: group 3.1 is too narrow: 4 positions are needed; or of two coupled ones the one with the higher number has the lower digits. If all wires of another part seem wrong, look whether its first wires name a part that serves something else too",
         example: "run407 match my.chart my.wiring where the wiring chart lacks a wire",
     },
@@ -485,7 +485,7 @@ pub(crate) fn card_entry(number: u8) -> FaultEntry
 }
 
 /// The entry of a fault that a line of a wiring chart tells as its cause, 51 to 54.
-pub(crate) fn unfit_entry(number: u8) -> FaultEntry
+pub(crate) fn setup_entry(number: u8) -> FaultEntry
     requires from { 51 ≤ number }
     requires to { number ≤ 54 }
     ensures { result.number ≡ number }

@@ -21,7 +21,7 @@ use Rattle.chart_text.specs.declared.fault.TextFault.{TextFault}
 use Rattle.chart_text.specs.declared.fault.TextFault.TheVariants as text
 use Rattle.chart_faults.specs.FaultWords.Entries.{entries_text}
 use Rattle.faults.specs.ChartCauses.{of_rule, of_text}
-use Rattle.faults.specs.Told.{chart_told}
+use Rattle.faults.specs.ToldFaults.{chart_told}
 use Rattle.faults.specs.declared.fault.Fault.{Fault}
 use Rattle.fault_lists.specs.Endings.{AnswersOk, EndsCapacity, EndsListing, HasListed, WritesBehind, WritesText, by_capacity, by_rules, by_text, broken_off}
 use Rattle.fault_lists.specs.CapacityEntries.{capacities_text}

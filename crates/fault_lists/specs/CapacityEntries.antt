@@ -11,7 +11,7 @@ use Rattle.charts.specs.declared.statement.DetailOption.TheVariants.{Indicated}
 use Rattle.charts.specs.declared.statement.Statement.{Statement}
 use Rattle.charts.specs.declared.statement.Statement.TheVariants as says
 use Rattle.faults.specs.Lines.{fault_line}
-use Rattle.faults.specs.Told.{capacity_told}
+use Rattle.faults.specs.ToldFaults.{capacity_told}
 use Rattle.line_marks.specs.Below.card_code.Deck.{line_at}
 use Rattle.line_marks.specs.Entries.{below, shown}
 use Rattle.line_marks.specs.Spans.{span_of}
@@ -34,7 +34,7 @@ capacity_words exceeded.Memory = []
 abbrev pub cure : CapacityFault → List ℕ
 cure (exceeded.Counters width wanted there) =
     codes "print a total in fewer digits, or drop one: a total needs a position for each digit, and one more with a sign column"
-cure (exceeded.Pilots wanted there) = codes "drop the sign column of amounts that are never negative, or leave amounts out"
+cure (exceeded.Pilots wanted there) = codes "drop the sign column of amounts that are never negative, or print fewer of them"
 cure (exceeded.Comparing wanted there) = codes "shorten a control field to the columns that tell its groups apart, or drop a level"
 cure (exceeded.StorageWidth line) = codes "describe the columns once more as a shorter FIELD, and make that the control field"
 cure (exceeded.StorageUnits wanted there) = codes "print texts on the DETAIL line with INDICATE, and not on TOTAL lines"

@@ -18,7 +18,7 @@ use Rattle.chart_text.specs.declared.fault.TextFault.TheVariants as text
 use Rattle.chart_faults.specs.FaultWords.Entries.{entries_text}
 use Rattle.fault_lists.specs.MisreadLines.Misread.{AreMisread}
 use Rattle.faults.specs.ChartCauses.{of_text}
-use Rattle.faults.specs.Told.{capacity_told, chart_told}
+use Rattle.faults.specs.ToldFaults.{capacity_told, chart_told}
 use Rattle.faults.specs.declared.fault.Fault.{Fault}
 use Rattle.faults.specs.declared.fault.Fault.TheVariants as told
 use Rattle.fault_lists.specs.Behind.{TellsRest}
@@ -94,11 +94,11 @@ pub record ListsCapacity (text : List ℕ) (old new : Option (List ℕ)) (fault 
   pub is_told : fault ≡ capacity_told cause
   pub written : Appends old new (capacities_text text chart.lines (wanted_of chart.lines).totals (wanted_of chart.lines).parts all)
 
--- memory was wanting, or the output can't be written
+-- Memory or the output is told of. Of what was written by then nothing is said.
 abbrev pub IsBrokenOff : Fault → Type 0
 IsBrokenOff fault = (fault ≡ told.Memory) ⊎ (fault ≡ told.Write)
 
--- the answer is not `ok`: the text, a rule or a capacity is at fault, or memory was wanting or the output can't be written
+-- The answer is not `ok`: the text, a rule or a capacity is at fault and all of that is listed, or the list broke off.
 pub data EndsListing (text : List ℕ) (old new : Option (List ℕ)) (fault : Fault) : Type 0 where
   by_text : ListsText text old new fault → EndsListing text old new fault
   by_rules : ListsRules text old new fault → EndsListing text old new fault

@@ -1,5 +1,5 @@
 -- The entries of faults of a chart's text.
-use Rattle.std.specs.Prelude.{ℕ, ◌&&◌, List, [], ◌++◌, Option, Some, None, codes, map, nat_le, nat_lt, if◌then◌else◌}
+use Rattle.std.specs.Prelude.{ℕ, List, [], ◌++◌, Option, Some, None, codes, map, nat_lt, if◌then◌else◌}
 use Rattle.std.specs.List.{flat_map}
 use Rattle.chart_text.specs.declared.fault.TextFault.{TextFault}
 use Rattle.chart_text.specs.declared.fault.TextFault.TheVariants as text
@@ -7,6 +7,7 @@ use Rattle.line_marks.specs.Below.card_code.Deck.{line_at}
 use Rattle.line_marks.specs.Entries.{below}
 use Rattle.line_marks.specs.FirstLines.{first_line, is_end}
 use Rattle.line_slips.specs.LineEntries.{behind_entry}
+use Rattle.program_io.specs.Printable.{printable}
 use Rattle.word_slips.specs.Entries.{misread_entry}
 
 -- the entry of a line that no form derives, by the line of END: one behind END is told by that
@@ -22,14 +23,10 @@ numbered_entry source line = placed_entry (first_line is_end source) line (line_
 abbrev pub lines_text : List ℕ → List ℕ → List ℕ
 lines_text source lines = flat_map (numbered_entry source) lines
 
--- a byte as it is shown: a question mark stands for one that is no character of ASCII, or doesn't print
-abbrev pub shown_byte : ℕ → ℕ
-shown_byte byte = if nat_le 32 byte && nat_lt byte 127 then byte else 63
-
 -- the entry of a text without a first line
 unfoldable pub first_line_entry : List ℕ → List ℕ
 first_line_entry source =
-    codes "line 1 fault 12 NoFirstLine\n" ++ below (map shown_byte (line_at source 1))
+    codes "line 1 fault 12 NoFirstLine\n" ++ below (map printable (line_at source 1))
     ++ codes "  the first line is CHART407 1 or CHART407 2, and nothing stands before it\n"
 
 -- the entry of a text that lacks END

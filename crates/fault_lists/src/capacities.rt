@@ -58,7 +58,7 @@ fn cure(fault: CapacityFault) -> &'static str
         CapacityFault::Counters { .. } =>
             "print a total in fewer digits, or drop one: a total needs a position for each digit, and one more with a sign column",
         CapacityFault::Pilots { .. } =>
-            "drop the sign column of amounts that are never negative, or leave amounts out",
+            "drop the sign column of amounts that are never negative, or print fewer of them",
         CapacityFault::Comparing { .. } =>
             "shorten a control field to the columns that tell its groups apart, or drop a level",
         CapacityFault::StorageWidth { .. } =>

@@ -1,32 +1,16 @@
 //! The entries of faults of a chart's text.
 
-ghost use Rattle.std.specs.Prelude.{◌≡◌, OnOk, map};
+ghost use Rattle.std.specs.Prelude.{OnOk};
 ghost use Rattle.std.specs.Io.KnownBytes.{Appends};
 ghost use Rattle.fault_lists.specs.TextEntries as law;
 
 use chart_text::TextFault;
 use line_marks::{end_line, line_numbered};
 use line_slips::write_behind_entry;
+use program_io::write_printable;
 use std::io;
 use std::io::Write;
 use word_slips::write_misread_entry;
-
-/// A byte as it is shown: a question mark stands for one that doesn't print, so that no text can steer a terminal.
-fn shown_byte(byte: u8) -> u8
-    ensures { result ≡ law.shown_byte byte }
-{
-    if 32 <= byte && byte < 127 { byte } else { b'?' }
-}
-
-/// Writes bytes as they are shown.
-fn write_shown_bytes<W: Write>(out: &mut W, bytes: &[u8]) -> io::Result<()>
-    ensures { OnOk result (Appends (W.contents out.old) (W.contents out.new) (map law.shown_byte bytes.now)) }
-{
-    for byte in bytes {
-        out.write_all(&[shown_byte(*byte)])?;
-    }
-    Ok(())
-}
 
 /// Writes the entry of a text without a first line.
 fn write_first_line<W: Write>(out: &mut W, source: &[u8]) -> io::Result<()>
@@ -34,7 +18,7 @@ fn write_first_line<W: Write>(out: &mut W, source: &[u8]) -> io::Result<()>
 {
     out.write_all(b"line 1 fault 12 NoFirstLine\n")?;
     out.write_all(b"  ")?;
-    write_shown_bytes(out, line_numbered(source, 1))?;
+    write_printable(out, line_numbered(source, 1))?;
     out.write_all(b"\n")?;
     out.write_all(b"  the first line is CHART407 1 or CHART407 2, and nothing stands before it\n")
 }

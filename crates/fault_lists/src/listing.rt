@@ -10,7 +10,7 @@ ghost use Rattle.chart_text.specs.TextFaults.{HasTextFault};
 ghost use Rattle.faults.specs.ChartCauses.{of_rule, of_text};
 ghost use Rattle.faults.specs.Lines.{IsTold};
 ghost use Rattle.faults.specs.Status.{status_of};
-ghost use Rattle.faults.specs.Told.{chart_told};
+ghost use Rattle.faults.specs.ToldFaults.{chart_told};
 ghost use Rattle.fault_lists.specs.Endings.{AnswersOk, EndsCapacity, EndsListing, HasListed, IsBrokenOff, WritesBehind, WritesText};
 
 use crate::behind::list_behind;

@@ -5,7 +5,7 @@ use Rattle.allocate.specs.declared.fault.CapacityFault.TheVariants as capacity
 use Rattle.card_code.specs.declared.deck.DeckFault.{DeckFault}
 use Rattle.card_code.specs.declared.deck.DeckFault.TheVariants as deck
 use Rattle.faults.specs.Status.{status_of}
-use Rattle.faults.specs.Told.{capacity_told, chart_told, deck_told, run_told, unfit_told, wiring_told}
+use Rattle.faults.specs.ToldFaults.{capacity_told, chart_told, deck_told, run_told, unfit_told, wiring_told}
 use Rattle.faults.specs.declared.chart.ChartFault.{ChartFault}
 use Rattle.faults.specs.declared.chart.ChartFault.TheVariants as chart
 use Rattle.faults.specs.declared.deck.RunFault.{RunFault}

@@ -3,4 +3,4 @@ pub mod ChartCauses
 pub mod FaultNumbers
 pub mod Lines
 pub mod Status
-pub mod Told
+pub mod ToldFaults

@@ -49,7 +49,7 @@ pub enum RunFault {
 impl RunFault {
     ghost use Rattle.std.specs.Prelude.{◌≡◌};
     ghost use Rattle.faults.specs.FaultNumbers.{run_fault_number};
-    ghost use Rattle.faults.specs.Told.{of_card};
+    ghost use Rattle.faults.specs.ToldFaults.{of_card};
 
     /// The fault of the card with a number, from 1, that is not valid.
     pub fn of_card(fault: CardFault, card: u32) -> RunFault

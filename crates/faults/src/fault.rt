@@ -113,7 +113,7 @@ impl Fault<'_> {
 
 impl From<ChartFault> for Fault<'_> {
     ghost use Rattle.std.specs.Prelude.{◌≡◌};
-    ghost use Rattle.faults.specs.Told.{chart_told};
+    ghost use Rattle.faults.specs.ToldFaults.{chart_told};
 
     ghost from_gives = { λ fault told. told ≡ chart_told fault };
 
@@ -137,7 +137,7 @@ impl From<ChartFault> for Fault<'_> {
 
 impl From<WiringFault> for Fault<'_> {
     ghost use Rattle.std.specs.Prelude.{◌≡◌};
-    ghost use Rattle.faults.specs.Told.{wiring_told};
+    ghost use Rattle.faults.specs.ToldFaults.{wiring_told};
 
     ghost from_gives = { λ fault told. told ≡ wiring_told fault };
 
@@ -170,7 +170,7 @@ impl From<AllocError> for Fault<'_> {
 
 impl From<DeckFault> for Fault<'_> {
     ghost use Rattle.std.specs.Prelude.{◌≡◌};
-    ghost use Rattle.faults.specs.Told.{deck_told};
+    ghost use Rattle.faults.specs.ToldFaults.{deck_told};
 
     ghost from_gives = { λ fault told. told ≡ deck_told fault };
 
@@ -192,7 +192,7 @@ impl From<DeckFault> for Fault<'_> {
 
 impl From<RunFault> for Fault<'_> {
     ghost use Rattle.std.specs.Prelude.{◌≡◌};
-    ghost use Rattle.faults.specs.Told.{run_told};
+    ghost use Rattle.faults.specs.ToldFaults.{run_told};
 
     ghost from_gives = { λ fault told. told ≡ run_told fault };
 
@@ -221,7 +221,7 @@ impl From<RunFault> for Fault<'_> {
 
 impl From<CapacityFault> for Fault<'_> {
     ghost use Rattle.std.specs.Prelude.{◌≡◌};
-    ghost use Rattle.faults.specs.Told.{capacity_told};
+    ghost use Rattle.faults.specs.ToldFaults.{capacity_told};
 
     ghost from_gives = { λ fault told. told ≡ capacity_told fault };
 

@@ -3,7 +3,7 @@ use Rattle.std.specs.Prelude.{◌≡◌, ℕ, ◌+◌, Bool, List, [], ◌∷◌
 use Rattle.card_code.specs.CardCode.{rows_of}
 use Rattle.folding.specs.declared.changes.Change.{Change}
 use Rattle.folding.specs.declared.changes.Change.TheVariants as change
-use Rattle.folding.specs.declared.changes.Place.{Place}
+use Rattle.folding.specs.declared.changes.TextPlace.{TextPlace}
 use Rattle.folding.specs.declared.changes.Tally.{Tally}
 
 -- whether a byte is a small letter
@@ -50,17 +50,17 @@ first_in kind column [] = None
 first_in kind column (byte ∷ bytes) = if is_changed kind byte then Some column else first_in kind (column + 1) bytes
 
 -- a place, or else another
-abbrev pub or_else : Option Place → Option Place → Option Place
+abbrev pub or_else : Option TextPlace → Option TextPlace → Option TextPlace
 or_else None other = other
 or_else (Some place) other = Some place
 
 -- the place of a column of the line with this number
-abbrev pub place_in : (line : ℕ) → Option ℕ → Option Place
+abbrev pub place_in : (line : ℕ) → Option ℕ → Option TextPlace
 place_in line None = None
 place_in line (Some column) = Some (record { line = line; column = column })
 
 -- the place of the first such byte of lines, of which the first line has this number
-abbrev pub first_of : Change → (number : ℕ) → List (List ℕ) → Option Place
+abbrev pub first_of : Change → (number : ℕ) → List (List ℕ) → Option TextPlace
 first_of kind number [] = None
 first_of kind number (line ∷ lines) = or_else (place_in number (first_in kind 1 line)) (first_of kind (number + 1) lines)
 

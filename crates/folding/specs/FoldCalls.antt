@@ -1,2 +1,2 @@
 pub mod LongCards
-pub mod Served
+pub mod FoldEnds

@@ -2,5 +2,5 @@ pub mod Changes
 pub mod Folded
 pub mod Laws
 pub mod Punchable
-pub mod Told
+pub mod ToldChanges
 pub mod FoldCalls

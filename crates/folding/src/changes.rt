@@ -19,7 +19,7 @@ pub enum Change {
 
 /// A place in a text.
 #[derive(Clone, Copy, Debug, PartialEq, Eq)]
-pub struct Place {
+pub struct TextPlace {
     /// The number of the line, from 1.
     pub line: u64,
     /// The number of the byte in its line, from 1.
@@ -32,7 +32,7 @@ pub struct Tally {
     /// In so many bytes.
     pub count: u64,
     /// The place of the first one, if there was one.
-    pub first: Option<Place>,
+    pub first: Option<TextPlace>,
 }
 
 /// The change that a byte needs, or `None` if a card has it.
@@ -107,9 +107,9 @@ pub fn tally_of(kind: Change, text: &[u8]) -> Tally
 }
 
 // The place of a column in the line with this number.
-fn place_in(line: u64, column: Option<usize>) -> Option<Place>
+fn place_in(line: u64, column: Option<usize>) -> Option<TextPlace>
     ensures { result ≡ place_in line column }
 {
     let column = column? as u64;
-    Some(Place { line, column })
+    Some(TextPlace { line, column })
 }

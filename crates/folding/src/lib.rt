@@ -15,7 +15,7 @@ mod folding;
 mod laws;
 mod telling;
 
-pub use changes::{Change, Place, Tally};
+pub use changes::{Change, Tally, TextPlace};
 pub use folding::{Changes, Folded, fold};
 pub use laws::{folded_lines_are_punchable, folded_texts_keep_lines};
 pub use telling::write_changes;

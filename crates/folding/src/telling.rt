@@ -2,7 +2,7 @@
 
 ghost use Rattle.std.specs.Prelude.{◌≡◌, OnOk};
 ghost use Rattle.std.specs.Io.KnownBytes.{Appends};
-ghost use Rattle.folding.specs.Told.{changes_text, tally_line, words_of};
+ghost use Rattle.folding.specs.ToldChanges.{changes_text, tally_line, words_of};
 
 use crate::changes::{Change, Tally};
 use crate::folding::Changes;

@@ -1,5 +1,5 @@
 -- A comparing position whose entries are wired from brushes alone emits exactly if a line is told of it.
-use Rattle.std.proofs.Common.{◌≡◌, ◌∙◌, sym, ap, subst, refl, ℕ, zero, suc, ◌+◌, ◌==◌, ◌&&◌, ◌||◌, ◌↔◌, arith, not, Bool, true, false, List, [], ◌∷◌, ◌++◌, Option, Some, None, is_some, length, map}
+use Rattle.std.proofs.Common.{◌≡◌, ◌∙◌, sym, ap, subst, refl, ℕ, suc, ◌+◌, ◌==◌, ◌&&◌, ◌||◌, ◌↔◌, arith, not, Bool, true, false, List, [], ◌∷◌, ◌++◌, Option, Some, None, is_some, length, map}
 use Rattle.std.proofs.lemmas.Bool.{and_right}
 use Rattle.std.proofs.lemmas.Bool.Decides.{nat_tests}
 use Rattle.std.specs.List.{flat_map, list_any}
@@ -15,10 +15,10 @@ use Rattle.machine.specs.Below.counters.Counters.{Counter, counter_emits, wheels
 use Rattle.machine.specs.Below.counters.Wheels.{carries_out}
 use Rattle.machine.specs.Below.storage_units.Storage.{StorageState, storage_emits}
 use Rattle.machine.specs.Cycles.{Reached}
-use Rattle.machine.specs.Machine.{MachineState, closes, emits, sensed}
+use Rattle.machine.specs.Machine.{MachineState, closes, emits}
 use Rattle.machine.specs.Runs.{cards_moved}
 use Rattle.net.specs.Cycles.{points}
-use Rattle.net.specs.Impulsed.{IsImpulsed, IsPicture}
+use Rattle.net.specs.Impulsed.{IsImpulsed}
 use Rattle.net.specs.declared.cycle.Cycle.TheVariants.{Card}
 use Rattle.net.specs.declared.cycle.Point.{Point}
 use Rattle.net.specs.declared.cycle.Point.TheVariants.{C, Row, K}
@@ -34,7 +34,8 @@ use Rattle.stations.specs.Stations.{StationCards}
 use Rattle.whole_cycles.proofs.Alone.{differing}
 use Rattle.whole_cycles.proofs.Parts.{compared_after, machine_after, parts}
 use Rattle.whole_cycles.proofs.Sources.{none-any}
-use Rattle.whole_cycles.proofs.Walks.{IsWalked, Walk, rows_before, walked}
+use Rattle.whole_cycles.proofs.Walks.{IsWalked, rows_before, walked}
+use Rattle.whole_cycles.proofs.Wholes.{HasPicture, senses, walk_of}
 use Rattle.hole_laws.specs.Reasons.{HolesTellCompared, IsEntryOf, IsReading, LinesTellDifferences, has_lines}
 use Rattle.hole_laws.specs.Reasons.IsEntryOf.{first_entry, second_entry}
 use Rattle.hole_laws.proofs.Brushes.{hole-impulses, hole-told}
@@ -99,23 +100,6 @@ moved-fresh : (machine : MachineState) (hopper : List (List ℕ)) → (cards_mov
 moved-fresh machine [] = refl
 moved-fresh machine (card ∷ hopper) = refl
 
--- the points of a card cycle are a walk
-senses : MachineState → Point → (Hub → Bool) → MachineState
-senses machine point picture = sensed machine Card point picture
-
-HasPicture : Wiring → MachineState → Point → (Hub → Bool) → Type 0
-HasPicture wiring machine point picture = IsPicture wiring (emits machine Card point) (closes machine Card point) picture
-
-walk-of : (wiring : Wiring) (place : ℕ) (old now : MachineState) → Reached wiring Card place old now
-    → Walk senses (HasPicture wiring) place old now
-unfolding Reached Walk senses HasPicture
-walk-of wiring zero old now same = same
-walk-of wiring (suc place) old now (mid, reached, step) = (
-  mid,
-  walk-of wiring place old mid reached,
-  record { picture = step.picture; has = step.is_picture; is_new = step.is_new },
-)
-
 -- comparing senses nothing at the closing point
 closing-keeps : (wiring : Wiring) (old now behind : MachineState) → Reached wiring Card 13 old now → Reached wiring Card 14 old behind
     → now.comparing ≡ behind.comparing
@@ -125,10 +109,9 @@ closing-keeps wiring old now behind before (mid, reached, step) =
     ∙ sym (ap (λ (m : MachineState). m.comparing) step.is_new)
 
 -- what comparing has collected by the closing point
-collected : (wiring : Wiring) (old now behind : MachineState) (is : IsWalked senses (HasPicture wiring) old behind)
+collected : (wiring : Wiring) (old now behind : MachineState) (is : IsWalked (senses Card) (HasPicture wiring Card) old behind)
     → Reached wiring Card 13 old now → Reached wiring Card 14 old behind → old.comparing ≡ comparing_at_start
     → now.comparing ≡ compared_after Card is.pictures points comparing_at_start
-unfolding senses
 collected wiring old now behind is before reached start =
     closing-keeps wiring old now behind before reached
     ∙ ap (λ (m : MachineState). m.comparing) is.reached
@@ -190,14 +173,14 @@ module _ (wiring : Wiring) (deck : List (List ℕ)) (card position : ℕ) (now :
   old : MachineState
   old = ready Card reading.along
 
-  is-walked : IsWalked senses (HasPicture wiring) old reading.behind
+  is-walked : IsWalked (senses Card) (HasPicture wiring Card) old reading.behind
   unfolding old
-  is-walked = walked senses (HasPicture wiring) old reading.behind (walk-of wiring 14 old reading.behind reading.goes.reached)
+  is-walked = walked (senses Card) (HasPicture wiring Card) old reading.behind (walk_of wiring Card 14 old reading.behind reading.goes.reached)
 
   -- the pictures of the rows have an entry exactly if a hole is told for it
   picture-told : (entry : Hub) (row : CardRow) → IsEntryOf position entry → is_of_brushes wiring entry ≡ true
       → is-walked.pictures (Row row) entry ≡ is_some (hole_to wiring deck card row entry)
-  unfolding old is-walked senses HasPicture
+  unfolding old is-walked
   picture-told entry row is brushes =
       let here : MachineState = machine_after Card is-walked.pictures (C ∷ map Row (rows_before row)) old in
       let stations : here.stations ≡ now.stations =
@@ -217,10 +200,10 @@ module _ (wiring : Wiring) (deck : List (List ℕ)) (card position : ℕ) (now :
       same-tests (is-walked.pictures (Row row) entry) (is_some (hole_to wiring deck card row entry)) (λ on. by.1 (picture.0 on))
       (λ told. picture.1 (by.0 told))
 
-  emits-told : is_within position 30 ≡ true → is_of_brushes wiring (CA position) ≡ true → is_of_brushes wiring (CB position) ≡ true
+  differences-told : is_within position 30 ≡ true → is_of_brushes wiring (CA position) ≡ true → is_of_brushes wiring (CB position) ≡ true
       → emits now Card K (CX position) ≡ has_lines wiring deck card position
   unfolding old
-  emits-told within brushes also =
+  differences-told within brushes also =
       let start : old.comparing ≡ comparing_at_start =
       moved-fresh reading.along.run.machine reading.along.run.hopper ∙ fresh wiring deck reading.comes in
       let pictures : Point → Hub → Bool = is-walked.pictures in
@@ -236,4 +219,4 @@ module _ (wiring : Wiring) (deck : List (List ℕ)) (card position : ℕ) (now :
 
 pub lines-tell : LinesTellDifferences
 lines-tell wiring deck card position now leads reading within brushes also =
-    emits-told wiring deck card position now leads reading within brushes also
+    differences-told wiring deck card position now leads reading within brushes also

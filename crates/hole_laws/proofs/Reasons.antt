@@ -28,7 +28,7 @@ use Rattle.origins.specs.Holes.{first_of}
 use Rattle.origins.specs.Levels.{called_by, called_by_holes, called_text, called_to, calling_text, calls, is_of_brushes, last_text, level_text, or_text, position_text, position_text_by, positions_text, runs_text, unlike_lines}
 use Rattle.setups.proofs.WiredLemmas.{HasWire-is_wired}
 use Rattle.setups.specs.Wiring.{HasWire, LeadsToEntries, Wiring, is_wired}
-use Rattle.hole_laws.specs.Reasons.{CallsLevel, IsReading, IsReason, IsWhy, ReasonsHold, has_lines}
+use Rattle.hole_laws.specs.Reasons.{CallsLevel, IsOfBrushes, IsReading, IsReason, IsWhy, NoneBelowCalls, OthersCallNoLevel, ReasonsHold, has_lines}
 use Rattle.hole_laws.specs.Reasons.IsReason.{called_from, last}
 use Rattle.hole_laws.proofs.Cards.{WasRead, card-read}
 use Rattle.hole_laws.proofs.Differences.{cons-some, lines-tell, reads}
@@ -116,7 +116,7 @@ positions-call wiring deck card position level called now behind leads reading s
     level-taken step.picture called within.0 within.1 ((step.is_picture (ST called)).1 impulsed) in
     let program : behind.program.highest ≡ called_for step.picture = ap (λ (m : MachineState). m.program.highest) step.is_new in (
       is.high,
-      record { emitted = emitted; impulsed = impulsed; taken = rw program taken },
+      record { emitted = emitted; wired = wire; impulsed = impulsed; taken = rw program taken },
     )
 
 -- a text that isn't empty is that of a position that calls a level by holes and has lines
@@ -126,12 +126,14 @@ record TellsPosition (wiring : Wiring) (deck : List (List ℕ)) (card level : �
   found : called_by_holes wiring position level ≡ Some called
   lines : has_lines wiring deck card position ≡ true
   is : called_text level card position called (unlike_lines wiring deck card position rows) ≡ text
+  lowest : (lower : ℕ) → 1 ≤ lower → lower < position → position_text wiring deck card level lower ≡ []
 
 tells-position : (wiring : Wiring) (deck : List (List ℕ)) (card level position : ℕ)
+    → ((lower : ℕ) → 1 ≤ lower → lower < position → position_text wiring deck card level lower ≡ [])
     → (position_text wiring deck card level position ≡ [] → ⊥)
     → TellsPosition wiring deck card level (position_text wiring deck card level position)
 unfolding position_text
-tells-position wiring deck card level position told =
+tells-position wiring deck card level position lowest told =
     by (called_by_holes wiring position level) refl (length (unlike_lines wiring deck card position rows) == 0) refl told
   where
     by : (found : Option ℕ) → called_by_holes wiring position level ≡ found
@@ -143,13 +145,33 @@ tells-position wiring deck card level position told =
         let lines : List ℕ = unlike_lines wiring deck card position rows in
         absurd (text (ap (λ (b : Bool). if b then [] else runs_text level card ++ calling_text position called ++ lines) empty))
     by (Some called) is false empty text =
-        record { position = position; called = called; found = is; lines = ap not empty; is = refl }
+        record { position = position; called = called; found = is; lines = ap not empty; is = refl; lowest = lowest }
 
 some-none : (byte : ℕ) (bytes : List ℕ) → byte ∷ bytes ≡ [] → ⊥
 some-none byte bytes same = cc
 
 or-some : (byte : ℕ) (bytes other : List ℕ) → or_text (byte ∷ bytes) other ≡ byte ∷ bytes
 or-some byte bytes other = ap (λ (b : Bool). if b then other else byte ∷ bytes) (cons-some (length bytes))
+
+-- no position has a text if all together have none
+none-among : (wiring : Wiring) (deck : List (List ℕ)) (card level positions lower : ℕ)
+    → positions_text wiring deck card level positions ≡ [] → 1 ≤ lower → lower ≤ positions → position_text wiring deck card level lower ≡ []
+unfolding positions_text
+none-among wiring deck card level zero lower none from to = absurd (omega (arith, from, to))
+none-among wiring deck card level (suc positions) lower none from to =
+    by (λ are within. none-among wiring deck card level positions lower are from within) (positions_text wiring deck card level positions) refl none
+  where
+    by : (positions_text wiring deck card level positions ≡ [] → lower ≤ positions → position_text wiring deck card level lower ≡ [])
+        → (others : List ℕ) → positions_text wiring deck card level positions ≡ others
+        → or_text others (position_text wiring deck card level (suc positions)) ≡ [] → position_text wiring deck card level lower ≡ []
+    by before [] is text = split (cases_lt positions lower)
+      where
+        split : (positions < lower) ⊎ (lower ≤ positions) → position_text wiring deck card level lower ≡ []
+        split (inl above) = let top : lower ≡ suc positions = omega (arith, above, to) in
+            ap (λ (n : ℕ). position_text wiring deck card level n) top ∙ text
+        split (inr within) = before is within
+    by before (byte ∷ bytes) is text =
+        absurd (some-none byte bytes (sym (or-some byte bytes (position_text wiring deck card level (suc positions))) ∙ text))
 
 tells-positions : (wiring : Wiring) (deck : List (List ℕ)) (card level positions : ℕ)
     → (positions_text wiring deck card level positions ≡ [] → ⊥)
@@ -164,10 +186,96 @@ tells-positions wiring deck card level (suc positions) told =
         → (lower : List ℕ) → positions_text wiring deck card level positions ≡ lower
         → (or_text lower (position_text wiring deck card level (suc positions)) ≡ [] → ⊥)
         → TellsPosition wiring deck card level (or_text lower (position_text wiring deck card level (suc positions)))
-    by others [] is text = tells-position wiring deck card level (suc positions) text
+    by others [] is text =
+        tells-position wiring deck card level (suc positions)
+        (λ lower from less. none-among wiring deck card level positions lower is from (omega (arith, less))) text
     by others (byte ∷ bytes) is text =
         subst (TellsPosition wiring deck card level) (is ∙ sym (or-some byte bytes (position_text wiring deck card level (suc positions))))
         (others (λ none. some-none byte bytes (sym is ∙ none)))
+
+-- a position that calls a level, and has lines, has a text
+called-some : (wiring : Wiring) (position from levels level : ℕ) → 1 ≤ level → level ≤ levels → calls wiring position from level ≡ true
+    → called_to wiring position from levels ≡ None → ⊥
+called-some wiring position from zero level low high is none = omega (arith, low, high)
+called-some wiring position from (suc levels) level low high is none =
+    by (λ within found. called-some wiring position from levels level low within is found) (called_to wiring position from levels) refl
+    (calls wiring position from (suc levels)) refl none
+  where
+    by : (level ≤ levels → called_to wiring position from levels ≡ None → ⊥)
+        → (lower : Option ℕ) → called_to wiring position from levels ≡ lower → (here : Bool) → calls wiring position from (suc levels) ≡ here
+        → first_of lower (if here then Some (suc levels) else None) ≡ None → ⊥
+    by before (Some other) found here leads same = none-some other (sym same)
+    by before None found true leads same = none-some (suc levels) (sym same)
+    by before None found false leads same = split (cases_lt levels level)
+      where
+        split : (levels < level) ⊎ (level ≤ levels) → ⊥
+        split (inl above) = let top : suc levels ≡ level = omega (arith, above, high) in
+            false≢true (sym leads ∙ ap (λ (n : ℕ). calls wiring position from n) top ∙ is)
+        split (inr within) = before within found
+
+both-true : (one other : Bool) → one ≡ true → other ≡ true → (one && other) ≡ true
+both-true true true is also = refl
+both-true true false is also = absurd (false≢true also)
+both-true false other is also = absurd (false≢true is)
+
+not-over : (one other : ℕ) → one ≤ other → nat_le one other ≡ true
+not-over one other within = grind (arith, nat_tests, within)
+
+position-told : (wiring : Wiring) (deck : List (List ℕ)) (card level position called : ℕ) → IsOfBrushes wiring position
+    → has_lines wiring deck card position ≡ true → level ≤ called → 1 ≤ called → called ≤ 3
+    → is_wired wiring (CX position) (ST called) ≡ true → position_text wiring deck card level position ≡ [] → ⊥
+unfolding position_text
+position-told wiring deck card level position called brushes has high from to wired none =
+    by (called_to wiring position level 3) refl
+    (ap (λ (found : Option ℕ). position_text_by level card position found lines) (sym by_holes) ∙ none)
+  where
+    lines : List ℕ
+    lines = unlike_lines wiring deck card position rows
+
+    by_holes : called_by_holes wiring position level ≡ called_to wiring position level 3
+    by_holes = (λ i. if brushes.first i && brushes.second i then called_to wiring position level 3 else None)
+
+    some : (length lines == 0) ≡ false
+    some = split (length lines == 0) has
+      where
+        split : (none : Bool) → not none ≡ true → none ≡ false
+        split true is = absurd (false≢true is)
+        split false is = refl
+
+    calling : calls wiring position level called ≡ true
+    calling = both-true (nat_le level called) (is_wired wiring (CX position) (ST called)) (not-over level called high) wired
+
+    by : (found : Option ℕ) → called_to wiring position level 3 ≡ found → position_text_by level card position found lines ≡ [] → ⊥
+    by None is text = called-some wiring position level 3 called from to calling is
+    by (Some other) is text =
+        let whole : runs_text level card ++ calling_text position other ++ lines ≡ [] =
+        ap (λ (b : Bool). if b then [] else runs_text level card ++ calling_text position other ++ lines) (sym some) ∙ text in
+        false≢true (sym (cons-some _) ∙ ap (λ (l : List ℕ). length l == 0) whole)
+
+-- so no lower position calls the level
+within-from : (position : ℕ) → is_within position 30 ≡ true → 1 ≤ position
+within-from position within = grind (arith, nat_tests, within)
+
+none-below-calls : (wiring : Wiring) (deck : List (List ℕ)) (card position level : ℕ) (now behind : MachineState)
+    → LeadsToEntries wiring → IsReading wiring deck card 13 now
+    → ((lower : ℕ) → 1 ≤ lower → lower < position → position_text wiring deck card level lower ≡ [])
+    → NoneBelowCalls wiring position level now behind
+none-below-calls wiring deck card position level now behind leads reading lowest lower called less high brushes calls =
+    let wire = calls.wired in
+    let within = position-within lower wire.number wire.numbered in
+    let lines : has_lines wiring deck card lower ≡ true =
+    sym (lines-tell wiring deck card lower now leads reading within brushes.first brushes.second) ∙ calls.emitted in
+    let range = level-within called wire.to wire.entry_numbered in
+    position-told wiring deck card level lower called brushes lines high range.0 range.1
+    ((HasWire-is_wired wiring (CX lower) (ST called)).1 wire) (lowest lower (within-from lower within) less)
+
+-- a position of which no line is told calls no level
+pub others-call-none : OthersCallNoLevel
+others-call-none wiring deck card position called now behind leads reading brushes none calls =
+    let wire = calls.wired in
+    let within = position-within position wire.number wire.numbered in
+    false≢true
+    (sym none ∙ sym (lines-tell wiring deck card position now leads reading within brushes.first brushes.second) ∙ calls.emitted)
 
 -- a level up to the highest that is taken runs with the card, and each level with the last card
 level-most : (level : ProgramLevel) → level_number level ≤ 4
@@ -236,7 +344,8 @@ module _ (wiring : Wiring) (deck : List (List ℕ)) (card : ℕ) (level : Progra
       let taken : tells.called ≤ levels_to (called_for step.picture) =
       subst (λ (top : Option ProgramLevel). tells.called ≤ levels_to top) highest call.1.taken in (
         subst (IsReason wiring deck card (level_number level) now behind) tells.is
-            (called_from tells.position tells.called call.0 call.1 tells.lines),
+            (called_from tells.position tells.called call.0 call.1 tells.lines
+            (none-below-calls wiring deck card tells.position (level_number level) now behind leads reading tells.lowest)),
         runs (has_more behind) (omega (arith, call.0, taken)),
       )
 

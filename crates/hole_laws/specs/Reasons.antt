@@ -1,5 +1,5 @@
 -- Why the program cycles of a level run: what is told of it by holes is what comparing finds and what the program unit takes.
-use Rattle.std.specs.Prelude.{◌≡◌, ◌↔◌, ℕ, ◌+◌, ◌≤◌, ◌==◌, not, Bool, true, false, List, [], Contains, is_some, length}
+use Rattle.std.specs.Prelude.{◌≡◌, ◌↔◌, ℕ, ◌+◌, ◌<◌, ◌≤◌, ◌==◌, not, Bool, true, false, List, [], Contains, is_some, length}
 use Rattle.card_code.specs.Rows.{rows}
 use Rattle.card_code.specs.declared.row.Row.{Row as CardRow}
 use Rattle.hubs.specs.Hubs.{is_within}
@@ -20,7 +20,7 @@ use Rattle.net.specs.declared.cycle.Point.TheVariants.{Row, K}
 use Rattle.net.specs.declared.cycle.ProgramLevel.{ProgramLevel}
 use Rattle.origins.specs.Holes.{hole_to}
 use Rattle.origins.specs.Levels.{called_by, called_text, is_of_brushes, last_text, unlike_lines}
-use Rattle.setups.specs.Wiring.{LeadsToEntries, Wiring}
+use Rattle.setups.specs.Wiring.{HasWire, LeadsToEntries, Wiring}
 
 -- The card with a number is read in a cycle of a run, and so many points of that cycle lead to a machine.
 pub record IsReading (wiring : Wiring) (deck : List (List ℕ)) (card points : ℕ) (now : MachineState) : Type 0 where
@@ -58,19 +58,38 @@ LinesTellDifferences =
     → is_of_brushes wiring (CA position) ≡ true → is_of_brushes wiring (CB position) ≡ true
     → emits now Card K (CX position) ≡ has_lines wiring deck card position
 
--- A comparing position calls a level: it emits at the closing point, the entry of the level is impulsed there, and the program unit takes
--- this level or a higher one.
+-- A comparing position calls a level: it emits at the closing point, a wire leads from it to the entry of the level, which is impulsed there, and
+-- the program unit takes this level or a higher one.
 pub record CallsLevel (wiring : Wiring) (position called : ℕ) (now behind : MachineState) : Type 0 where
   pub emitted : emits now Card K (CX position) ≡ true
+  pub wired : HasWire wiring (CX position) (ST called)
   pub impulsed : IsImpulsed wiring (emits now Card K) (closes now Card K) (ST called)
   pub taken : called ≤ levels_to behind.program.highest
 
+-- wires lead to both entries of a comparing position from brushes alone
+pub record IsOfBrushes (wiring : Wiring) (position : ℕ) : Type 0 where
+  pub first : is_of_brushes wiring (CA position) ≡ true
+  pub second : is_of_brushes wiring (CB position) ≡ true
+
+-- Of all comparing positions that are wired from brushes alone, those of which no line is told call no level.
+abbrev pub OthersCallNoLevel : Type 0
+OthersCallNoLevel =
+    (wiring : Wiring) (deck : List (List ℕ)) (card position called : ℕ) (now behind : MachineState)
+    → LeadsToEntries wiring → IsReading wiring deck card 13 now → IsOfBrushes wiring position
+    → has_lines wiring deck card position ≡ false → CallsLevel wiring position called now behind → ⊥
+
+-- no position below this one that is wired from brushes alone calls a level or a higher one
+abbrev pub NoneBelowCalls : Wiring → (position level : ℕ) → (now behind : MachineState) → Type 0
+NoneBelowCalls wiring position level now behind =
+    (lower called : ℕ) → lower < position → level ≤ called → IsOfBrushes wiring lower → CallsLevel wiring lower called now behind → ⊥
+
 -- A text tells why a level runs: that no card stands behind this one, or that a comparing position calls a level that isn't lower, and all of
--- its lines.
+-- its lines. It is the lowest of the positions wired from brushes alone that do.
 pub data IsReason (wiring : Wiring) (deck : List (List ℕ)) (card level : ℕ) (now behind : MachineState) : List ℕ → Type 0 where
   last : has_more behind ≡ false → IsReason wiring deck card level now behind (last_text level card)
   called_from :
       (position called : ℕ) → level ≤ called → CallsLevel wiring position called now behind → has_lines wiring deck card position ≡ true
+      → NoneBelowCalls wiring position level now behind
       → IsReason wiring deck card level now behind (called_text level card position called (unlike_lines wiring deck card position rows))
 
 -- It does so in the cycle of a run that read the card, and the level is one of those that run with the card.

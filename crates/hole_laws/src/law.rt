@@ -2,7 +2,7 @@
 
 ghost use Rattle.hole_laws.specs.Asks.{CyclesImpulseEntries};
 ghost use Rattle.hole_laws.specs.Impulses.{HolesImpulseEntries};
-ghost use Rattle.hole_laws.specs.Reasons.{HolesTellCompared, LinesTellDifferences, ReasonsHold};
+ghost use Rattle.hole_laws.specs.Reasons.{HolesTellCompared, LinesTellDifferences, OthersCallNoLevel, ReasonsHold};
 
 /// If a hole of a card is told for a row and an entry, then the entry is impulsed when that row passes, in the cycle of the run in which it is
 /// told. The function does nothing: its contract is the law.
@@ -23,13 +23,15 @@ pub fn holes_tell_compared()
 {}
 
 /// If wires lead to both of its entries from brushes alone, then a comparing position emits at the closing point of a card's cycle exactly if
-/// a line is told of it. The function does nothing: its contract is the law.
+/// a line is told of it. So those of which no line is told call no level. The function does nothing: its contract is the law.
 pub fn lines_tell_differences()
-    ensures { LinesTellDifferences }
+    ensures told { LinesTellDifferences }
+    ensures others { OthersCallNoLevel }
 {}
 
 /// If a text is told why a program cycle of a run runs, then in the cycle that read its card no card stood behind that card, or the comparing
-/// position that is told emitted and called the level that is told; and the level of the program cycle is one of those that run with the card.
+/// position that is told emitted and called the level that is told, and no lower position that is wired from brushes alone called that of the
+/// program cycle or a higher one; and the level of the program cycle is one of those that run with the card.
 /// The function does nothing: its contract is the law.
 pub fn reasons_hold()
     ensures { ReasonsHold }

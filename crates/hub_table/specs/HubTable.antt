@@ -8,22 +8,22 @@ use Rattle.hub_table.specs.declared.shape.Shape.{Shape}
 use Rattle.hub_table.specs.declared.shape.Shape.TheVariants.{Alone, To, TwoOrThree, Each, Rows, Groups, GroupsEach, Positions}
 
 -- a row of the table
-pub record Row : Type 0 where
+pub record TableRow : Type 0 where
   pub spelled : List ℕ
   pub is_exit : Bool
   pub before : ℕ
   pub shape : Shape
 
 -- a row of a kind that impulses leave
-abbrev pub exits : List ℕ → ℕ → Shape → Row
+abbrev pub exits : List ℕ → ℕ → Shape → TableRow
 exits spelled before shape = record { spelled = spelled; is_exit = true; before = before; shape = shape }
 
 -- a row of a kind that impulses enter
-abbrev pub entries : List ℕ → ℕ → Shape → Row
+abbrev pub entries : List ℕ → ℕ → Shape → TableRow
 entries spelled before shape = record { spelled = spelled; is_exit = false; before = before; shape = shape }
 
 -- the table
-abbrev pub row_of : Letters → Row
+abbrev pub row_of : Letters → TableRow
 row_of FR = exits (codes "FR") 0 (To 80)
 row_of SR = exits (codes "SR") 80 (To 80)
 row_of CX = exits (codes "CX") 160 (To 30)

@@ -183,7 +183,7 @@ impl Letters {
     }
 
     // The row of the hub table.
-    fn row(self) -> Row
+    fn row(self) -> TableRow
         ensures { row_as result ≡ row_of self }
     {
         match self {
@@ -232,7 +232,7 @@ impl Letters {
 // A row of the hub table: the letters as they are written, whether impulses leave, how many hubs stand before, and the
 // numbers.
 #[derive(Clone, Copy)]
-struct Row {
+struct TableRow {
     spelled: &'static str,
     is_exit: bool,
     before: u32,
@@ -240,10 +240,10 @@ struct Row {
 }
 
 // A row of exits.
-fn exits(spelled: &'static str, before: u32, shape: Shape) -> Row
+fn exits(spelled: &'static str, before: u32, shape: Shape) -> TableRow
     ensures { row_as result ≡ table.exits spelled.now before shape }
 {
-    Row {
+    TableRow {
         spelled,
         is_exit: true,
         before,
@@ -252,10 +252,10 @@ fn exits(spelled: &'static str, before: u32, shape: Shape) -> Row
 }
 
 // A row of entries.
-fn entries(spelled: &'static str, before: u32, shape: Shape) -> Row
+fn entries(spelled: &'static str, before: u32, shape: Shape) -> TableRow
     ensures { row_as result ≡ table.entries spelled.now before shape }
 {
-    Row {
+    TableRow {
         spelled,
         is_exit: false,
         before,

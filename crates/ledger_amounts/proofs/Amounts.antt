@@ -16,7 +16,7 @@ use Rattle.charts.specs.declared.chart.Line.{Line}
 use Rattle.report.specs.BodyLines.{total_line as total_text}
 use Rattle.report.specs.ChartForm.{is_total_item, prints_totals}
 use Rattle.std.proofs.lemmas.Option.{same_Some}
-use Rattle.wheel_ledgers.specs.Told.{account_told}
+use Rattle.wheel_ledgers.specs.ToldLedgers.{account_told}
 use Rattle.wheel_ledgers.specs.Totals.{find_total, has_place, totals_in}
 use Rattle.wiring_table.specs.Parts.{HasTotal}
 use Rattle.ledger_amounts.proofs.Found.{totals-found}

@@ -49,7 +49,7 @@ use Rattle.wired_panels.specs.Groups.{IsCounterOf}
 use Rattle.wired_panels.specs.Panel.{IsPanel}
 use Rattle.wiring_table.specs.Figures.{IsAmount}
 use Rattle.wiring_table.specs.Parts.{ServesTotal, panel_group}
-use Rattle.ledger_amounts.proofs.Behind.{IsBehind, whole-behind}
+use Rattle.whole_cycles.proofs.Wholes.{IsBehind, whole-behind}
 use Rattle.ledger_amounts.proofs.Counters.{both-moves, one-moves}
 use Rattle.ledger_amounts.proofs.Groups.{at-place}
 use Rattle.ledger_amounts.proofs.Moves.{Moves}

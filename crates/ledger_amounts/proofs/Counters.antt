@@ -1,15 +1,11 @@
 -- What is asked of a counter of one group or of two, as the movement of its number.
-use Rattle.std.proofs.Common.{◌≡◌, ◌∙◌, refl, sym, ap, subst, ℕ, ◌+◌, ◌*◌, ◌/◌, ◌%◌, ◌^◌, ◌<◌, ◌≤◌, ◌==◌, ◌&&◌, ◌||◌, not, Bool, true, false, List, [], ◌∷◌, ◌++◌, All, length, arith, if◌then◌else◌}
+use Rattle.std.proofs.Common.{◌≡◌, ◌∙◌, refl, sym, ap, subst, ℕ, ◌+◌, ◌*◌, ◌^◌, ◌<◌, ◌==◌, ◌&&◌, ◌||◌, not, Bool, true, false, List, [], ◌∷◌, ◌++◌, All, length, arith, if◌then◌else◌}
 use Rattle.std.proofs.lemmas.Bool.Decides.{nat_tests}
 use Rattle.std.proofs.lemmas.List.{length-append}
 use Rattle.std.proofs.lemmas.List.Elements.{All-append}
-use Rattle.std.proofs.lemmas.Nat.{pow-add}
-use Rattle.std.proofs.Math.Nat.{div-lt_iff_lt-mul, mod-add-div', mod-lt}
-use Rattle.card_code.specs.Rows.{row_number}
 use Rattle.counters.proofs.Carries.{carries_out-append, carries_out-split}
 use Rattle.counters.proofs.EarliestRows.{earliest-entered, points-stay}
 use Rattle.counters.proofs.Idle.{idle-carries_out}
-use Rattle.counters.proofs.ListedDigits.{length-listed}
 use Rattle.counters.proofs.NumberLemmas.{number-lt}
 use Rattle.counters.proofs.Pairs.{number-append}
 use Rattle.counters.specs.Counters.{Counter, controls_of, wheel_of, wheels_in, wheels_of}
@@ -17,24 +13,24 @@ use Rattle.counters.specs.Laws.{IsCounter, IsDigit, number_of_both}
 use Rattle.counters.specs.Numbers.{number}
 use Rattle.counters.specs.Rings.{CarryThrough}
 use Rattle.counters.specs.Wheels.{Wheel, all_nines, carries_out, passes, stands}
-use Rattle.counters.specs.WholeCycles.{ComesRound, after_its_points, digit_given, digits_given}
+use Rattle.counters.specs.WholeCycles.{ComesRound, after_its_points, digits_given}
 use Rattle.counters.specs.declared.controls.Controls.{Controls}
 use Rattle.hub_table.specs.Places.{is_width}
 use Rattle.hubs.specs.declared.hub.Group.{Group}
 use Rattle.hubs.specs.declared.hub.Hub.{Hub}
 use Rattle.hubs.specs.declared.hub.Hub.TheVariants.{CI}
-use Rattle.ledgers.specs.Entries.{are_one, carries_on, joined, movement_of_both, movement_of_one, power_of, same}
+use Rattle.ledgers.specs.Entries.{are_one, carry_leaves, joined, movement_of_both, movement_of_one, power_of, same}
 use Rattle.net.specs.Cycles.{points}
 use Rattle.net.specs.declared.cycle.Cycle.{Cycle}
 use Rattle.net.specs.declared.cycle.Point.{Point}
 use Rattle.net.specs.declared.cycle.Point.TheVariants.{C, K}
 use Rattle.totals.proofs.CounterCycles.ActLemmas.{controls_of-act}
-use Rattle.totals.proofs.CounterCycles.DigitLemmas.{number-within, power-some}
+use Rattle.totals.proofs.CounterCycles.DigitLemmas.{number-within}
 use Rattle.totals.proofs.CounterCycles.EntryLemmas.{given-number}
-use Rattle.totals.proofs.CounterCycles.PairLemmas.{digit_of-above_width, digit_of-within_width}
-use Rattle.totals.specs.CounterCycles.Acts.{Act, Asks, Entered, IsWithinGroup, Spells, act_controls, digit_of}
+use Rattle.totals.proofs.CounterCycles.PairLemmas.{both-given}
+use Rattle.totals.specs.CounterCycles.Acts.{Act, Asks, Entered, IsWithinGroup, act_controls}
 use Rattle.totals.specs.CounterCycles.Acts.Act.{Still, Test, Turn, Show, Plus, Minus}
-use Rattle.totals.specs.CounterCycles.Pairs.{AsksBoth, EnteredInBoth, SpellInBoth}
+use Rattle.totals.specs.CounterCycles.Pairs.{AsksBoth, EnteredInBoth}
 use Rattle.whole_cycles.specs.Between.{IsIdle}
 use Rattle.ledger_amounts.proofs.Groups.{same-numbers}
 use Rattle.ledger_amounts.proofs.Moves.{IsEntered, Moves, enters}
@@ -126,33 +122,6 @@ one-moves is_ring act counter cycle pictures idle fits asks round =
       entered = entered-one act counter.name (number counter.digits) pictures (after_its_points cycle pictures counter).entered
           (number-within counter idle.lawful) fits asks.entered (given act counter cycle pictures idle same_told);
     }
-
--- digits that are the same are spelled by the same entries
-spells-same : (name : Group) (one other : ℕ → ℕ) (pictures : Point → Hub → Bool)
-    → ((position : ℕ) → 1 ≤ position → position ≤ name.width → one position ≡ other position) → Spells name one pictures
-    → Spells name other pictures
-spells-same name one other pictures alike spells = λ row low high position from to.
-    spells row low high position from to ∙ ap (λ d. d == row_number row) (alike position from to)
-
--- what the entries of both spell is given to both
-both-given : (upper lower : Group) (n : ℕ) (pictures : Point → Hub → Bool) → n < 10 ^ (upper.width + lower.width)
-    → SpellInBoth upper lower (digit_of n) pictures
-    → number_of_both (digits_given upper pictures) (digits_given lower pictures) ≡ n
-both-given upper lower n pictures small spell =
-    let width = lower.width in
-    let low : number (digits_given lower pictures) ≡ n % 10 ^ width =
-    given-number lower (n % 10 ^ width) pictures (mod-lt n {m = 10 ^ width} (power-some width))
-    (spells-same lower (digit_of n) (digit_of (n % 10 ^ width)) pictures
-    (λ position from to. digit_of-within_width n width position from to) spell.below) in
-    let few : n / 10 ^ width < 10 ^ upper.width =
-    (div-lt_iff_lt-mul (power-some width)).1 (subst (λ (p : ℕ). n < p) (pow-add 10 upper.width width) small) in
-    let high : number (digits_given upper pictures) ≡ n / 10 ^ width =
-    given-number upper (n / 10 ^ width) pictures few
-    (spells-same upper (λ position. digit_of n (width + position)) (digit_of (n / 10 ^ width)) pictures
-    (λ position from to. digit_of-above_width n width position from) spell.above) in
-    let long : length (digits_given lower pictures) ≡ width = length-listed (digit_given lower pictures) width in
-    (λ i. high i * 10 ^ long i + low i)
-    ∙ (let e = mod-add-div' n (10 ^ width) in omega (arith, e))
 
 -- what is entered for what is asked of two groups
 entered-both : (act : Act) (upper lower : Group) (held : ℕ) (pictures : Point → Hub → Bool) (above below : List ℕ)
@@ -247,12 +216,12 @@ both-moves is_ring act upper lower cycle pictures idle and_idle fits asks throug
     ∙ ap (carries_out (wheels_in under)) (sym (carried act lower cycle pictures and_idle and_told)) in
     let one : are_one over under ≡ true =
     all-true (same over.controls.plus under.controls.plus) (same over.controls.minus under.controls.minus)
-    (same over.controls.read_out under.controls.read_out) (same over.carry (carries_on under))
+    (same over.controls.read_out under.controls.read_out) (same over.carry (carry_leaves under))
     (same-so over.controls.plus under.controls.plus (ap (λ (k : Controls). k.plus) is ∙ sym (ap (λ (k : Controls). k.plus) and_is)))
     (same-so over.controls.minus under.controls.minus (ap (λ (k : Controls). k.minus) is ∙ sym (ap (λ (k : Controls). k.minus) and_is)))
     (same-so over.controls.read_out under.controls.read_out
     (ap (λ (k : Controls). k.read_out) is ∙ sym (ap (λ (k : Controls). k.read_out) and_is)))
-    (same-so over.carry (carries_on under) (carry ∙ carries-on (wheels_in under) under.carry)) in
+    (same-so over.carry (carry_leaves under) (carry ∙ carries-on (wheels_in under) under.carry)) in
     let width = lower.name.width in
     let places : length lower.digits ≡ width = and_idle.lawful.positions in
     record {

@@ -15,8 +15,8 @@ use Rattle.counters.specs.Wheels.{carries_out}
 use Rattle.hubs.specs.declared.hub.Group.{Group}
 use Rattle.ledgers.proofs.Places.{comes-to, gained-all, left-all}
 use Rattle.ledgers.proofs.Whole.{holds, in-cycle, number-zeros, start-group}
-use Rattle.ledgers.specs.Coupled.{number_of_both}
-use Rattle.ledgers.specs.Entries.{are_one, carries_on, change_of, entries_gained, entries_left, entry_of, is_added, is_cleared, is_turned, joined, ledger_after, movement_of_both, same}
+use Rattle.ledgers.specs.Coupled.{coupled_number}
+use Rattle.ledgers.specs.Entries.{are_one, carry_leaves, change_of, entries_gained, entries_left, entry_of, is_added, is_cleared, is_turned, joined, ledger_after, movement_of_both, same}
 use Rattle.ledgers.specs.Ledgers.{Along, IsLedger, IsSum, IsUnturned, begun, card_in, change_number, change_start, group_at, more, number_added, power_at}
 use Rattle.ledgers.specs.declared.account.Account.TheVariants.{Coupled}
 use Rattle.ledgers.specs.declared.entry.Change.{Change}
@@ -107,12 +107,12 @@ entry-both : (upper lower : Counter) (cycle : Cycle) (card passed power power_lo
 entry-both upper lower cycle card passed power power_lower lawful and_lawful is and_is together =
     let alike =
     all-of (same upper.controls.plus lower.controls.plus) (same upper.controls.minus lower.controls.minus)
-    (same upper.controls.read_out lower.controls.read_out) (same upper.carry (carries_on lower)) (not-apart (are_one upper lower) together) in
+    (same upper.controls.read_out lower.controls.read_out) (same upper.carry (carry_leaves lower)) (not-apart (are_one upper lower) together) in
     let plus = same-is upper.controls.plus lower.controls.plus alike.0 in
     let minus = same-is upper.controls.minus lower.controls.minus alike.1 in
     let read = same-is upper.controls.read_out lower.controls.read_out alike.2 in
     let carry : upper.carry ≡ carries_out (wheels_in lower) lower.carry
-    = same-is upper.carry (carries_on lower) alike.3 ∙ sym (carries-on (wheels_in lower) lower.carry) in
+    = same-is upper.carry (carry_leaves lower) alike.3 ∙ sym (carries-on (wheels_in lower) lower.carry) in
     let above : number (counter_ended upper cycle).digits + carry_number (carries_out (wheels_in upper) upper.carry) * power
     ≡ (if lower.controls.read_out then 0 else number upper.digits)
     + (if lower.controls.minus then power - 1 - number upper.entered else if lower.controls.plus then number upper.entered else 0)
@@ -350,10 +350,10 @@ module _ (upper lower : Counter) (cycle : Cycle) (card passed power power_lower 
 sum-of : (wiring : Wiring) (deck : List (List ℕ)) (upper lower : ℕ) {along : Along} {entries : List Entry} → upper < 32 → lower < 32
     → IsLedger wiring deck (Coupled upper lower) along entries → All IsTogether entries → All IsUnturned entries
     → (carries : ℕ)
-    × (number_of_both along.run.machine upper lower + carries * power_of_both upper lower
+    × (coupled_number along.run.machine upper lower + carries * power_of_both upper lower
     ≡ sum_by (number_added (power_of_both upper lower)) entries)
 sum-of wiring deck upper lower high low begun together unturned =
-    let none : number_of_both (run_at_start wiring deck).machine upper lower ≡ 0
+    let none : coupled_number (run_at_start wiring deck).machine upper lower ≡ 0
     = ap (λ (n : ℕ). joined n (number (group_at (run_at_start wiring deck).machine lower).digits)
     (group_at (run_at_start wiring deck).machine lower).name.width) (start-number upper high)
     ∙ ap (λ (n : ℕ). joined 0 n (group_at (run_at_start wiring deck).machine lower).name.width) (start-number lower low)
@@ -375,12 +375,12 @@ sum-of wiring deck upper lower high low (more cycle before old behind ledger goe
     let is : 10 ^ (group_at behind upper).name.width ≡ power_at upper = ap (λ (n : Group). 10 ^ n.width) above.name ∙ held.power in
     let and_is : 10 ^ (group_at behind lower).name.width ≡ power_at lower = ap (λ (n : Group). 10 ^ n.width) below.name ∙ and_held.power in
     let stood : joined (number (group_at behind upper).digits) (number (group_at behind lower).digits) (group_at behind lower).name.width
-    ≡ number_of_both before.run.machine upper lower
+    ≡ coupled_number before.run.machine upper lower
     = ap (λ (ds : List ℕ). joined (number ds) (number (group_at behind lower).digits) (group_at behind lower).name.width) above.digits
     ∙ ap (λ (ds : List ℕ). joined (number (group_at before.run.machine upper).digits) (number ds) (group_at behind lower).name.width) below.digits
     ∙ ap (λ (n : Group). joined (number (group_at before.run.machine upper).digits) (number (group_at before.run.machine lower).digits) n.width)
     below.name in
-    let stands : number_of_both (ended behind cycle) upper lower
+    let stands : coupled_number (ended behind cycle) upper lower
     ≡ joined (number (counter_ended (group_at behind upper) cycle).digits) (number (counter_ended (group_at behind lower) cycle).digits)
     (group_at behind lower).name.width
     = ap (λ (g : Counter). joined (number g.digits) (number (group_at (ended behind cycle) lower).digits)

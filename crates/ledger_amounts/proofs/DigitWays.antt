@@ -10,7 +10,7 @@ use Rattle.counters.specs.Counters.{Counter, group_of_unit, width_of}
 use Rattle.counters.specs.Laws.{IsDigit}
 use Rattle.counters.specs.Numbers.{number}
 use Rattle.cycle_ways.specs.Points.{TellsOf}
-use Rattle.cycle_ways.specs.Told.{DigitsAreTold, digit_at}
+use Rattle.cycle_ways.specs.ToldImpulses.{DigitsAreTold, digit_at}
 use Rattle.hub_table.specs.Places.{is_width}
 use Rattle.hubs.specs.declared.hub.Group.{Group}
 use Rattle.hubs.specs.declared.hub.Hub.{Hub}

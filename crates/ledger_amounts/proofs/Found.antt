@@ -26,7 +26,7 @@ use Rattle.plans.specs.declared.counter.TotalCounter.{TotalCounter}
 use Rattle.plans.specs.declared.counter.TotalCounter.TheVariants as of
 use Rattle.origins.specs.Holders.{is_group}
 use Rattle.wheel_ledgers.specs.Places.{place_below, place_of}
-use Rattle.wheel_ledgers.specs.Told.{account_told}
+use Rattle.wheel_ledgers.specs.ToldLedgers.{account_told}
 use Rattle.wheel_ledgers.specs.Totals.{account_of, both_account, find_total, has_place, one_account, titled, total_by, total_on, totals_in}
 use Rattle.wheel_ledgers.specs.declared.chart_totals.TitledAccount.{TitledAccount}
 use Rattle.whole_cycles.proofs.Places.{in_units, same_group}

@@ -1,4 +1,3 @@
-mod Behind
 mod Moves
 mod Counters
 mod Groups

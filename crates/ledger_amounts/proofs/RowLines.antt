@@ -19,7 +19,7 @@ use Rattle.origins.specs.declared.holes.Hole.{Hole}
 use Rattle.cycle_ways.specs.Points.{TellsOf}
 use Rattle.setups.specs.Wiring.{Wiring}
 use Rattle.totals.specs.CounterCycles.Acts.{digit_of}
-use Rattle.wheel_ledgers.specs.LedgerHoles.Digits.{AreDigitLines, IsDigitLine, IsLineBy, came, hole_for, hole_line, next_digit, no_digit, nothing, row_of, row_text}
+use Rattle.wheel_ledgers.specs.LedgerHoles.Digits.{AreDigitLines, IsDigitLine, IsLineBy, came, digit_label, hole_for, hole_line, next_digit, no_digit, nothing, row_of}
 use Rattle.wheel_ledgers.specs.LedgerHoles.Down.{AreEntered}
 use Rattle.wheel_ledgers.specs.LedgerHoles.Positions.{entry_at, entry_text, position_in}
 use Rattle.wheel_ledgers.specs.LedgerHoles.Ways.{way_line}
@@ -34,7 +34,7 @@ HasWay has at_position digit =
 
 -- a line with a way behind a row
 way-stands : (digit : ℕ) (found : Option (Vec Hub Global)) (line : List ℕ) → 1 ≤ digit → IsSome found
-    → line ≡ way_line (row_text (row_of digit)) found → IsRowLine digit line
+    → line ≡ way_line (digit_label (row_of digit)) found → IsRowLine digit line
 way-stands digit None line some none is = absurd (false≢true none)
 way-stands digit (Some way) line some there is = subst (IsRowLine digit) (sym is) (one_line digit _ some)
 
@@ -45,7 +45,7 @@ hole-stands digit card at_position hole line some is =
     subst (IsRowLine digit)
     (sym (is
     ∙ ap (λ (l : List ℕ). l ++ codes "\n")
-    (append_assoc (row_text (row_of digit)) (codes " ") (led_text (Some hole) card (entry_text at_position)))))
+    (append_assoc (digit_label (row_of digit)) (codes " ") (led_text (Some hole) card (entry_text at_position)))))
     (one_line digit (codes " " ++ led_text (Some hole) card (entry_text at_position)) some)
 
 module _ {wiring : Wiring} {deck : List (List ℕ)} {passed : ℕ} (has : HasCycle wiring deck passed) (cycle : Cycle) (card : ℕ) where

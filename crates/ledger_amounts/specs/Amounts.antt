@@ -25,7 +25,7 @@ use Rattle.report.specs.Outline.{OutlineLine, Detail, Total, outline_of}
 use Rattle.report.specs.Totals.{Fits, total_of}
 use Rattle.setups.specs.Wiring.{Wiring}
 use Rattle.totals.specs.Amounts.{lower}
-use Rattle.wheel_ledgers.specs.Told.{account_told}
+use Rattle.wheel_ledgers.specs.ToldLedgers.{account_told}
 use Rattle.wheel_ledgers.specs.Totals.{account_of, find_total, has_place, totals_in}
 use Rattle.wired_panels.specs.Groups.{IsCounterOf}
 use Rattle.wired_panels.specs.Panel.{IsPanel}

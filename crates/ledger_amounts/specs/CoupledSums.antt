@@ -1,6 +1,6 @@
 -- The numbers that come to two groups as one add up.
 use Rattle.std.specs.Prelude.{◌≡◌, ℕ, ◌+◌, ◌*◌, ◌<◌, List, All, sum_by}
-use Rattle.ledgers.specs.Coupled.{number_of_both}
+use Rattle.ledgers.specs.Coupled.{coupled_number}
 use Rattle.ledgers.specs.Ledgers.{Along, IsLedger, IsSum, IsUnturned, number_added, power_at}
 use Rattle.ledgers.specs.declared.account.Account.TheVariants.{Coupled}
 use Rattle.ledgers.specs.declared.entry.Change.TheVariants.{Apart}
@@ -28,5 +28,5 @@ CoupledLedgersAreSums =
     (wiring : Wiring) (deck : List (List ℕ)) (upper lower : ℕ) (along : Along) (entries : List Entry)
     → upper < 32 → lower < 32 → IsLedger wiring deck (Coupled upper lower) along entries → All IsTogether entries → All IsUnturned entries
     → (carries : ℕ)
-    × (number_of_both along.run.machine upper lower + carries * power_of_both upper lower
+    × (coupled_number along.run.machine upper lower + carries * power_of_both upper lower
     ≡ sum_by (number_added (power_of_both upper lower)) entries)

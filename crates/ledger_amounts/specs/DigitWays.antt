@@ -13,7 +13,7 @@ use Rattle.ledgers.specs.declared.entry.Change.TheVariants.{Plus, Minus, Turned,
 use Rattle.ledgers.specs.declared.entry.Entry.{Entry}
 use Rattle.setups.specs.Wiring.{Wiring}
 use Rattle.totals.specs.CounterCycles.Acts.{digit_of}
-use Rattle.wheel_ledgers.specs.LedgerHoles.Digits.{row_of, row_text}
+use Rattle.wheel_ledgers.specs.LedgerHoles.Digits.{digit_label, row_of}
 use Rattle.wheel_ledgers.specs.LedgerHoles.Down.{IsEntryDown}
 use Rattle.wheel_ledgers.specs.LedgerHoles.Positions.{entry_at, position_in}
 use Rattle.ledger_amounts.specs.Changes.{movement_in}
@@ -35,7 +35,7 @@ DigitsHaveWays =
 -- the line of a digit: none of 0, and of any other one that begins with its row
 pub data IsRowLine : (digit : ℕ) → List ℕ → Type 0 where
   no_line : IsRowLine 0 []
-  one_line : (digit : ℕ) (way : List ℕ) → 1 ≤ digit → IsRowLine digit (row_text (row_of digit) ++ way ++ codes "\n")
+  one_line : (digit : ℕ) (way : List ℕ) → 1 ≤ digit → IsRowLine digit (digit_label (row_of digit) ++ way ++ codes "\n")
 
 -- the lines of so many last digits of a number, that of the top one first
 pub data AreRowLines : (count number : ℕ) → List ℕ → Type 0 where

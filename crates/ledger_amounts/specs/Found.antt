@@ -5,7 +5,7 @@ use Rattle.charts.specs.declared.statement.Field.{Field}
 use Rattle.ledgers.specs.declared.account.Account.{Account}
 use Rattle.plans.specs.Plans.{Lists, ServesChart}
 use Rattle.plans.specs.declared.counter.TotalCounter.{TotalCounter}
-use Rattle.wheel_ledgers.specs.Told.{account_told}
+use Rattle.wheel_ledgers.specs.ToldLedgers.{account_told}
 use Rattle.wheel_ledgers.specs.Totals.{account_of, find_total, has_place, totals_in}
 use Rattle.wired_panels.specs.Groups.{IsCounterOf}
 use Rattle.wiring_table.specs.Figures.{IsAmount}

@@ -12,8 +12,8 @@ use Rattle.counters.specs.declared.controls.Controls.{Controls}
 use Rattle.counters.proofs.Idle.{idle-carries_out}
 use Rattle.machine.specs.Machine.{ended}
 use Rattle.machine.specs.Runs.{run_at_start}
-use Rattle.ledgers.specs.Coupled.{CoupledLedgersTellNumbers, number_of_both}
-use Rattle.ledgers.specs.Entries.{are_one, carries_on, entry_of, is_added, is_cleared, joined, ledger_after, movement_of_both, same}
+use Rattle.ledgers.specs.Coupled.{CoupledLedgersTellNumbers, coupled_number}
+use Rattle.ledgers.specs.Entries.{are_one, carry_leaves, entry_of, is_added, is_cleared, joined, ledger_after, movement_of_both, same}
 use Rattle.ledgers.specs.Ledgers.{Along, Chain, IsLedger, begun, card_in, group_at, more}
 use Rattle.ledgers.specs.declared.account.Account.TheVariants.{Coupled}
 use Rattle.ledgers.specs.declared.entry.Entry.{Entry}
@@ -39,10 +39,10 @@ read-carries_out controls (d ∷ ds) (e ∷ es) read minus plus =
 
 -- nor from one to which nothing comes
 none-leaves : (group : Counter) → IsCounter group → group.controls.plus ≡ false → group.controls.minus ≡ false → group.carry ≡ false
-    → carries_on group ≡ false
+    → carry_leaves group ≡ false
 none-leaves group lawful plus minus carry = by group.controls.read_out refl
   where
-    by : (r : Bool) → group.controls.read_out ≡ r → carries_on group ≡ false
+    by : (r : Bool) → group.controls.read_out ≡ r → carry_leaves group ≡ false
     by true is =
         no-carry (carries_out (wheels_in group) false) group.carry (all_nines (wheels_in group))
         (read-carries_out group.controls group.digits group.entered is minus plus) carry
@@ -89,12 +89,12 @@ still-both upper lower cycle upper_lawful lower_lawful idle =
     let none = none-of moved.apart moved.plus moved.minus moved.carry idle in
     let alike =
     all-of (same upper.controls.plus lower.controls.plus) (same upper.controls.minus lower.controls.minus)
-    (same upper.controls.read_out lower.controls.read_out) (same upper.carry (carries_on lower)) (not-apart (are_one upper lower) none.0) in
+    (same upper.controls.read_out lower.controls.read_out) (same upper.carry (carry_leaves lower)) (not-apart (are_one upper lower) none.0) in
     let plus = same-is upper.controls.plus lower.controls.plus alike.0 ∙ none.1 in
     let minus = same-is upper.controls.minus lower.controls.minus alike.1 ∙ none.2 in
     let read = same-is upper.controls.read_out lower.controls.read_out alike.2 in
     let carry =
-    same-is upper.carry (carries_on lower) alike.3 ∙ none-leaves lower lower_lawful none.1 none.2 none.3 in
+    same-is upper.carry (carry_leaves lower) alike.3 ∙ none-leaves lower lower_lawful none.1 none.2 none.3 in
     let cleared : is_cleared moved ≡ lower.controls.read_out =
     cleared-by moved.apart lower.controls.read_out lower.controls.minus (moved.entered == moved.held) none.0 none.2 in
     joined-by lower.controls.read_out (number upper.digits) (number lower.digits) (number (counter_ended upper cycle).digits)
@@ -123,7 +123,7 @@ start-number wiring deck place low =
     ap (λ (g : Counter). number g.digits) (start-group wiring deck place low) ∙ number-zeros (width_of (3 + place))
 
 coupled-told : (wiring : Wiring) (deck : List (List ℕ)) (upper lower : ℕ) (along : Along) (entries : List Entry) → upper < 32 → lower < 32
-    → IsLedger wiring deck (Coupled upper lower) along entries → Chain 0 entries (number_of_both along.run.machine upper lower)
+    → IsLedger wiring deck (Coupled upper lower) along entries → Chain 0 entries (coupled_number along.run.machine upper lower)
 coupled-told wiring deck upper lower along entries high low begun =
     let width = (group_at (run_at_start wiring deck).machine lower).name.width in
     ap (λ (n : ℕ). joined n (number (group_at (run_at_start wiring deck).machine lower).digits) width) (start-number wiring deck upper high)
@@ -135,12 +135,12 @@ coupled-told wiring deck upper lower along entries high low (more cycle before o
     let below = in-cycle wiring cycle lower before behind low (holds wiring deck lower low comes) goes in
     let one : Counter = group_at behind upper in
     let other : Counter = group_at behind lower in
-    let held : number_of_both before.run.machine upper lower ≡ joined (number one.digits) (number other.digits) other.name.width =
+    let held : coupled_number before.run.machine upper lower ≡ joined (number one.digits) (number other.digits) other.name.width =
     ap (λ (ds : List ℕ). joined (number ds) (number (group_at before.run.machine lower).digits)
     (group_at before.run.machine lower).name.width) (sym above.digits)
     ∙ ap (λ (ds : List ℕ). joined (number one.digits) (number ds) (group_at before.run.machine lower).name.width) (sym below.digits)
     ∙ ap (λ (n : Group). joined (number one.digits) (number other.digits) n.width) (sym below.name) in
-    let left : number_of_both (ended behind cycle) upper lower
+    let left : coupled_number (ended behind cycle) upper lower
     ≡ joined (number (counter_ended one cycle).digits) (number (counter_ended other cycle).digits) other.name.width =
     ap (λ (g : Counter). joined (number g.digits) (number (group_at (ended behind cycle) lower).digits)
     (group_at (ended behind cycle) lower).name.width) above.same

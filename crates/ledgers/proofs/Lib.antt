@@ -1,5 +1,6 @@
 pub mod Points
 mod Sums
+mod Turns
 pub mod Small
 pub mod Places
 pub mod Whole

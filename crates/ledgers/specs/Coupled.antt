@@ -9,8 +9,8 @@ use Rattle.ledgers.specs.declared.account.Account.TheVariants.{Coupled}
 use Rattle.ledgers.specs.declared.entry.Entry.{Entry}
 
 -- the number of two groups of a machine, of which the lower one has the units
-abbrev pub number_of_both : MachineState → (upper lower : ℕ) → ℕ
-number_of_both machine upper lower =
+abbrev pub coupled_number : MachineState → (upper lower : ℕ) → ℕ
+coupled_number machine upper lower =
     joined (number (group_at machine upper).digits) (number (group_at machine lower).digits) (group_at machine lower).name.width
 
 -- The number that two groups stand for is told by their ledger: its numbers chain from 0 to it.
@@ -18,4 +18,4 @@ abbrev pub CoupledLedgersTellNumbers : Type 0
 CoupledLedgersTellNumbers =
     (wiring : Wiring) (deck : List (List ℕ)) (upper lower : ℕ) (along : Along) (entries : List Entry)
     → upper < 32 → lower < 32 → IsLedger wiring deck (Coupled upper lower) along entries
-    → Chain 0 entries (number_of_both along.run.machine upper lower)
+    → Chain 0 entries (coupled_number along.run.machine upper lower)

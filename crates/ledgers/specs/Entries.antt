@@ -41,12 +41,12 @@ abbrev pub joined : (upper lower width : ℕ) → ℕ
 joined upper lower width = upper * power_of width + lower
 
 -- a carry leaves the top of a group: as the wheels make it by themselves, or one came in at the units and all wheels stand at 9
-abbrev pub carries_on : Counter → Bool
-carries_on group = carries_out (wheels_in group) false || (group.carry && all_nines (wheels_in group))
+abbrev pub carry_leaves : Counter → Bool
+carry_leaves group = carries_out (wheels_in group) false || (group.carry && all_nines (wheels_in group))
 
 -- two groups do the same thing, and the carry of the lower one comes in at the upper one
 abbrev pub are_one : Counter → Counter → Bool
-are_one upper lower = are_alike upper.controls lower.controls && same upper.carry (carries_on lower)
+are_one upper lower = are_alike upper.controls lower.controls && same upper.carry (carry_leaves lower)
 
 -- what happens to the number of two groups: of that number the lower one has the units
 abbrev pub movement_of_both : Counter → Counter → Cycle → Movement

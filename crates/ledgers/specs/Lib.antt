@@ -10,3 +10,4 @@ pub mod Cycles
 pub mod InCycle
 pub mod CycleReadOuts
 pub mod LedgerText
+pub mod Turns

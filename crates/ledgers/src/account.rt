@@ -2,7 +2,7 @@
 
 ghost use Rattle.std.specs.Prelude.{◌≡◌, ◌<◌};
 ghost use Rattle.counters.specs.Laws.{IsCounter};
-ghost use Rattle.ledgers.specs.Entries.{are_alike, are_one, carries_on, joined, movement_of_both};
+ghost use Rattle.ledgers.specs.Entries.{are_alike, are_one, carry_leaves, joined, movement_of_both};
 
 use crate::entry::{Movement, movement_of_one};
 use crate::numbers::number_of;
@@ -48,8 +48,8 @@ fn joined(upper: u64, lower: u64, width: u8) -> u64
 }
 
 // Whether a carry leaves the top of a group, with the one that came in at its units.
-fn carries_on(group: &Group) -> bool
-    ensures { result ≡ carries_on group.now }
+fn carry_leaves(group: &Group) -> bool
+    ensures { result ≡ carry_leaves group.now }
 {
     group.carries_out() || group.carry() && group.nines()
 }
@@ -58,7 +58,7 @@ fn carries_on(group: &Group) -> bool
 fn are_one(upper: &Group, lower: &Group) -> bool
     ensures { result ≡ are_one upper.now lower.now }
 {
-    are_alike(upper.controls(), lower.controls()) && upper.carry() == carries_on(lower)
+    are_alike(upper.controls(), lower.controls()) && upper.carry() == carry_leaves(lower)
 }
 
 // What happens to the number of two groups.

@@ -45,6 +45,7 @@ pub fn machine_in_cycle(
         machine.end_cycle(cycle);
     }
     let last = next_cycle(&machine);
+    // No card is fed any more: what is left of them is not needed.
     let _left = make_ready(&mut machine, last, hopper);
     machine.run_points(last);
     Ok(machine)

@@ -3,6 +3,7 @@
 ghost use Rattle.ledgers.specs.Coupled.{CoupledLedgersTellNumbers};
 ghost use Rattle.ledgers.specs.Ledgers.{EntriesAreSums, LedgersAreSums, LedgersTellNumbers};
 ghost use Rattle.ledgers.specs.Cycles.{EntriesTellCycles, PlacesAreOne};
+ghost use Rattle.ledgers.specs.Turns.{TurnsEnterNumbers};
 
 /// The numbers of a ledger chain from 0 to the number that the group holds.
 pub fn ledgers_tell_numbers()
@@ -14,10 +15,12 @@ pub fn coupled_ledgers_tell_numbers()
     ensures { CoupledLedgersTellNumbers }
 {}
 
-/// Each entry is a sum, and where the group didn't turn it holds the sum of what came to it.
+/// Each entry is a sum, and where the group didn't turn it holds the sum of what came to it. In an entry that turned a number, of one group or of
+/// two, the number that was entered is the one that stood before, on every panel: so the one after is its complement.
 pub fn ledgers_are_sums()
     ensures each { EntriesAreSums }
     ensures all { LedgersAreSums }
+    ensures turned { TurnsEnterNumbers }
 {}
 
 /// Of a run there is one place behind so many cycles, and each entry tells of the one that it names.

@@ -12,8 +12,8 @@ use Rattle.charts.specs.declared.statement.FieldKind.TheVariants as holds
 use Rattle.charts.specs.declared.statement.Printing.TheVariants as prints
 use Rattle.charts.specs.declared.statement.Statement.{Statement}
 use Rattle.charts.specs.declared.statement.Statement.TheVariants as says
-use Rattle.legend.specs.declared.row.Row.{Row}
-use Rattle.legend.specs.declared.row.Row.TheVariants as row
+use Rattle.legend.specs.declared.row.LegendRow.{LegendRow}
+use Rattle.legend.specs.declared.row.LegendRow.TheVariants as row
 
 -- what the field of a name holds; characters, where no field has the name
 abbrev pub kind_named : Option Field → FieldKind
@@ -21,24 +21,24 @@ kind_named None = holds.Text
 kind_named (Some field) = field.kind
 
 -- the row of a field: of a signed amount a column is picked up
-abbrev pub field_row : FieldKind → Row
+abbrev pub field_row : FieldKind → LegendRow
 field_row (holds.Amount decimals (Some rule)) = row.SignedField
 field_row other = row.Field
 
 -- the row of a field on the line of a card
-abbrev pub detail_row : FieldKind → DetailOption → Row
+abbrev pub detail_row : FieldKind → DetailOption → LegendRow
 detail_row holds.Text (shown.Indicated level) = row.IndicatedText
 detail_row holds.Text other = row.DetailText
 detail_row (holds.Amount decimals rule) (shown.Marked mark) = row.MarkedAmount
 detail_row (holds.Amount decimals rule) other = row.DetailAmount
 
 -- the row of a total
-abbrev pub total_row : FieldKind → Row
+abbrev pub total_row : FieldKind → LegendRow
 total_row (holds.Amount decimals (Some rule)) = row.SignedTotal
 total_row other = row.Total
 
 -- the row of a line of a chart
-abbrev pub row_of : List Line → Statement → Row
+abbrev pub row_of : List Line → Statement → LegendRow
 row_of lines (says.Field field) = field_row field.kind
 row_of lines (says.Control level name) = row.Control
 row_of lines (says.Print prints.Detail) = row.PrintDetail
@@ -57,9 +57,9 @@ row_of lines (says.Form count first overflow) = row.Form
 row_of lines (says.Tape channel stops) = row.Tape
 
 -- the sentence of a row
-abbrev pub sentence : Row → List ℕ
+abbrev pub sentence : LegendRow → List ℕ
 sentence row.Field = codes "A field by itself needs no wire: the lines that name it say where its columns lead."
-sentence row.SignedField = codes "The sign column at first reading picks up the pilot of the amount, if a line shows the amount: so the pilot stands right in the card's own cycle, in which the amount is printed or added."
+sentence row.SignedField = codes "The sign column at first reading picks up the pilot of the amount, if a line shows the amount: so the pilot is set in the card's own cycle, in which the amount is printed or added."
 sentence row.Control = codes "Each column is compared between the card at first reading and the card before it at second reading; where the two differ, the program cycles of the level follow."
 sentence row.PrintDetail = codes "Card cycles print, so each card has a line."
 sentence row.PrintGroup = codes "LIST stays unplugged: card cycles print nothing, so no card has a line."
@@ -68,7 +68,7 @@ sentence row.DetailLiteral = codes "In each card cycle emitter 4 sends each char
 sentence row.DetailText = codes "In the cycle that prints the card's line each column at second reading leads to its wheel."
 sentence row.IndicatedText = codes "Each column at second reading leads to its wheel through an indicate position of the level, which is closed for the first card of each group alone."
 sentence row.DetailAmount = codes "Each column at second reading leads to the wheel of its digit; emitter 4 sends the point, if there are decimals; zero control leaves blank the zeros before the first figure, except the last digit and those behind the point."
-sentence row.MarkedAmount = codes "Each column at second reading leads to the wheel of its digit, the sign column, if it is one of them, through a split, which keeps row 11 from the wheel; emitter 4 sends the point, if there are decimals, and the mark through the side of the amount's pilot that is closed for a negative card; zero control leaves blank the zeros before the first figure, except the last digit and those behind the point, and a mark that has no figure before it."
+sentence row.MarkedAmount = codes "Each column at second reading leads to the wheel of its digit. If the sign is over one of its columns, a split there keeps row 11 from the wheel. Emitter 4 sends the point, if there are decimals, and the mark: that goes through the side of the amount's pilot that is closed for a negative card. Zero control leaves blank the zeros before the first figure, except the last digit and those behind the point, and a mark that has no figure before it."
 sentence row.TotalLiteral = codes "In the third program cycle of the level its emitter sends each character's rows to the character's wheel."
 sentence row.TotalText = codes "A storage unit takes the columns from every card, and in the third program cycle of the level gives those of the last card of the group."
 sentence row.Total = codes "A counter adds the amount of each card, or the next lower total of the amount if there is one; in the third program cycle of the level it is read out to the wheels and into the next higher total, and cleared."

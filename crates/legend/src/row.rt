@@ -9,7 +9,7 @@ use charts::{After, DetailOption, Field, FieldKind, Name, Printing, Spacing, Sta
 
 /// What kind of thing a line of a chart asks of the panel.
 #[derive(Clone, Copy)]
-pub enum Row {
+pub enum LegendRow {
     /// A field of which no sign column is picked up.
     Field,
     /// An amount with a sign rule.
@@ -54,7 +54,7 @@ pub enum Row {
     Tape,
 }
 
-impl Row {
+impl LegendRow {
     ghost use Rattle.legend.specs.Rows.{sentence};
 
     /// What the row asks of the panel, as a sentence without a line's end.
@@ -62,100 +62,100 @@ impl Row {
         ensures { result.now ≡ sentence self }
     {
         match self {
-            Row::Field => {
+            LegendRow::Field => {
                 "A field by itself needs no wire: the lines that name it say where its columns lead."
             }
-            Row::SignedField => {
-                "The sign column at first reading picks up the pilot of the amount, if a line shows the amount: so the pilot stands right in the card's own cycle, in which the amount is printed or added."
+            LegendRow::SignedField => {
+                "The sign column at first reading picks up the pilot of the amount, if a line shows the amount: so the pilot is set in the card's own cycle, in which the amount is printed or added."
             }
-            Row::Control => {
+            LegendRow::Control => {
                 "Each column is compared between the card at first reading and the card before it at second reading; where the two differ, the program cycles of the level follow."
             }
-            Row::PrintDetail => { "Card cycles print, so each card has a line." }
-            Row::PrintGroup => {
+            LegendRow::PrintDetail => { "Card cycles print, so each card has a line." }
+            LegendRow::PrintGroup => {
                 "LIST stays unplugged: card cycles print nothing, so no card has a line."
             }
-            Row::Heading => {
+            LegendRow::Heading => {
                 "In the heading cycle of this line its emitter sends each character's rows to the character's wheel; HEAD is plugged for this heading line and those above it."
             }
-            Row::DetailLiteral => {
+            LegendRow::DetailLiteral => {
                 "In each card cycle emitter 4 sends each character's rows to the character's wheel."
             }
-            Row::DetailText => {
+            LegendRow::DetailText => {
                 "In the cycle that prints the card's line each column at second reading leads to its wheel."
             }
-            Row::IndicatedText => {
+            LegendRow::IndicatedText => {
                 "Each column at second reading leads to its wheel through an indicate position of the level, which is closed for the first card of each group alone."
             }
-            Row::DetailAmount => {
+            LegendRow::DetailAmount => {
                 "Each column at second reading leads to the wheel of its digit; emitter 4 sends the point, if there are decimals; zero control leaves blank the zeros before the first figure, except the last digit and those behind the point."
             }
-            Row::MarkedAmount => {
-                "Each column at second reading leads to the wheel of its digit, the sign column, if it is one of them, through a split, which keeps row 11 from the wheel; emitter 4 sends the point, if there are decimals, and the mark through the side of the amount's pilot that is closed for a negative card; zero control leaves blank the zeros before the first figure, except the last digit and those behind the point, and a mark that has no figure before it."
+            LegendRow::MarkedAmount => {
+                "Each column at second reading leads to the wheel of its digit. If the sign is over one of its columns, a split there keeps row 11 from the wheel. Emitter 4 sends the point, if there are decimals, and the mark: that goes through the side of the amount's pilot that is closed for a negative card. Zero control leaves blank the zeros before the first figure, except the last digit and those behind the point, and a mark that has no figure before it."
             }
-            Row::TotalLiteral => {
+            LegendRow::TotalLiteral => {
                 "In the third program cycle of the level its emitter sends each character's rows to the character's wheel."
             }
-            Row::TotalText => {
+            LegendRow::TotalText => {
                 "A storage unit takes the columns from every card, and in the third program cycle of the level gives those of the last card of the group."
             }
-            Row::Total => {
+            LegendRow::Total => {
                 "A counter adds the amount of each card, or the next lower total of the amount if there is one; in the third program cycle of the level it is read out to the wheels and into the next higher total, and cleared."
             }
-            Row::SignedTotal => {
+            LegendRow::SignedTotal => {
                 "A counter adds or subtracts the amount of each card by its pilot, or the next lower total of the amount by its balance; the first program cycle of the level tests the balance, the second turns a number below zero into its figure, and the third reads the figure out to the wheels and into the next higher total, and clears the counter."
             }
-            Row::SingleSpace => {
+            LegendRow::SingleSpace => {
                 "The carriage spaces by one line unasked: nothing is wired for it."
             }
-            Row::WiderSpace => {
+            LegendRow::WiderSpace => {
                 "The cycle that prints this kind of line asks the carriage for its spacing."
             }
-            Row::Page => {
+            LegendRow::Page => {
                 "The cycle that prints this kind of line sets the restore latch, so that the heading cycles come before the next line."
             }
-            Row::Skip => {
+            LegendRow::Skip => {
                 "The cycle that prints this kind of line has the form run on to the next hole of the channel."
             }
-            Row::Form => {
+            LegendRow::Form => {
                 "The tape of the form: how many lines a page has, the line to which the carriage turns on a new page, and the line at which the page is full."
             }
-            Row::Tape => {
+            LegendRow::Tape => {
                 "The tape has a hole in this channel for each stop, whether a line skips there or not."
             }
         }
     }
 
     /// The row of a line of a chart, by what the line says.
-    pub fn of(chart: &Chart, statement: &Statement) -> Row
+    pub fn of(chart: &Chart, statement: &Statement) -> LegendRow
         ensures { result ≡ row_of chart.now.lines statement.now }
     {
         match statement {
             Statement::Field(field) => field_row(field.kind),
-            Statement::Control { .. } => Row::Control,
-            Statement::Print(Printing::Detail) => Row::PrintDetail,
-            Statement::Print(Printing::Group) => Row::PrintGroup,
-            Statement::Head { .. } => Row::Heading,
-            Statement::DetailLiteral { .. } => Row::DetailLiteral,
+            Statement::Control { .. } => LegendRow::Control,
+            Statement::Print(Printing::Detail) => LegendRow::PrintDetail,
+            Statement::Print(Printing::Group) => LegendRow::PrintGroup,
+            Statement::Head { .. } => LegendRow::Heading,
+            Statement::DetailLiteral { .. } => LegendRow::DetailLiteral,
             Statement::DetailField { name, shown, .. } => detail_row(
                 kind_named(chart, *name),
                 *shown,
             ),
-            Statement::TotalLiteral { .. } => Row::TotalLiteral,
-            Statement::TotalText { .. } => Row::TotalText,
+            Statement::TotalLiteral { .. } => LegendRow::TotalLiteral,
+            Statement::TotalText { .. } => LegendRow::TotalText,
             Statement::TotalAmount(total) => total_row(kind_named(chart, total.name)),
             Statement::Space {
                 spacing: Spacing::Single,
                 ..
-            } => Row::SingleSpace,
-            Statement::Space { .. } => Row::WiderSpace,
+            } => LegendRow::SingleSpace,
+            Statement::Space { .. } => LegendRow::WiderSpace,
             Statement::After {
                 action: After::Page,
                 ..
-            } => Row::Page,
-            Statement::After { .. } => Row::Skip,
-            Statement::Form { .. } => Row::Form,
-            Statement::Tape { .. } => Row::Tape,
+            } => LegendRow::Page,
+            Statement::After { .. } => LegendRow::Skip,
+            Statement::Form { .. } => LegendRow::Form,
+            Statement::Tape { .. } => LegendRow::Tape,
         }
     }
 }
@@ -170,31 +170,31 @@ fn kind_named(chart: &Chart, name: Name) -> FieldKind
     }
 }
 
-fn field_row(kind: FieldKind) -> Row
+fn field_row(kind: FieldKind) -> LegendRow
     ensures { result ≡ field_row kind }
 {
     match kind {
-        FieldKind::Amount { sign: Some(_), .. } => Row::SignedField,
-        FieldKind::Amount { sign: None, .. } | FieldKind::Text => Row::Field,
+        FieldKind::Amount { sign: Some(_), .. } => LegendRow::SignedField,
+        FieldKind::Amount { sign: None, .. } | FieldKind::Text => LegendRow::Field,
     }
 }
 
-fn detail_row(kind: FieldKind, shown: DetailOption) -> Row
+fn detail_row(kind: FieldKind, shown: DetailOption) -> LegendRow
     ensures { result ≡ detail_row kind shown }
 {
     match (kind, shown) {
-        (FieldKind::Text, DetailOption::Indicated(_)) => Row::IndicatedText,
-        (FieldKind::Text, _) => Row::DetailText,
-        (FieldKind::Amount { .. }, DetailOption::Marked(_)) => Row::MarkedAmount,
-        (FieldKind::Amount { .. }, _) => Row::DetailAmount,
+        (FieldKind::Text, DetailOption::Indicated(_)) => LegendRow::IndicatedText,
+        (FieldKind::Text, _) => LegendRow::DetailText,
+        (FieldKind::Amount { .. }, DetailOption::Marked(_)) => LegendRow::MarkedAmount,
+        (FieldKind::Amount { .. }, _) => LegendRow::DetailAmount,
     }
 }
 
-fn total_row(kind: FieldKind) -> Row
+fn total_row(kind: FieldKind) -> LegendRow
     ensures { result ≡ total_row kind }
 {
     match kind {
-        FieldKind::Amount { sign: Some(_), .. } => Row::SignedTotal,
-        FieldKind::Amount { sign: None, .. } | FieldKind::Text => Row::Total,
+        FieldKind::Amount { sign: Some(_), .. } => LegendRow::SignedTotal,
+        FieldKind::Amount { sign: None, .. } | FieldKind::Text => LegendRow::Total,
     }
 }

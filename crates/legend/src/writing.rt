@@ -9,7 +9,7 @@ ghost use Rattle.legend.specs.LineSetups.{AreLineSetups, line_words, place_words
 ghost use Rattle.plans.specs.Plans.{ServesChart};
 ghost use Rattle.wire_chart.specs.WrittenText.{ended};
 
-use crate::row::Row;
+use crate::row::LegendRow;
 use card_code::next_line;
 use chart_rules::Chart;
 use charts::{Line, Statement};
@@ -63,7 +63,7 @@ fn under(
 ) -> Result<String, AllocError>
     ensures { IfOk result (λ text. IsUnder version chart.now.lines statement.now setup.now (string_bytes text)) }
 {
-    let mut text = String::from_str(alloc, Row::of(chart, statement).sentence())?;
+    let mut text = String::from_str(alloc, LegendRow::of(chart, statement).sentence())?;
     text.push_str("\n")?;
     write_form_part(&mut text, statement, setup)?;
     write_parts(&mut text, version, setup)?;

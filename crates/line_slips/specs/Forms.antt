@@ -1,5 +1,5 @@
 -- The words that are told of a line that no form derives.
-use Rattle.std.specs.Prelude.{ℕ, Bool, List, codes, if◌then◌else◌}
+use Rattle.std.specs.Prelude.{ℕ, Bool, List, codes, if◌then◌else◌, ◌||◌}
 use Rattle.std.specs.Str.{str_eq_ignore_ascii_case}
 use Rattle.line_slips.specs.Near.{is_near}
 use Rattle.line_slips.specs.declared.slip.Slip.{Slip}
@@ -9,17 +9,30 @@ use Rattle.line_slips.specs.declared.slip.Slip.TheVariants as slip
 abbrev pub is_word : List ℕ → List ℕ → Bool
 is_word word capitals = str_eq_ignore_ascii_case word capitals
 
+-- whether forms of the lines that print begin with a word, in capital or small letters
+abbrev pub begins_item : List ℕ → Bool
+begins_item word =
+    is_word word (codes "HEAD") || is_word word (codes "DETAIL") || is_word word (codes "TOTAL") || is_word word (codes "SPACE")
+    || is_word word (codes "AFTER")
+
+-- whether forms begin with a word, in capital or small letters
+abbrev pub begins_form : List ℕ → Bool
+begins_form word =
+    begins_item word || is_word word (codes "FIELD") || is_word word (codes "CONTROL") || is_word word (codes "PRINT")
+    || is_word word (codes "FORM") || is_word word (codes "TAPE") || is_word word (codes "END")
+
 -- what is wrong with a line whose bytes tell no slip, by its first word
 unfoldable pub first_words : List ℕ → List ℕ
 first_words word =
     if is_word word (codes "CHART407") then codes "only the first line of a chart begins with CHART407"
-    else codes "no line of a chart has these words in this order"
+    else if begins_form word then codes "no line of a chart has these words in this order"
+    else codes "no line of a chart begins with this word"
 
 -- what is wrong by a slip, with a line whose first word this is
 unfoldable pub slip_words : Slip → List ℕ → List ℕ
 slip_words slip.Tab word = codes "there is a tab, and only spaces divide words"
 slip_words slip.Comment word = codes "a chart has no comments"
-slip_words slip.Quotation word = codes "literals stand in apostrophes, '..', and a chart has only ASCII characters"
+slip_words slip.Quotation word = codes "literals stand in apostrophes, '..', and a chart has no quotation marks and no characters but ASCII"
 slip_words slip.Unclosed word = codes "an apostrophe is not closed"
 slip_words slip.Small word = codes "a chart has only capital letters"
 slip_words slip.Unprintable word = codes "this character can't be printed: a chart has capital letters, digits, blanks and & - / . $ * , % # @"

@@ -61,21 +61,15 @@ slip_of line =
     else if list_any is_unprintable line then slip.Unprintable
     else slip.Other
 
--- the byte by which a slip is known
-abbrev pub is_sign : Slip → ℕ → Bool
-is_sign slip.Tab byte = is_tab byte
-is_sign slip.Comment byte = is_comment byte
-is_sign slip.Quotation byte = is_quotation byte
-is_sign slip.Unclosed byte = is_apostrophe byte
-is_sign slip.Small byte = is_small byte
-is_sign slip.Unprintable byte = is_unprintable byte
-is_sign slip.Other byte = false
-
 -- where the first byte stands by which a slip is known: that of a comment outside of literals, and the apostrophe that none closes
 unfoldable pub sign_place : Slip → List ℕ → Option ℕ
+sign_place slip.Tab line = position is_tab line
 sign_place slip.Comment line = comment_from false 0 line
+sign_place slip.Quotation line = position is_quotation line
 sign_place slip.Unclosed line = unclosed_from None 0 line
-sign_place other line = position (is_sign other) line
+sign_place slip.Small line = position is_small line
+sign_place slip.Unprintable line = position is_unprintable line
+sign_place slip.Other line = None
 
 -- one byte of a line
 abbrev pub byte_span : ℕ → Span

@@ -13,9 +13,35 @@ fn first_words(word: &[u8]) -> &'static str
 {
     if is_word(word, b"CHART407") {
         "only the first line of a chart begins with CHART407"
-    } else {
+    } else if begins_form(word) {
         "no line of a chart has these words in this order"
+    } else {
+        "no line of a chart begins with this word"
     }
+}
+
+/// Whether forms begin with a word, in capital or small letters.
+fn begins_form(word: &[u8]) -> bool
+    ensures { result ≡ law.begins_form word.now }
+{
+    begins_item(word)
+        || is_word(word, b"FIELD")
+        || is_word(word, b"CONTROL")
+        || is_word(word, b"PRINT")
+        || is_word(word, b"FORM")
+        || is_word(word, b"TAPE")
+        || is_word(word, b"END")
+}
+
+/// Whether forms of the lines that print begin with a word, in capital or small letters.
+fn begins_item(word: &[u8]) -> bool
+    ensures { result ≡ law.begins_item word.now }
+{
+    is_word(word, b"HEAD")
+        || is_word(word, b"DETAIL")
+        || is_word(word, b"TOTAL")
+        || is_word(word, b"SPACE")
+        || is_word(word, b"AFTER")
 }
 
 /// What is wrong by a slip, with a line whose first word this is.
@@ -27,7 +53,7 @@ pub(crate) fn slip_words(slip: Slip, word: &[u8]) -> &'static str
         Slip::Tab => "there is a tab, and only spaces divide words",
         Slip::Comment => "a chart has no comments",
         Slip::Quotation =>
-            "literals stand in apostrophes, '..', and a chart has only ASCII characters",
+            "literals stand in apostrophes, '..', and a chart has no quotation marks and no characters but ASCII",
         Slip::Unclosed => "an apostrophe is not closed",
         Slip::Small => "a chart has only capital letters",
         Slip::Unprintable =>

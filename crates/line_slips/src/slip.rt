@@ -136,27 +136,36 @@ pub fn slip_of(line: &[u8]) -> Slip
     }
 }
 
-/// Whether a slip is known by a byte.
-fn is_sign(slip: Slip, byte: u8) -> bool
-    ensures { result ≡ law.is_sign slip byte }
-{
-    match slip {
-        Slip::Tab => byte == b'\t',
-        Slip::Comment => is_comment(byte),
-        Slip::Quotation => is_quotation(byte),
-        Slip::Unclosed => byte == b'\'',
-        Slip::Small => is_small(byte),
-        Slip::Unprintable => is_unprintable(byte),
-        Slip::Other => false,
-    }
-}
-
-/// Where the first byte stands by which a slip is known, in a literal too.
-fn byte_place(line: &[u8], slip: Slip) -> Option<usize>
-    ensures value { result ≡ position (law.is_sign slip) line.now }
+/// Where the first tab stands.
+fn tab_place(line: &[u8]) -> Option<usize>
+    ensures value { result ≡ position law.is_tab line.now }
     ensures within { IfSome result (λ place. place < length line.now) }
 {
-    line.iter().position(|byte| is_sign(slip, *byte))
+    line.iter().position(|byte| *byte == b'\t')
+}
+
+/// Where the first quotation mark stands, or the first byte that is no ASCII.
+fn quotation_place(line: &[u8]) -> Option<usize>
+    ensures value { result ≡ position law.is_quotation line.now }
+    ensures within { IfSome result (λ place. place < length line.now) }
+{
+    line.iter().position(|byte| is_quotation(*byte))
+}
+
+/// Where the first small letter stands.
+fn small_place(line: &[u8]) -> Option<usize>
+    ensures value { result ≡ position law.is_small line.now }
+    ensures within { IfSome result (λ place. place < length line.now) }
+{
+    line.iter().position(|byte| is_small(*byte))
+}
+
+/// Where the first byte stands that is neither printed nor an apostrophe.
+fn unprintable_place(line: &[u8]) -> Option<usize>
+    ensures value { result ≡ position law.is_unprintable line.now }
+    ensures within { IfSome result (λ place. place < length line.now) }
+{
+    line.iter().position(|byte| is_unprintable(*byte))
 }
 
 /// Where the first byte stands by which a slip is known.
@@ -166,9 +175,13 @@ fn sign_place(line: &[u8], slip: Slip) -> Option<usize>
     ensures within { IfSome result (λ place. place < length line.now) }
 {
     match slip {
+        Slip::Tab => tab_place(line),
         Slip::Comment => comment_place(line),
+        Slip::Quotation => quotation_place(line),
         Slip::Unclosed => unclosed_place(line),
-        _ => byte_place(line, slip),
+        Slip::Small => small_place(line),
+        Slip::Unprintable => unprintable_place(line),
+        Slip::Other => None,
     }
 }
 

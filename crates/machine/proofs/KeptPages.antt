@@ -15,7 +15,7 @@ use Rattle.machine.specs.Kept.Steps.{none, more}
 use Rattle.machine.specs.Machine.{MachineState}
 use Rattle.machine.specs.declared.kept.KeptCycle.{KeptCycle}
 use Rattle.machine.specs.declared.kept.KeptPoint.{KeptPoint}
-use Rattle.machine.proofs.Going.{Gone, Gone-none, Gone-more, Gone-all}
+use Rattle.machine.proofs.Going.{Gone, Gone-none, Gone-more, Gone-all, Gone-prefix}
 
 -- The cycles of a feed so far, and those of them that are kept.
 pub record IsKeeping (net : NetRows) (machine : MachineState) (next : Option (List ℕ)) (now : Fed) (page : ℕ) (old new : List KeptCycle) :
@@ -89,11 +89,14 @@ IsKeeping-more net machine next now page old new cycle mid points line newer kee
 }
 
 pub IsKeeping-some : (net : NetRows) (machine : MachineState) (next : Option (List ℕ)) (now : Fed) (page : ℕ) (old new : List KeptCycle)
-    → IsKeeping net machine next now page old new → GainsSome net machine next old new
+    → IsKeeping net machine next now page old new → GainsSome net machine next page old new
 IsKeeping-some net machine next now page old new keeping = record {
   kept = keeping.kept;
   gained = keeping.gained;
   placed = keeping.placed;
+  lines = keeping.lines;
+  first = Gone-prefix net machine next [] now keeping.lines keeping.gone;
+  on_page = keeping.on_page;
 }
 
 pub IsKeeping-all : (net : NetRows) (machine : MachineState) (next : Option (List ℕ)) (now : Fed) (page : ℕ) (old new : List KeptCycle)

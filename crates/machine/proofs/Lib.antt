@@ -25,7 +25,7 @@ mod Points
 mod Rest
 mod CarryExits
 mod Marks
-mod UnitOrder
+pub mod UnitOrder
 pub mod AllRows
 pub mod RestingRows
 mod ControlPoint

@@ -18,11 +18,13 @@ use Rattle.net.specs.WholeCycles.{after_points}
 use Rattle.net.specs.declared.cycle.Cycle.{Cycle}
 use Rattle.net.specs.declared.cycle.Point.{Point}
 use Rattle.net.specs.declared.cycle.Point.TheVariants.{Row}
-use Rattle.machine.specs.Fields.{AreInUnitOrder}
+use Rattle.storage_units.specs.OwnHubs.{storage_keeps}
+use Rattle.storage_units.specs.Storage.{StorageState, storage_number, storage_sensed}
+use Rattle.machine.specs.Fields.{AreInStorageOrder, AreInUnitOrder}
 use Rattle.machine.specs.Marked.{marked_changed}
 use Rattle.machine.specs.Rest.{HaveNoMore, IsAtRest}
 use Rattle.machine.specs.declared.groups.Busy.{Busy}
-use Rattle.machine.proofs.UnitOrder.{numbers-kept}
+use Rattle.machine.proofs.UnitOrder.{numbers-kept, storage-kept}
 
 -- a group at rest stays as it is
 rests : (cycle : Cycle) (pictures : Point → Hub → Bool) (group : Counter) → IsAtRest group
@@ -84,9 +86,22 @@ pub rows-in_order : (old new : List Counter) (cycle : Cycle) (pictures : Point �
     → new ≡ map (λ group. after_rows counter_sensed cycle pictures group) old → AreInUnitOrder old → AreInUnitOrder new
 rows-in_order old new cycle pictures is ordered =
     ap (λ (gs : List Counter). map counter_number gs) is
-    ∙ numbers-kept (λ group. after_rows counter_sensed cycle pictures group)
+    ∙ numbers-kept counter_number (λ group. after_rows counter_sensed cycle pictures group)
     (λ group. ap counter_number (rows-sensed cycle pictures rows group)) old
     ∙ ordered
+
+-- and so do storage units
+pub storage-rows : (old new : List StorageState) (cycle : Cycle) (pictures : Point → Hub → Bool)
+    → new ≡ map (λ unit. after_rows storage_sensed cycle pictures unit) old → AreInStorageOrder old → AreInStorageOrder new
+storage-rows old new cycle pictures is ordered =
+    storage-kept (λ unit. after_rows storage_sensed cycle pictures unit) (points-keep (map Row rows)) old new is ordered
+  where
+    points-keep : (some : List Point) (unit : StorageState)
+        → storage_number (after_points storage_sensed cycle pictures some unit) ≡ storage_number unit
+    points-keep [] unit = refl
+    points-keep (point ∷ others) unit =
+        points-keep others (storage_sensed unit cycle point (pictures point))
+        ∙ storage_keeps.keeps_number unit cycle point (pictures point)
 
 -- one unit more of a list is asked
 pub any-more : {X : Type 0} (test : X → Bool) (xs : List X) (i : ℕ) (x : X) → i < length xs → x ≡ get_or xs i x

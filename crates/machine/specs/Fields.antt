@@ -1,10 +1,9 @@
 -- What contracts see of the fields of the units.
 use Rattle.std.specs.Prelude.{◌≡◌, List, map}
 use Rattle.counters.specs.Counters.{Counter, counter_number}
-use Rattle.machine.specs.Machine.{MachineState, group_units}
-use Rattle.machine.specs.Rest.{AreBusy}
-use Rattle.machine.specs.Steady.{balance_latches}
-use Rattle.machine.specs.declared.units.Units.TheInside.{Inside}
+use Rattle.storage_units.specs.Storage.{StorageState, storage_number}
+use Rattle.machine.specs.Machine.{MachineState, group_units, storage_units}
+use Rattle.machine.specs.declared.unit_set.UnitSet.TheInside.{Inside}
 
 -- the states of the units
 abbrev pub machine_in : Inside → MachineState
@@ -26,9 +25,11 @@ machine_in units = record {
 abbrev pub AreInUnitOrder : List Counter → Type 0
 AreInUnitOrder groups = map counter_number groups ≡ group_units
 
--- What holds of the fields: the groups stand in order, and have no more to do than what the machine holds of them, and the latches that
--- it keeps are theirs.
-pub record AreLawful (units : Inside) : Type 0 where
-  pub ordered : AreInUnitOrder units.groups
-  pub busy : AreBusy units.busy units.groups
-  pub latches : units.latches ≡ balance_latches units.groups
+-- the storage units stand in the order of their numbers
+abbrev pub AreInStorageOrder : List StorageState → Type 0
+AreInStorageOrder storage = map storage_number storage ≡ storage_units
+
+-- the units of a machine of which there are several stand in their order
+pub record IsInUnitOrder (machine : MachineState) : Type 0 where
+  pub groups : AreInUnitOrder machine.groups
+  pub storage : AreInStorageOrder machine.storage

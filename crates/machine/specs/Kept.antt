@@ -10,6 +10,7 @@ use Rattle.net.specs.declared.cycle.Cycle.{Cycle}
 use Rattle.net.specs.declared.cycle.Point.{Point}
 use Rattle.machine.specs.Cycles.{Reached, line_of, point_at}
 use Rattle.machine.specs.Feeds.{Fed, FeedStep, Feeds, begun, taken}
+use Rattle.machine.specs.Gains.{GainsPrefix}
 use Rattle.machine.specs.Machine.{MachineState, emits, closes}
 use Rattle.machine.specs.declared.kept.KeptCycle.{KeptCycle}
 use Rattle.machine.specs.declared.kept.KeptPoint.{KeptPoint}
@@ -84,11 +85,16 @@ pub record GainsKept (net : NetRows) (machine : MachineState) (next : Option (Li
   pub gained : new ≡ old ++ kept
   pub feeds : (wiring : Wiring) → IsNetOf wiring net → FeedsKeeping wiring machine next left page kept
 
--- With the wires of a setup the kept cycles have gained some of a feed that placed a line.
-pub record GainsSome (net : NetRows) (machine : MachineState) (next : Option (List ℕ)) (old new : List KeptCycle) : Type 0 where
+-- With the wires of a setup the kept cycles have gained, of the first cycles of a feed, those that placed a line on a page: these and no
+-- other. The lines of these first cycles are a prefix of those of the feed.
+pub record GainsSome (net : NetRows) (machine : MachineState) (next : Option (List ℕ)) (page : ℕ) (old new : List KeptCycle) :
+    Type 0 where
   pub kept : List KeptCycle
   pub gained : new ≡ old ++ kept
   pub placed : (wiring : Wiring) → IsNetOf wiring net → All (PlacedInFeed wiring machine next) kept
+  pub lines : List PlacedLine
+  pub first : GainsPrefix net machine next [] lines
+  pub on_page : map line_kept kept ≡ filter (is_on page) lines
 
 -- Helper word: what is kept of a cycle that placed this line, or none.
 abbrev pub kept_of : Cycle → (waits : Bool) → List KeptPoint → Option PlacedLine → List KeptCycle

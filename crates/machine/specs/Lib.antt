@@ -8,6 +8,7 @@ pub mod Laws
 pub mod Running
 pub mod Stepped
 pub mod Fields
+pub mod Noted
 pub mod Ends
 pub mod Rest
 pub mod Marked

@@ -4,16 +4,13 @@ ghost use Rattle.std.specs.Prelude.{◌≡◌, map};
 
 use crate::closed::Closed;
 use crate::groups::{comes_to_nines, has_carry, nines};
-use crate::lines::{append_placed, placed_line};
 use crate::units::Units;
 use card_code::Row;
 use net::{Cycle, Net, Orders, POINTS, Picture, Point, RowSets};
-use page_text::placed_lines::PlacedLine;
 use selectors::{steady_contacts, with_carries, with_splits};
-use std::alloc::AllocError;
 
 impl Units {
-    ghost use Rattle.std.specs.Prelude.{◌≡◌, ◌++◌, true, false, None, option_to_list, IfSome, OnErr, OnOk};
+    ghost use Rattle.std.specs.Prelude.{◌≡◌, true, false, None, IfSome};
     ghost use Rattle.net.specs.Orders.{AreToldBy};
     ghost use Rattle.net.specs.declared.cycle.Point.TheVariants.{C, K};
     ghost use Rattle.std.specs.Option.{ForSome};
@@ -21,7 +18,7 @@ impl Units {
     ghost use Rattle.net.specs.Nets.{IsNetOf};
     ghost use Rattle.net.specs.HubSets.{has_hub};
     ghost use Rattle.net.specs.Impulsed.{IsPicture};
-    ghost use Rattle.machine.specs.Cycles.{PointStep, CycleRun, Reached, line_of};
+    ghost use Rattle.machine.specs.Cycles.{PointStep, CycleRun, Reached};
     ghost use Rattle.machine.specs.Ends.{SensesSome, EndsCycle};
     ghost use Rattle.hubs.specs.declared.hub.Hub.{Hub};
     ghost use Rattle.machine.specs.Machine.{closes, emits};
@@ -108,7 +105,8 @@ impl Units {
         }
     }
 
-    // The control point, where an impulse may come from one contact to another.
+    // The control point, where an impulse may come from one contact to another. Closed contacts are left out only where no wire leads to
+    // one, and there the wires tell all. But a net doesn't promise that they do, so contacts are closed here if they were left out.
     fn step_control(&mut self, net: &Net, closed: Option<&Closed>, cycle: Cycle)
         requires { ForSome closed (λ kept. AreSteady cycle kept.now self.old) }
         ensures step { (wiring : Wiring) → IsNetOf wiring net.now → PointStep wiring cycle C self.old self.new }
@@ -129,8 +127,8 @@ impl Units {
         ensures { (wiring : Wiring) → IsNetOf wiring net.now
             → IfSome result (AreToldBy wiring cycle (closes self.now cycle C)) }
     {
-        // That the groups stand in order is told with them.
-        let _groups = &self.groups;
+        // That the groups stand in order the prover learns only where they are used: this spares a clause in every call that takes contacts.
+        let _groups = &self.all.groups;
         match closed {
             Some(closed) => net.told(cycle, &closed.steady),
             None => net.told_by_wires(cycle),
@@ -154,10 +152,10 @@ impl Units {
     fn emits_at_closing(&self) -> bool
         ensures { result ≡ false → (cycle : Cycle) (exit : Hub) → emits self.now cycle K exit ≡ false }
     {
-        if self.comparing.has_difference() {
+        if self.all.comparing.has_difference() {
             return true;
         }
-        has_carry(&self.groups, self.busy)
+        has_carry(&self.all.groups, self.busy)
     }
 
     // The closing point, where nothing is impulsed.
@@ -183,7 +181,8 @@ impl Units {
         self.sense(cycle, Point::K, &picture);
     }
 
-    // Makes the picture of the exits that emit at the closing point, by the wires alone where that is right.
+    // Makes the picture of the exits that emit at the closing point, by the wires alone where that is right. So it always is where closed
+    // contacts are left out, as no wire leads to one there. But a net doesn't promise that, so contacts are closed here then.
     fn impulse_closing(
         &self,
         net: &Net,
@@ -216,7 +215,7 @@ impl Units {
             → IsPicture wiring (has_hub exits.now) (closes self.now cycle K) (has_hub picture.new) }
     {
         if net.picture_by_wires(exits, picture) {
-            !comes_to_nines(&self.groups, picture)
+            !comes_to_nines(&self.all.groups, picture)
         } else {
             false
         }
@@ -267,7 +266,7 @@ impl Units {
     pub(crate) fn closed(&self, cycle: Cycle) -> Closed
         ensures { AreSteady cycle result self.now }
     {
-        let steady = steady_contacts(cycle, &self.pilots, &self.indicate, &self.latches);
+        let steady = steady_contacts(cycle, &self.all.pilots, &self.all.indicate, &self.latches);
         Closed {
             steady,
             digits: with_splits(steady, Point::Row(Row::Nine)),
@@ -308,26 +307,11 @@ impl Units {
         match point {
             Point::C | Point::Row(_) => {}
             Point::K => {
-                if comes_to_nines(&self.groups, picture) {
-                    let contacts = with_carries(*closed.at(point), point, &nines(&self.groups));
+                if comes_to_nines(&self.all.groups, picture) {
+                    let contacts = with_carries(*closed.at(point), point, &nines(&self.all.groups));
                     net.picture(exits, &contacts, picture);
                 }
             }
         }
-    }
-
-    // Puts the line that the cycle that ended last placed, if it placed one, after the others.
-    pub(crate) fn append_line(&self, lines: &mut Vec<PlacedLine>) -> Result<(), AllocError>
-        ensures appended { OnOk result (lines.new.items ≡ lines.old.items ++ line_of self.now) }
-        ensures refused { OnErr result (lines.new.items ≡ lines.old.items) }
-    {
-        append_placed(lines, &self.carriage, &self.wheels)
-    }
-
-    // The line that the cycle that ended last placed, if it placed one.
-    pub(crate) fn placed_line(&self) -> Option<PlacedLine>
-        ensures { option_to_list result ≡ line_of self.now }
-    {
-        placed_line(&self.carriage, &self.wheels)
     }
 }

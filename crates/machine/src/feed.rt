@@ -14,13 +14,13 @@ impl Units {
     ghost use Rattle.machine.specs.Gains.{GainsFeed, GainsPrefix};
     ghost use Rattle.std.specs.Prelude.{OnOk, OnErr};
     ghost use Rattle.machine.specs.Feeds.{begun, due_in, taken, FeedStep};
-    ghost use Rattle.machine.specs.Runs.{moved_on, cycle_due};
+    ghost use Rattle.machine.specs.Runs.{moved_on};
 
     // Begins a feed, and answers whether what is fed waits: the first card goes to first reading at once.
     pub(crate) fn begin(&mut self, next: &Option<Card>) -> bool
         ensures { begun self.old next.now ≡ record { machine = self.new; waits = result; next = next.now } }
     {
-        if self.program.is_fresh() {
+        if self.all.program.is_fresh() {
             self.load(next);
             false
         } else {
@@ -32,23 +32,15 @@ impl Units {
     pub(crate) fn load(&mut self, next: &Option<Card>)
         ensures { self.new ≡ moved_on next.now self.old }
     {
-        self.stations.load_next(next);
-    }
-
-    // The cycle that is due, if any.
-    pub(crate) fn cycle_due(&self) -> Option<Cycle>
-        ensures { result ≡ cycle_due self.now }
-    {
-        self.program
-            .next_cycle(self.carriage.latch(), self.stations.has_first())
+        self.all.load(next);
     }
 
     // The cycle that is due in a feed, if any.
     pub(crate) fn due_in(&self, waits: bool, _next: &Option<Card>) -> Option<Cycle>
         ensures { result ≡ due_in (record { machine = self.now; waits = waits; next = _next.now }) }
     {
-        if waits || !self.program.card_over(self.stations.has_first()) {
-            self.cycle_due()
+        if waits || !self.all.program.card_over(self.all.stations.has_first()) {
+            self.all.cycle_due()
         } else {
             None
         }
@@ -104,7 +96,7 @@ impl Units {
         let mut waits = self.begin(next);
         while let Some(cycle) = self.due_in(waits, next) {
             waits = self.run_due(net, sets, cycle, waits, next);
-            self.append_line(out)?;
+            self.all.append_line(out)?;
         }
         Ok(())
     }

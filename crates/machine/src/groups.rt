@@ -29,8 +29,8 @@ const FIRST: hubs::Group = hubs::Group {
     number: 1,
 };
 
-/// The 32 counter groups in the order of their units, 3 to 34, as they start.
-pub fn groups_at_start() -> [Group; GROUPS]
+// The 32 counter groups in the order of their units, 3 to 34, as they start.
+pub(crate) fn groups_at_start() -> [Group; GROUPS]
     ensures { result ≡ map counter_at_start group_units }
 {
     [

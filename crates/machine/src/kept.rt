@@ -85,7 +85,7 @@ impl Units {
         self.emit(cycle, point, &mut exits);
         KeptPoint {
             exits,
-            contacts: with_carries(*closed.at(point), point, &nines(&self.groups)),
+            contacts: with_carries(*closed.at(point), point, &nines(&self.all.groups)),
         }
     }
 
@@ -150,7 +150,7 @@ impl Units {
         ensures line { IfSome result (λ placed. placed.line ≡ line) }
         ensures none { result ≡ None → All (IsElsewhere page line) (line_of self.now) }
     {
-        match self.placed_line() {
+        match self.all.placed_line() {
             Some(placed) if placed.page == page && placed.line == line => Some(placed),
             _ => None,
         }
@@ -165,7 +165,7 @@ impl Units {
         kept: &mut Vec<KeptCycle>,
     ) -> Result<(), AllocError>
         ensures fed { OnOk result (GainsKept net.now self.old next.now self.new page kept.old.items kept.new.items) }
-        ensures refused { OnErr result (GainsSome net.now self.old next.now kept.old.items kept.new.items) }
+        ensures refused { OnErr result (GainsSome net.now self.old next.now page kept.old.items kept.new.items) }
     {
         let mut waits = self.begin(next);
         while let Some(cycle) = self.due_in(waits, next) {
@@ -181,7 +181,7 @@ impl Units {
         ensures placed { IfSome result (λ placed. line_of self.now ≡ placed ∷ []) }
         ensures on_page { option_to_list result ≡ filter (is_on page) (line_of self.now) }
     {
-        match self.placed_line() {
+        match self.all.placed_line() {
             Some(placed) if placed.page == page => Some(placed),
             _ => None,
         }

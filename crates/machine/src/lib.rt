@@ -21,15 +21,14 @@ mod rows;
 mod run;
 mod stepped;
 mod storage_rows;
+mod unit_set;
 mod units;
 
 pub use fault::FeedFault;
-pub use groups::groups_at_start;
 pub use kept::{KeptCycle, KeptPoint};
-pub use lines::{append_line, append_placed, placed_line};
 pub use machine::Machine;
 pub use page_text::placed_lines::{LINE_WHEELS, PlacedLine};
-pub use rows::end_all;
 pub use run::simulate;
 pub use stepped::SteppedMachine;
-pub use storage_rows::{STORAGE_UNITS, storage_at_start};
+pub use storage_rows::STORAGE_UNITS;
+pub use unit_set::UnitSet;

@@ -173,7 +173,7 @@ impl Machine {
     /// points and the line, after those of `kept`.
     ///
     /// Refused with `Spoiled`, `TooManyCards` or `Ended` as a feed is: then nothing changes. With `Memory` where memory is refused in this feed:
-    /// then `kept` has gained some of these cycles, and the machine is spoiled.
+    /// then `kept` has gained the first of these cycles, and the machine is spoiled.
     pub fn feed_page(
         &mut self,
         next: Option<Card>,
@@ -187,7 +187,7 @@ impl Machine {
         ensures refused { (fault : FeedFault) → refusal self.old next ≡ Some fault → result ≡ Err fault }
         ensures unchanged { (fault : FeedFault) → refusal self.old next ≡ Some fault → self.new ≡ self.old }
         ensures no_cycles { (fault : FeedFault) → refusal self.old next ≡ Some fault → kept.new.items ≡ kept.old.items }
-        ensures memory { result ≡ Err Memory → GainsSome self.old.net self.old.machine next kept.old.items kept.new.items }
+        ensures memory { result ≡ Err Memory → GainsSome self.old.net self.old.machine next page kept.old.items kept.new.items }
         ensures spoiled { result ≡ Err Memory → self.new.is_spoiled ≡ true }
     {
         if let Some(fault) = self.refusal(&next) {

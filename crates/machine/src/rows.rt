@@ -24,8 +24,8 @@ pub(crate) fn sense_all<U: Unit>(units: &mut [U], cycle: Cycle, point: Point, pi
     }
 }
 
-/// All units end the cycle.
-pub fn end_all<U: Unit>(units: &mut [U], cycle: Cycle)
+// All units end the cycle.
+pub(crate) fn end_all<U: Unit>(units: &mut [U], cycle: Cycle)
     ensures { units.new ≡ map (λ unit. U.ended unit cycle) units.old }
 {
     for unit in units {

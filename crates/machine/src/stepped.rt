@@ -71,7 +71,7 @@ impl SteppedMachine {
     pub fn cycle_due(&self) -> Option<Cycle>
         ensures { result ≡ cycle_due self.now.machine }
     {
-        self.units.cycle_due()
+        self.units.all.cycle_due()
     }
 
     /// The fourteen points of a cycle. Counter groups and storage units have then taken what comes to them, and nothing has turned yet.
@@ -106,27 +106,27 @@ impl SteppedMachine {
     pub fn line(&self) -> Option<PlacedLine>
         ensures { option_to_list result ≡ line_of self.now.machine }
     {
-        self.units.placed_line()
+        self.units.all.placed_line()
     }
 
     /// The counter groups in the order of their units: eight of each width, the narrow ones first.
     pub fn groups(&self) -> &[Group]
         ensures { result.now ≡ self.now.machine.groups }
     {
-        self.units.groups.as_slice()
+        self.units.all.groups.as_slice()
     }
 
     /// The storage units 1 to 4.
     pub fn storage(&self) -> &[Storage]
         ensures { result.now ≡ self.now.machine.storage }
     {
-        self.units.storage.as_slice()
+        self.units.all.storage.as_slice()
     }
 
     /// The pilots.
     pub fn pilots(&self) -> &Pilots
         ensures { result.now ≡ self.now.machine.pilots }
     {
-        &self.units.pilots
+        &self.units.all.pilots
     }
 }

@@ -20,8 +20,8 @@ use storage_units::Storage;
 /// How many storage units there are.
 pub const STORAGE_UNITS: usize = 4;
 
-/// The storage units in the order of their numbers, 35 to 38, as they start.
-pub fn storage_at_start() -> [Storage; STORAGE_UNITS]
+// The storage units in the order of their numbers, 35 to 38, as they start.
+pub(crate) fn storage_at_start() -> [Storage; STORAGE_UNITS]
     ensures { result ≡ map storage_at_start storage_units }
 {
     [

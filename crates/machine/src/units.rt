@@ -1,41 +1,20 @@
-//! The units of a machine.
+//! The units of a machine, and what is noted of its counter groups.
 
 use crate::group_rows::{emit_group_rows, sense_group_rows};
-use crate::groups::{
-    Busy, control_groups, emit_groups, end_groups, groups_at_start, keep_latches, sense_groups,
-};
-use crate::rows::end_all;
+use crate::groups::{Busy, control_groups, emit_groups, end_groups, keep_latches, sense_groups};
 use crate::storage_rows::{
-    STORAGE_UNITS, control_storage, emit_storage, emit_storage_rows, sense_storage,
-    sense_storage_rows, storage_at_start,
+    control_storage, emit_storage, emit_storage_rows, sense_storage, sense_storage_rows,
 };
-use carriage::Carriage;
-use counters::Group;
+use crate::unit_set::UnitSet;
 use net::{Cycle, Orders, Picture, Point, RowSets, Unit};
-use print_unit::{Emitters, Wheels};
-use program_unit::Program;
-use selectors::{BalanceLatches, GROUPS, Indicate, Pilots, Splits};
+use selectors::{BalanceLatches, GROUPS};
 use setups::Setup;
-use stations::{Comparing, Stations};
 use std::marker::Model;
-use storage_units::Storage;
 
-/// The 45 units.
+// The 45 units, and what is noted of the counter groups, so that those that have nothing to do are left alone.
 #[derive(Drop)]
 pub(crate) struct Units {
-    pub(crate) stations: Stations,
-    pub(crate) comparing: Comparing,
-    // The units 3 to 34.
-    pub(crate) groups: [Group; GROUPS],
-    // The units 35 to 38.
-    pub(crate) storage: [Storage; STORAGE_UNITS],
-    pub(crate) pilots: Pilots,
-    pub(crate) indicate: Indicate,
-    pub(crate) splits: Splits,
-    pub(crate) emitters: Emitters,
-    pub(crate) wheels: Wheels,
-    pub(crate) carriage: Carriage,
-    pub(crate) program: Program,
+    pub(crate) all: UnitSet,
     // What the counter groups may have to do in the cycle that runs.
     pub(crate) busy: Busy,
     // Their balance latches once more, as the contacts that they close.
@@ -44,13 +23,14 @@ pub(crate) struct Units {
 
 impl Model for Units {
     ghost use Rattle.machine.specs.Machine.{MachineState};
-    ghost use Rattle.machine.specs.Fields.{machine_in, AreLawful};
 
     ghost Value = { MachineState };
 
-    ghost view = { machine_in };
+    ghost use Rattle.machine.specs.Noted.{IsNoted};
 
-    ghost invariant = { AreLawful };
+    ghost view = { λ units. units.all };
+
+    ghost invariant = { IsNoted };
 }
 
 impl Units {
@@ -70,17 +50,7 @@ impl Units {
         ensures { result ≡ machine_at_start setup.now }
     {
         Units {
-            stations: Stations::new(),
-            comparing: Comparing::new(),
-            groups: groups_at_start(),
-            storage: storage_at_start(),
-            pilots: Pilots::new(),
-            indicate: Indicate::new(),
-            splits: Splits::new(),
-            emitters: Emitters::new(),
-            wheels: Wheels::new(setup),
-            carriage: Carriage::new(setup),
-            program: Program::new(setup),
+            all: UnitSet::new(setup),
             busy: Busy::none(),
             latches: BalanceLatches::of(&[false; GROUPS]),
         }
@@ -90,26 +60,26 @@ impl Units {
     pub(crate) fn emit(&self, cycle: Cycle, point: Point, exits: &mut Picture)
         ensures { GainsHubs (emits self.now cycle point) exits.old exits.new }
     {
-        self.stations.emit(cycle, point, exits);
-        self.comparing.emit(cycle, point, exits);
-        emit_groups(&self.groups, self.busy, cycle, point, exits);
-        emit_storage(&self.storage, cycle, point, exits);
-        self.emitters.emit(cycle, point, exits);
-        self.program.emit(cycle, point, exits);
+        self.all.stations.emit(cycle, point, exits);
+        self.all.comparing.emit(cycle, point, exits);
+        emit_groups(&self.all.groups, self.busy, cycle, point, exits);
+        emit_storage(&self.all.storage, cycle, point, exits);
+        self.all.emitters.emit(cycle, point, exits);
+        self.all.program.emit(cycle, point, exits);
     }
 
     // Each unit senses the picture of a point. Stations, group indication, splits and emitters have no entries of their own.
     pub(crate) fn sense(&mut self, cycle: Cycle, point: Point, picture: &Picture)
         ensures { self.new ≡ sensed self.old cycle point (has_hub picture.now) }
     {
-        self.comparing.sense(cycle, point, picture);
-        let busy = sense_groups(&mut self.groups, self.busy, cycle, point, picture);
+        self.all.comparing.sense(cycle, point, picture);
+        let busy = sense_groups(&mut self.all.groups, self.busy, cycle, point, picture);
         self.busy = busy;
-        sense_storage(&mut self.storage, cycle, point, picture);
-        self.pilots.sense(cycle, point, picture);
-        self.wheels.sense(cycle, point, picture);
-        self.carriage.sense(cycle, point, picture);
-        self.program.sense(cycle, point, picture);
+        sense_storage(&mut self.all.storage, cycle, point, picture);
+        self.all.pilots.sense(cycle, point, picture);
+        self.all.wheels.sense(cycle, point, picture);
+        self.all.carriage.sense(cycle, point, picture);
+        self.all.program.sense(cycle, point, picture);
     }
 
     // Each unit does what it is told at the control point. Counter groups, storage units and the carriage alone sense anything there.
@@ -117,10 +87,10 @@ impl Units {
         ensures { (cycle : Cycle) (picture : Hub → Bool) → AreOrdersOf picture orders.now
             → self.new ≡ sensed self.old cycle C picture }
     {
-        let busy = control_groups(&mut self.groups, self.busy, orders.controls);
+        let busy = control_groups(&mut self.all.groups, self.busy, orders.controls);
         self.busy = busy;
-        control_storage(&mut self.storage, orders.storage);
-        self.carriage.sense_controls(orders.carriage);
+        control_storage(&mut self.all.storage, orders.storage);
+        self.all.carriage.sense_controls(orders.carriage);
     }
 
     // Adds to the sets of the exits the rows at whose points they emit, those of first and of second reading where these are looked at.
@@ -128,36 +98,30 @@ impl Units {
         ensures rows { GainsRows (λ row. emits (seeing first second self.now) cycle (AtRow row)) sets.old sets.new }
         ensures ordered { AreInUnitOrder self.now.groups }
     {
-        self.stations.emit_rows(cycle, first, second, sets);
-        emit_group_rows(&self.groups, self.busy, cycle, sets);
-        emit_storage_rows(&self.storage, cycle, sets);
-        self.emitters.emit_rows(cycle, sets);
+        self.all.stations.emit_rows(cycle, first, second, sets);
+        emit_group_rows(&self.all.groups, self.busy, cycle, sets);
+        emit_storage_rows(&self.all.storage, cycle, sets);
+        self.all.emitters.emit_rows(cycle, sets);
     }
 
     // Each unit senses the points of all rows at once.
     pub(crate) fn sense_rows(&mut self, cycle: Cycle, pictures: &RowSets)
         ensures { self.new ≡ after_rows sensed cycle (pictures_of pictures.now) self.old }
     {
-        self.comparing.sense_rows(cycle, pictures);
-        sense_group_rows(&mut self.groups, self.busy, cycle, pictures);
-        sense_storage_rows(&mut self.storage, cycle, pictures);
-        self.pilots.sense_rows(cycle, pictures);
-        self.wheels.sense_rows(cycle, pictures);
+        self.all.comparing.sense_rows(cycle, pictures);
+        sense_group_rows(&mut self.all.groups, self.busy, cycle, pictures);
+        sense_storage_rows(&mut self.all.storage, cycle, pictures);
+        self.all.pilots.sense_rows(cycle, pictures);
+        self.all.wheels.sense_rows(cycle, pictures);
     }
 
     // Each unit ends the cycle.
     pub(crate) fn end_cycle(&mut self, cycle: Cycle)
         ensures { self.new ≡ ended self.old cycle }
     {
-        self.comparing.end_cycle(cycle);
-        end_groups(&mut self.groups, self.busy, cycle);
-        keep_latches(&self.groups, self.busy.tested, &mut self.latches);
+        end_groups(&mut self.all.groups, self.busy, cycle);
+        keep_latches(&self.all.groups, self.busy.tested, &mut self.latches);
         self.busy = Busy::none();
-        end_all(&mut self.storage, cycle);
-        self.pilots.end_cycle(cycle);
-        self.indicate.end_cycle(cycle);
-        self.wheels.end_cycle(cycle);
-        self.carriage.end_cycle(cycle);
-        self.program.end_cycle(cycle);
+        self.all.end_all_but_groups(cycle);
     }
 }

@@ -10,7 +10,7 @@ use Rattle.match_calls.specs.Found.{IsWiredText}
 use Rattle.match_calls.specs.Helper.{IsDeckText}
 use Rattle.match_calls.specs.declared.outcome.Outcome.{Outcome}
 use Rattle.match_calls.specs.declared.outcome.Outcome.TheVariants as outcome
-use Rattle.match_calls.specs.declared.match_decks.lines.Place.{Place}
+use Rattle.match_calls.specs.declared.match_decks.lines.LinePlace.{LinePlace}
 use Rattle.match_calls.specs.declared.match_texts.counts.Counts.{Counts}
 use Rattle.program_io.specs.Refusals.{RefusesDeck}
 use Rattle.setups.specs.Wiring.{Wiring}
@@ -38,5 +38,5 @@ module _ (wiring deck : List ℕ) (version : Version) (compiled : Compilation) (
   pub unwired_over : (counts : Counts) → found ≡ outcome.Unwired counts → IsAlikeText wiring deck counts version compiled setup text
   unwired_over counts is = subst (λ (its : Outcome). IsDeckText wiring deck version compiled setup its text) is told
 
-  pub otherwise_over : (place : Place) → found ≡ outcome.PrintsOtherwise place → IsOtherwiseText wiring deck place version compiled setup text
+  pub otherwise_over : (place : LinePlace) → found ≡ outcome.PrintsOtherwise place → IsOtherwiseText wiring deck place version compiled setup text
   otherwise_over place is = subst (λ (its : Outcome). IsDeckText wiring deck version compiled setup its text) is told

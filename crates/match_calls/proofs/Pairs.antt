@@ -2,12 +2,12 @@
 use Rattle.std.proofs.Common.{◌≡◌, ℕ, List, [], ◌++◌, Some, None, ap, ◌∙◌, codes}
 use Rattle.card_code.specs.Deck.{Deck}
 use Rattle.compile407.specs.Compilation.{Compilation}
-use Rattle.explanation_text.specs.Told.{Explains}
+use Rattle.explanation_text.specs.ExplanationTexts.{Explains}
 use Rattle.explanations.specs.PlacedInRun.{PrintsNoneAt}
 use Rattle.match_calls.specs.Apart.{IsAlikeText, IsApartText, IsOtherwiseText, IsPairText, IsWheelText, printed, unprinted}
 use Rattle.match_calls.specs.Found.{IsUnwiredText}
 use Rattle.match_calls.specs.MatchDecks.Wheels.{DifferOnDeck}
-use Rattle.match_calls.specs.declared.match_decks.lines.Place.{Place}
+use Rattle.match_calls.specs.declared.match_decks.lines.LinePlace.{LinePlace}
 use Rattle.match_calls.specs.declared.match_decks.wheels.Difference.{Difference}
 use Rattle.match_calls.specs.declared.match_texts.counts.Counts.{Counts}
 use Rattle.match_calls.specs.declared.match_texts.telling.Telling.TheVariants.{Wires}
@@ -39,7 +39,7 @@ pair_told own setup cards at before behind begun mid third text own_told told fi
 }
 
 -- of the first line that differs
-pub apart_told : (own setup : Wiring) (cards : List (List ℕ)) (at : Difference) (place : Place) (text : List ℕ)
+pub apart_told : (own setup : Wiring) (cards : List (List ℕ)) (at : Difference) (place : LinePlace) (text : List ℕ)
     → DifferOnDeck own setup cards (Some at) → IsPairText own setup cards at text → place ≡ at.place
     → IsApartText own setup cards place text
 apart_told own setup cards at place text differ pair its = record { at = at; its_place = its; differ = differ; pair = pair }
@@ -52,7 +52,7 @@ pub alike_told : (wiring deck : List ℕ) (counts : Counts) (version : Version) 
 alike_told wiring deck counts version compiled setup text cards unwired alike punched =
     record { unwired = unwired; cards = cards; punched = punched; alike = alike }
 
-pub otherwise_told : (wiring deck : List ℕ) (counts : Counts) (place : Place) (version : Version) (compiled : Compilation)
+pub otherwise_told : (wiring deck : List ℕ) (counts : Counts) (place : LinePlace) (version : Version) (compiled : Compilation)
     (setup : Wiring) (difference line text : List ℕ) (cards : List (List ℕ)) → IsUnwiredText Wires wiring counts version compiled setup difference
     → IsApartText compiled.setup setup cards place line → text ≡ difference ++ line → Deck deck cards
     → IsOtherwiseText wiring deck place version compiled setup text

@@ -3,7 +3,7 @@ use Rattle.std.proofs.Common.{◌≡◌, ◌≢◌, ◌∙◌, ap, List, ℕ}
 use Rattle.commands.proofs.Stopping.{chart_refusal}
 use Rattle.faults.proofs.Statuses.{wiring_status}
 use Rattle.faults.specs.Status.{status_of}
-use Rattle.faults.specs.Told.{wiring_told}
+use Rattle.faults.specs.ToldFaults.{wiring_told}
 use Rattle.faults.specs.declared.fault.Fault.{Fault}
 use Rattle.faults.specs.declared.fault.Fault.TheVariants as fault
 use Rattle.match_calls.specs.Panels.{RefusesAll, RefusesPanels, of_chart, of_deck, of_panels, of_wiring}

@@ -2,11 +2,11 @@
 use Rattle.std.specs.Prelude.{◌≡◌, ℕ, List, [], ◌++◌, Some, None, codes}
 use Rattle.card_code.specs.Deck.{Deck}
 use Rattle.compile407.specs.Compilation.{Compilation}
-use Rattle.explanation_text.specs.Told.{Explains}
+use Rattle.explanation_text.specs.ExplanationTexts.{Explains}
 use Rattle.explanations.specs.PlacedInRun.{PrintsNoneAt}
 use Rattle.match_calls.specs.Found.{IsUnwiredText}
 use Rattle.match_calls.specs.MatchDecks.Wheels.{DifferOnDeck}
-use Rattle.match_calls.specs.declared.match_decks.lines.Place.{Place}
+use Rattle.match_calls.specs.declared.match_decks.lines.LinePlace.{LinePlace}
 use Rattle.match_calls.specs.declared.match_decks.wheels.Difference.{Difference}
 use Rattle.match_calls.specs.declared.match_texts.counts.Counts.{Counts}
 use Rattle.match_calls.specs.declared.match_texts.telling.Telling.TheVariants.{Wires}
@@ -28,7 +28,7 @@ pub record IsPairText (own setup : Wiring) (cards : List (List ℕ)) (at : Diffe
   pub spelled : text ≡ codes "wired for the chart\n" ++ before ++ codes "wired as here\n" ++ behind
 
 -- The first line that the panels print differently of the cards stands at this place; it is told of the first wheel on which it differs.
-pub record IsApartText (own setup : Wiring) (cards : List (List ℕ)) (place : Place) (text : List ℕ) : Type 0 where
+pub record IsApartText (own setup : Wiring) (cards : List (List ℕ)) (place : LinePlace) (text : List ℕ) : Type 0 where
   pub at : Difference
   pub its_place : place ≡ at.place
   pub differ : DifferOnDeck own setup cards (Some at)
@@ -43,7 +43,7 @@ pub record IsAlikeText (wiring deck : List ℕ) (counts : Counts) (version : Ver
   pub alike : DifferOnDeck compiled.setup setup cards None
 
 -- The panel is not wired for the chart, and prints a line of this deck otherwise: behind what is missing and extra it is told how.
-pub record IsOtherwiseText (wiring deck : List ℕ) (place : Place) (version : Version) (compiled : Compilation) (setup : Wiring) (text : List ℕ)
+pub record IsOtherwiseText (wiring deck : List ℕ) (place : LinePlace) (version : Version) (compiled : Compilation) (setup : Wiring) (text : List ℕ)
     : Type 0 where
   pub counts : Counts
   pub difference : List ℕ

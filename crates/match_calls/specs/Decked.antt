@@ -9,7 +9,7 @@ use Rattle.match_calls.specs.Panels.{HasPanels, RefusesAll}
 use Rattle.match_calls.specs.Unmatched.{unmatched_status}
 use Rattle.match_calls.specs.declared.unmatched.Unmatched.{Unmatched}
 use Rattle.match_calls.specs.declared.unmatched.Unmatched.TheVariants as why
-use Rattle.match_calls.specs.declared.match_decks.lines.Place.{Place}
+use Rattle.match_calls.specs.declared.match_decks.lines.LinePlace.{LinePlace}
 use Rattle.match_calls.specs.declared.match_texts.counts.Counts.{Counts}
 
 -- What is told of texts that don't match: the panel is not wired for the chart, and what is missing and extra was printed, and how the
@@ -17,7 +17,7 @@ use Rattle.match_calls.specs.declared.match_texts.counts.Counts.{Counts}
 pub data LeavesApart (chart wiring deck : List ℕ) (told : Unmatched) (old new : Option (List ℕ)) (Unprinted : Type 0) : Type 0 where
   alike : (counts : Counts) → told ≡ why.Unwired counts → Prints chart wiring (IsAlikeText wiring deck counts) old new
       → LeavesApart chart wiring deck told old new Unprinted
-  otherwise : (place : Place) → told ≡ why.PrintsOtherwise place → Prints chart wiring (IsOtherwiseText wiring deck place) old new
+  otherwise : (place : LinePlace) → told ≡ why.PrintsOtherwise place → Prints chart wiring (IsOtherwiseText wiring deck place) old new
       → LeavesApart chart wiring deck told old new Unprinted
   refused : (fault : Fault) → told ≡ why.Failed fault → RefusesAll chart wiring deck fault → Unprinted
       → LeavesApart chart wiring deck told old new Unprinted

@@ -2,10 +2,10 @@
 use Rattle.fault_guide.specs.Lines.{NamesAFault}
 use Rattle.match_calls.specs.Unmatched.{unmatched_line}
 use Rattle.match_calls.specs.declared.unmatched.Unmatched.TheVariants as why
-use Rattle.match_calls.specs.declared.match_decks.lines.Place.{Place}
+use Rattle.match_calls.specs.declared.match_decks.lines.LinePlace.{LinePlace}
 use Rattle.match_calls.specs.declared.match_texts.counts.Counts.{Counts}
 
 -- the line names a fault that has an entry, whether it tells how much is missing and extra or where a deck prints otherwise
 pub record UnmatchedPanelsHaveEntries : Type 0 where
   pub of_unwired : (counts : Counts) → NamesAFault (unmatched_line (why.Unwired counts))
-  pub of_others : (place : Place) → NamesAFault (unmatched_line (why.PrintsOtherwise place))
+  pub of_others : (place : LinePlace) → NamesAFault (unmatched_line (why.PrintsOtherwise place))

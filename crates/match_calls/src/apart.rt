@@ -6,7 +6,7 @@ ghost use Rattle.card_code.specs.MostCards.{most_cards};
 ghost use Rattle.match_calls.specs.Apart.{IsPairText, IsWheelText};
 ghost use Rattle.match_calls.specs.Helper.{IsApart};
 
-use crate::match_decks::{Difference, Place, deck_difference};
+use crate::match_decks::{Difference, LinePlace, deck_difference};
 use crate::panels::Panels;
 use card_code::Card;
 use explanation_text::explain_text;
@@ -19,7 +19,7 @@ use std::alloc::{AllocError, Global};
 #[derive(Drop)]
 pub(crate) struct Apart {
     /// Where it stands.
-    pub(crate) place: Place,
+    pub(crate) place: LinePlace,
     /// What is printed of it.
     pub(crate) text: String,
 }

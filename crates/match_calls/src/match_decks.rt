@@ -4,6 +4,6 @@ mod lines;
 mod running;
 mod wheels;
 
-pub use lines::Place;
+pub use lines::LinePlace;
 pub use running::deck_difference;
 pub use wheels::Difference;

@@ -4,7 +4,7 @@ ghost use Rattle.std.specs.Prelude.{◌≡◌, OnOk};
 ghost use Rattle.std.specs.Io.KnownBytes.{Appends};
 ghost use Rattle.match_calls.specs.Unmatched.{IsToldUnmatched, counts_line, figures_text, unmatched_line, unmatched_status};
 
-use crate::match_decks::Place;
+use crate::match_decks::LinePlace;
 use crate::match_texts::Counts;
 use faults::{Ending, Fault, write_line, write_place};
 use numerals::write_numbered;
@@ -19,7 +19,7 @@ pub enum Unmatched<'a> {
     /// No plan is found by which the panel is wired for the chart; so much is missing and extra.
     Unwired { counts: Counts },
     /// Besides, the panel prints a deck otherwise than the chart's own, first at this place.
-    PrintsOtherwise { place: Place },
+    PrintsOtherwise { place: LinePlace },
 }
 
 impl Unmatched<'_> {

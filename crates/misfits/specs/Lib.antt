@@ -7,4 +7,4 @@ pub mod HelperTotals
 pub mod Laws
 pub mod OpenSums
 pub mod OpenTotals
-pub mod Told
+pub mod ToldMisfits

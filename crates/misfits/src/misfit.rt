@@ -3,7 +3,7 @@
 ghost use Rattle.std.specs.Prelude.{◌≡◌, ◌≤◌, length, option_map, slice_get};
 ghost use Rattle.card_code.specs.MostCards.{most_cards};
 ghost use Rattle.report.specs.Misfits.{first_of, misfits};
-ghost use Rattle.misfits.specs.Told.{told};
+ghost use Rattle.misfits.specs.ToldMisfits.{told};
 
 use crate::open_sums::OpenSums;
 use card_code::Card;

@@ -11,7 +11,7 @@ ghost use Rattle.charts.specs.Name.{is_same_name};
 ghost use Rattle.misfits.specs.HelperNumbers.{AreWith, fields_of_amounts};
 ghost use Rattle.misfits.specs.OpenSums.{AreSumsOf};
 ghost use Rattle.misfits.specs.OpenTotals.{open_on};
-ghost use Rattle.misfits.specs.Told.{told};
+ghost use Rattle.misfits.specs.ToldMisfits.{told};
 
 use crate::groups::ended_after;
 use crate::misfit::Misfit;

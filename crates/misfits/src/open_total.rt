@@ -10,7 +10,7 @@ ghost use Rattle.misfits.specs.HelperNumbers.{AreNumbered};
 ghost use Rattle.misfits.specs.HelperPending.{emptied, settled, taking_card};
 ghost use Rattle.misfits.specs.HelperTotals.{IsKept, IsWithin, most_digits, misfits_among};
 ghost use Rattle.misfits.specs.OpenTotals.{closed_to, misfit_at, with_value};
-ghost use Rattle.misfits.specs.Told.{told};
+ghost use Rattle.misfits.specs.ToldMisfits.{told};
 
 use crate::misfit::Misfit;
 use crate::values::value_of;

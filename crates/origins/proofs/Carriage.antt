@@ -1,14 +1,14 @@
 -- What is told of the carriage is what it is asked for.
-use Rattle.std.proofs.Common.{◌≡◌, ◌∙◌, sym, ap, subst, refl, ℕ, zero, suc, ◌+◌, ◌<◌, ◌≤◌, nat_le, arith, Bool, true, false, ◌||◌, ◌&&◌, not, ◌⊎◌, inl, inr, Option, Some, None, is_some, if◌then◌else◌, eqb}
+use Rattle.std.proofs.Common.{◌≡◌, ◌∙◌, sym, ap, subst, refl, ℕ, zero, suc, ◌+◌, ◌<◌, ◌≤◌, nat_le, arith, Bool, true, false, ◌&&◌, not, ◌⊎◌, inl, inr, Option, Some, None, is_some, if◌then◌else◌, eqb}
 use Rattle.std.proofs.lemmas.Bool.{false≢true, or_parts}
 use Rattle.std.proofs.lemmas.Bool.Decides.{nat_tests}
+use Rattle.std.proofs.lemmas.Option.{none-some}
 use Rattle.std.specs.Prelude.{IfSome}
 use Rattle.hub_table.specs.HubTable.{HasNumber, row_of}
 use Rattle.hubs.proofs.HubLemmas.{in_range, number_of-kind}
 use Rattle.hubs.specs.Hubs.{is_exit_hub, letters_of, number_of}
 use Rattle.hubs.specs.declared.hub.Hub.{Hub}
 use Rattle.hubs.specs.declared.hub.Hub.TheVariants.{BAN, BAT, CC, CO, CSD, CSZ, HX, IX, PIN, PIT, PX, RS, SK, SP}
-use Rattle.machine.proofs.ClosedContacts.{none-of}
 use Rattle.machine.specs.Below.carriage.Asked.{lines_asked, lowest_from}
 use Rattle.machine.specs.Machine.{MachineState, closes, emits}
 use Rattle.net.proofs.ImpulsedLaws.{no_exit_is_entry}
@@ -26,31 +26,13 @@ use Rattle.net.specs.declared.cycle.ProgramLevel.{ProgramLevel}
 use Rattle.net.specs.declared.cycle.ProgramLevel.TheVariants.{Minor, Intermediate, Major, Final}
 use Rattle.setups.proofs.WiredLemmas.{HasWire-is_wired}
 use Rattle.setups.specs.Wiring.{HasWire, LeadsToEntries, Wiring, is_listed, is_wired, row_at}
-use Rattle.stations.specs.Comparing.{Compared, comparing_emits}
-use Rattle.stations.specs.Stations.{StationCards, stations_emits}
+use Rattle.whole_cycles.proofs.Emitted.{emits-control}
 use Rattle.origins.specs.Asks.{asks, channel_from, is_of_cycles, spacing_of}
 use Rattle.origins.specs.Carriage.{CarriageIsAskedAsTold}
 use Rattle.origins.specs.Levels.{is_led_from, others_lead}
 
 none-is : {X : Type 0} (x : X) → None ≡ Some x → ⊥
 none-is x same = false≢true (ap is_some same)
-
-comparing-silent : (compared : Compared) (cycle : Cycle) (hub : Hub) → comparing_emits compared cycle C hub ≡ false
-comparing-silent compared RunIn hub = refl
-comparing-silent compared other hub = refl
-
-stations-silent : (cards : StationCards) (cycle : Cycle) (hub : Hub) → stations_emits cards cycle C hub ≡ false
-stations-silent cards RunIn hub = refl
-stations-silent cards other hub = refl
-
--- the exit that tells of the cycle is all that emits
-emits-told : (machine : MachineState) (cycle : Cycle) (hub : Hub) → emits machine cycle C hub ≡ tells cycle hub
-emits-told machine cycle hub =
-    let stations = stations-silent machine.stations cycle hub in
-    let comparing = comparing-silent machine.comparing cycle hub in
-    let groups = none-of machine.groups in
-    let storage = none-of machine.storage in
-    λ i. stations i || comparing i || groups i || storage i || false || false || false || false || false || false || tells cycle hub
 
 program-tells : (level : ProgramLevel) (ordinal : Ordinal) → tells (Prog level ordinal) (PX (level_number level) (ordinal_number ordinal)) ≡ true
 program-tells Minor First = refl
@@ -141,13 +123,13 @@ module _ (wiring : Wiring) (machine : MachineState) (cycle : Cycle) (to_entries 
   -- to an entry an impulse comes along a wire
   along-wire : {hub : Hub} → Comes hub → (row_of (letters_of hub)).is_exit ≡ false → contact_of hub ≡ None → IsWiredFrom hub
   along-wire (emitting hub there sends) entry none =
-      absurd (entry-silent cycle hub entry (sym (emits-told machine cycle hub) ∙ sends))
+      absurd (entry-silent cycle hub entry (sym (emits-control machine cycle hub) ∙ sends))
   along-wire (led_on from to at (inl wire)) entry none = (from, (at, wire))
   along-wire (led_on from to at (inr contact)) entry none = absurd (none-is from (sym none ∙ contact.0))
 
   -- an exit of no contact that is impulsed tells of the cycle
   exit-tells : {hub : Hub} → Comes hub → is_exit_hub hub ≡ true → contact_of hub ≡ None → tells cycle hub ≡ true
-  exit-tells (emitting hub there sends) exit none = sym (emits-told machine cycle hub) ∙ sends
+  exit-tells (emitting hub there sends) exit none = sym (emits-control machine cycle hub) ∙ sends
   exit-tells (led_on from to at (inl wire)) exit none = absurd (no_exit_is_entry to exit (to_entries from to wire).1)
   exit-tells (led_on from to at (inr contact)) exit none = absurd (none-is from (sym none ∙ contact.0))
 
@@ -191,7 +173,7 @@ module _ (wiring : Wiring) (machine : MachineState) (cycle : Cycle) (to_entries 
   led exit entry told wired =
       let wire : HasWire wiring exit entry = (HasWire-is_wired wiring exit entry).0 wired in
       led_on exit entry
-      (emitting exit (in_range exit wire.number wire.numbered) (emits-told machine cycle exit ∙ told)) (inl wire)
+      (emitting exit (in_range exit wire.number wire.numbered) (emits-control machine cycle exit ∙ told)) (inl wire)
 
 module _ (wiring : Wiring) (machine : MachineState) (picture : Hub → Bool) (to_entries : LeadsToEntries wiring) where
   -- an entry at which a cycle asks is in the picture
@@ -262,9 +244,52 @@ module _ (wiring : Wiring) (machine : MachineState) (picture : Hub → Bool) (to
             lower (Some told) rest = skipped ∙ rest
         by false is false only rest = tt
 
+    -- if nothing is told, nothing is asked for by wires from no contact
+    single-told : spacing_of wiring cycle ≡ None → is_of_cycles wiring (SP 2) ≡ true → is_of_cycles wiring (SP 3) ≡ true
+        → lines_asked picture ≡ 1
+    single-told none two three = by (asks wiring cycle (SP 3)) refl (asks wiring cycle (SP 2)) refl none
+      where
+        by : (here : Bool) → asks wiring cycle (SP 3) ≡ here → (there : Bool) → asks wiring cycle (SP 2) ≡ there
+            → ◌≡◌ {A = Option ℕ} (if here then Some 3 else if there && is_of_cycles wiring (SP 3) then Some 2 else None) None
+            → lines_asked picture ≡ 1
+        by true is there also told = absurd (none-some 3 (sym told))
+        by false is true also told = absurd (none-some 2 (sym told ∙ ap (λ (b : Bool). if b then Some 2 else None) three))
+        by false is false also told =
+            ap (λ (b : Bool). if b then 3 else if picture (SP 2) then 2 else 1) (hidden (SP 3) refl refl three is)
+            ∙ ap (λ (b : Bool). if b then 2 else 1) (hidden (SP 2) refl refl two also)
+
+    no-skip-told : (others channel : ℕ) → channel_from wiring cycle channel others ≡ None
+        → ((other : ℕ) → channel ≤ other → other < channel + others → is_of_cycles wiring (SK other) ≡ true)
+        → lowest_from channel others picture ≡ None
+    no-skip-told zero channel none only = refl
+    no-skip-told (suc others) channel none only =
+        by
+        (λ rest. no-skip-told others (suc channel) rest (λ other low high. only other (omega (arith, low)) (omega (arith, high))))
+        (asks wiring cycle (SK channel)) refl none
+      where
+        here : is_of_cycles wiring (SK channel) ≡ true
+        here = only channel (omega arith) (omega arith)
+
+        by : (channel_from wiring cycle (suc channel) others ≡ None → lowest_from (suc channel) others picture ≡ None)
+            → (asked : Bool) → asks wiring cycle (SK channel) ≡ asked
+            → (if asked then Some channel
+            else if is_of_cycles wiring (SK channel) then channel_from wiring cycle (suc channel) others else None)
+            ≡ None
+            → lowest_from channel (suc others) picture ≡ None
+        by further true is told = absurd (none-some channel (sym told))
+        by further false is told =
+            ap (λ (b : Bool). if b then Some channel else lowest_from (suc channel) others picture)
+            (hidden (SK channel) refl refl here is)
+            ∙ further (ap (λ (b : Bool). if b then channel_from wiring cycle (suc channel) others else None) (sym here) ∙ told)
+
 pub carriage-told : CarriageIsAskedAsTold
 carriage-told wiring machine cycle picture to_entries is_picture = record {
   lines = lines-told wiring machine picture to_entries cycle is_picture;
   channel = channel-told wiring machine picture to_entries cycle is_picture 12 1;
   restore = λ is. shown wiring machine picture to_entries cycle is_picture RS is;
+  single = single-told wiring machine picture to_entries cycle is_picture;
+  no_skip = λ none only.
+      no-skip-told wiring machine picture to_entries cycle is_picture 12 1 none
+      (λ channel low high. only channel low (omega (arith, high)));
+  same_page = λ isnt only. hidden wiring machine picture to_entries cycle is_picture RS refl refl only isnt;
 }

@@ -27,7 +27,7 @@ use Rattle.origins.specs.Asks.{asks, page_words, wire_words}
 use Rattle.origins.specs.Latches.{test_line}
 use Rattle.origins.specs.Placing.{first_words}
 use Rattle.origins.specs.Storage.{led_text, line_at, lines_of}
-use Rattle.origins.specs.Told.{AreTexts, IsHolderText, more}
+use Rattle.origins.specs.ToldOrigins.{AreHolderTexts, IsHolderText, more}
 use Rattle.origins.specs.declared.holders.Holder.{Holder}
 use Rattle.origins.specs.declared.changes.PassedCycle.{PassedCycle}
 
@@ -58,10 +58,10 @@ lines-whole wiring cards since unit ways = refl
 
 -- one holder more
 pub one-more : (wiring : Wiring) (cards : List (List ℕ)) (passed : ℕ) (ways : List (Option (Vec Hub Global))) (place : ℕ) (holder : Holder)
-    (old text new : List ℕ) → AreTexts wiring cards passed ways place old → holder ≡ holder_at place
-    → IsHolderText wiring cards passed ways holder text → new ≡ old ++ text → AreTexts wiring cards passed ways (place + 1) new
+    (old text new : List ℕ) → AreHolderTexts wiring cards passed ways place old → holder ≡ holder_at place
+    → IsHolderText wiring cards passed ways holder text → new ≡ old ++ text → AreHolderTexts wiring cards passed ways (place + 1) new
 one-more wiring cards passed ways place holder old text new are at is put =
-    subst (λ (all : List ℕ). AreTexts wiring cards passed ways (place + 1) all) (sym put)
+    subst (λ (all : List ℕ). AreHolderTexts wiring cards passed ways (place + 1) all) (sym put)
     (more place old text are (subst (λ (h : Holder). IsHolderText wiring cards passed ways h text) at is))
 
 -- one column more

@@ -56,7 +56,7 @@ leads_through holder [] = false
 leads_through holder (way ∷ ways) = leads_one holder way || leads_through holder ways
 
 -- some ways rest on what a holder holds: one begins at an exit of the storage unit, or leads through a contact that is transferred
-abbrev pub is_told : Holder → List (Option (Vec Hub Global)) → Bool
-is_told (Storage place) ways = is_read (place + 1) ways
-is_told (Pilot pilot) ways = leads_through (Pilot pilot) ways
-is_told (Latch place) ways = leads_through (Latch place) ways
+abbrev pub ways_rest_on : Holder → List (Option (Vec Hub Global)) → Bool
+ways_rest_on (Storage place) ways = is_read (place + 1) ways
+ways_rest_on (Pilot pilot) ways = leads_through (Pilot pilot) ways
+ways_rest_on (Latch place) ways = leads_through (Latch place) ways

@@ -11,7 +11,7 @@ use Rattle.net.specs.declared.cycle.Cycle.{Cycle}
 use Rattle.net.specs.declared.cycle.Cycle.TheVariants.{RunIn, Card, Prog, Head}
 use Rattle.setups.specs.Wiring.{Wiring, is_listed, is_wired, row_at}
 use Rattle.origins.specs.Holes.{brush_text, column_text, first_of, hole_to}
-use Rattle.origins.specs.Storage.{row_text}
+use Rattle.origins.specs.Storage.{row_label}
 use Rattle.origins.specs.declared.holes.Hole.{Hole}
 
 -- a wire from a comparing position calls a level, this one or a higher one
@@ -58,8 +58,8 @@ unlike_text hole card position row entry other =
 -- the line of a row at a comparing position, by the holes of which wires lead to its entries: none if both or neither is reached
 abbrev pub unlike_line : Option Hole → Option Hole → (card position : ℕ) → Row → List ℕ
 unlike_line None None card position row = []
-unlike_line (Some one) None card position row = row_text row ++ unlike_text one card position row (codes "CA.") (codes "CB.")
-unlike_line None (Some other) card position row = row_text row ++ unlike_text other card position row (codes "CB.") (codes "CA.")
+unlike_line (Some one) None card position row = row_label row ++ unlike_text one card position row (codes "CA.") (codes "CB.")
+unlike_line None (Some other) card position row = row_label row ++ unlike_text other card position row (codes "CB.") (codes "CA.")
 unlike_line (Some one) (Some other) card position row = []
 
 abbrev pub unlike_at : Wiring → List (List ℕ) → (card position : ℕ) → Row → List ℕ

@@ -10,4 +10,4 @@ pub mod Levels
 pub mod Asks
 pub mod Carriage
 pub mod Placing
-pub mod Told
+pub mod ToldOrigins

@@ -5,7 +5,7 @@ use Rattle.hubs.specs.declared.hub.Hub.TheVariants.{PIX}
 use Rattle.ledgers.specs.LedgerText.Names.{cycle_text}
 use Rattle.setups.specs.Wiring.{Wiring}
 use Rattle.origins.specs.Holes.{hole_in_cycle}
-use Rattle.origins.specs.Storage.{led_text, row_text}
+use Rattle.origins.specs.Storage.{led_text, row_label}
 use Rattle.origins.specs.declared.changes.PassedCycle.{PassedCycle}
 
 -- the pickup of a pilot
@@ -15,7 +15,7 @@ pickup_text pilot = codes "PIX." ++ decimal pilot
 -- the line of row 11, at which pilots are picked up
 abbrev pub pickup_line : Wiring → List (List ℕ) → PassedCycle → (pilot : ℕ) → List ℕ
 pickup_line wiring cards since pilot =
-    row_text Eleven ++ led_text (hole_in_cycle wiring cards since.cycle since.card Eleven (PIX pilot)) since.card (pickup_text pilot)
+    row_label Eleven ++ led_text (hole_in_cycle wiring cards since.cycle since.card Eleven (PIX pilot)) since.card (pickup_text pilot)
     ++ codes "\n"
 
 -- by which cycle a pilot is transferred

@@ -82,9 +82,9 @@ below_reason wiring before found =
 abbrev pub behind_reason : Wiring → (before found : FoundCycle) → List ℕ
 behind_reason wiring before found = begun_words wiring found ++ behind_words before ++ turn_words wiring before
 
-abbrev pub reason_words : Wiring → Option FoundCycle → FoundCycle → List ℕ
-reason_words wiring None found = begun_words wiring found
-reason_words wiring (Some before) found =
+abbrev pub standing_words : Wiring → Option FoundCycle → FoundCycle → List ℕ
+standing_words wiring None found = begun_words wiring found
+standing_words wiring (Some before) found =
     if before.line.page == found.line.page then below_reason wiring before found else behind_reason wiring before found
 
 -- which line it is
@@ -93,7 +93,7 @@ line_words line = codes "line " ++ decimal line.line ++ codes " of page " ++ dec
 
 -- Why the line of a cycle stands where it stands, by the last line before it.
 abbrev pub placing_line : Wiring → Option FoundCycle → FoundCycle → List ℕ
-placing_line wiring before found = line_words found.line ++ reason_words wiring before found ++ codes "\n"
+placing_line wiring before found = line_words found.line ++ standing_words wiring before found ++ codes "\n"
 
 -- a text, and behind it why the line of a cycle stands where it stands
 pub record IsPlacing (wiring : Wiring) (cards : List (List ℕ)) (found : FoundCycle) (old new : List ℕ) : Type 0 where

@@ -43,12 +43,12 @@ led_text None card entry = entry ++ codes ", by no wire straight from a card"
 led_text (Some hole) card entry = brush_text hole ++ codes " -> " ++ entry ++ column_text hole card
 
 -- the line of a row that a column of the unit took in
-abbrev pub row_text : Row → List ℕ
-row_text row = codes "  row " ++ decimal (row_number row) ++ codes ": "
+abbrev pub row_label : Row → List ℕ
+row_label row = codes "  row " ++ decimal (row_number row) ++ codes ": "
 
 abbrev pub storage_line : Wiring → List (List ℕ) → PassedCycle → (unit : ℕ) → Row → (column : ℕ) → List ℕ
 storage_line wiring cards since unit row column =
-    row_text row
+    row_label row
     ++ led_text (hole_in_cycle wiring cards since.cycle since.card row (SE unit column)) since.card (entry_text unit column) ++ codes "\n"
 
 -- it stands only if a way at the row begins at an exit of the unit

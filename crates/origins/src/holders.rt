@@ -2,7 +2,7 @@
 
 ghost use Rattle.std.specs.Prelude.{◌≡◌, ◌<◌, ◌+◌};
 ghost use Rattle.counters.specs.Counters.{group_of_unit};
-ghost use Rattle.origins.specs.Holders.{IsHolder, holder_at, is_group, is_latch_exit, is_pilot_exit, is_told, is_transferred, leads_one, leads_through, passes};
+ghost use Rattle.origins.specs.Holders.{IsHolder, holder_at, is_group, is_latch_exit, is_pilot_exit, is_transferred, leads_one, leads_through, passes, ways_rest_on};
 
 use crate::storage::is_read;
 use counters::group_of_unit;
@@ -117,9 +117,9 @@ fn leads_through(holder: Holder, ways: &[Option<Vec<Hub>>]) -> bool
 }
 
 // Whether some ways rest on what a holder holds: one begins at an exit of the storage unit, or leads through a contact that is transferred.
-pub(crate) fn is_told(holder: Holder, ways: &[Option<Vec<Hub>>]) -> bool
+pub(crate) fn ways_rest_on(holder: Holder, ways: &[Option<Vec<Hub>>]) -> bool
     requires { IsHolder holder }
-    ensures { result ≡ is_told holder ways.now }
+    ensures { result ≡ ways_rest_on holder ways.now }
 {
     match holder {
         Holder::Storage { place } => is_read(place as u8 + 1, ways),

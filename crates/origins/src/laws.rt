@@ -24,7 +24,8 @@ pub fn cards_are_numbered()
     ensures { CardsAreNumbered }
 {}
 
-/// What wires tell of spacing, of a skip and of a new page in a cycle is what the carriage is asked for at its control point.
+/// What wires tell of spacing, of a skip and of a new page in a cycle is what the carriage is asked for at its control point. If nothing is told of
+/// one of these, and wires lead there from no contact, the carriage isn't asked for it.
 pub fn carriage_is_asked_as_told()
     ensures { CarriageIsAskedAsTold }
 {}

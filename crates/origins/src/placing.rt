@@ -3,7 +3,7 @@
 ghost use Rattle.std.specs.Prelude.{◌≡◌, ◌≤◌, ◌++◌, IfOk, OnOk, length, option_to_list};
 ghost use Rattle.card_code.specs.MostCards.{most_cards};
 ghost use Rattle.ledgers.specs.Running.{HasCycle};
-ghost use Rattle.origins.specs.Placing.{IsLineBefore, IsPlacing, begun_words, behind_reason, behind_words, below_reason, below_words, by_words, first_words, line_with, line_words, named, placing_line, reason_words, turn_words};
+ghost use Rattle.origins.specs.Placing.{IsLineBefore, IsPlacing, begun_words, behind_reason, behind_words, below_reason, below_words, by_words, first_words, line_with, line_words, named, placing_line, standing_words, turn_words};
 
 use crate::asks::{write_overflow, write_page, write_skip, write_spacing};
 use crate::changes::PassedCycle;
@@ -178,7 +178,7 @@ fn write_reason(
     before: &Option<FoundCycle>,
     found: &FoundCycle,
 ) -> io::Result<()>
-    ensures { OnOk result (text.new.items ≡ text.old.items ++ reason_words setup.now before.now found.now) }
+    ensures { OnOk result (text.new.items ≡ text.old.items ++ standing_words setup.now before.now found.now) }
 {
     match before {
         Some(before) if before.line.page == found.line.page => {

@@ -1,7 +1,7 @@
 //! The origin of the text that a storage unit holds.
 
 ghost use Rattle.std.specs.Prelude.{◌≡◌, ◌<◌, ◌++◌, OnOk, length};
-ghost use Rattle.origins.specs.Storage.{column_line, column_of_exit, column_of_way, entry_text, is_read, led_text, line_at, lines_of, row_text, since_line, storage_line, storage_text};
+ghost use Rattle.origins.specs.Storage.{column_line, column_of_exit, column_of_way, entry_text, is_read, led_text, line_at, lines_of, row_label, since_line, storage_line, storage_text};
 
 use crate::changes::PassedCycle;
 use crate::holes::{Hole, hole_in_cycle, write_brush, write_column};
@@ -73,7 +73,7 @@ fn write_led(
 
 // What a line of a row begins with.
 pub(crate) fn write_row(text: &mut Vec<u8>, row: Row) -> io::Result<()>
-    ensures { OnOk result (text.new.items ≡ text.old.items ++ row_text row) }
+    ensures { OnOk result (text.new.items ≡ text.old.items ++ row_label row) }
 {
     let number = row.number();
     write!(text, "  row {number}: ")

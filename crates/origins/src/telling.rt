@@ -6,10 +6,10 @@ ghost use Rattle.ledgers.specs.Running.{HasCycle, PlacesLine};
 ghost use Rattle.origins.specs.Holders.{IsHolder};
 ghost use Rattle.origins.specs.Pilots.{pilot_text};
 ghost use Rattle.origins.specs.Storage.{storage_text};
-ghost use Rattle.origins.specs.Told.{AreOrigins, AreTexts, IsHolderText, IsTextBy};
+ghost use Rattle.origins.specs.ToldOrigins.{AreHolderTexts, AreOrigins, IsHolderText, IsTextBy};
 
 use crate::changes::{PassedCycle, last_move};
-use crate::holders::{HOLDERS, Holder, holder_at, is_told};
+use crate::holders::{HOLDERS, Holder, holder_at, ways_rest_on};
 use crate::latches::latch_text;
 use crate::levels::add_called_by;
 use crate::pilots::write_pilot;
@@ -96,7 +96,7 @@ fn holder_text(
     requires holder { IsHolder holder }
     ensures { IfOk result (λ text. IsHolderText setup.now cards.now passed ways.now holder text.items) }
 {
-    if !is_told(holder, ways) {
+    if !ways_rest_on(holder, ways) {
         return Ok(Vec::new(alloc));
     }
     let last = last_move(alloc, setup, cards, passed, holder)?;
@@ -118,8 +118,8 @@ fn add_holder(
     requires has { HasCycle setup.now cards.now passed }
     requires ways { length ways.now ≡ 12 }
     requires place { place < 52 }
-    requires texts { AreTexts setup.now cards.now passed ways.now place text.old.items }
-    ensures { OnOk result (AreTexts setup.now cards.now passed ways.now (place + 1) text.new.items) }
+    requires texts { AreHolderTexts setup.now cards.now passed ways.now place text.old.items }
+    ensures { OnOk result (AreHolderTexts setup.now cards.now passed ways.now (place + 1) text.new.items) }
 {
     let one = holder_text(alloc, setup, cards, passed, ways, holder_at(place))?;
     Ok(text.extend_from_slice(one.as_slice())?)
@@ -136,7 +136,7 @@ fn holder_texts(
     requires few { length cards.now ≤ most_cards }
     requires has { HasCycle setup.now cards.now passed }
     requires ways { length ways.now ≡ 12 }
-    ensures { IfOk result (λ text. AreTexts setup.now cards.now passed ways.now 52 text.items) }
+    ensures { IfOk result (λ text. AreHolderTexts setup.now cards.now passed ways.now 52 text.items) }
 {
     let mut text = Vec::new(alloc);
     for place in 0..HOLDERS {

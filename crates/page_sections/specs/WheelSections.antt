@@ -1,4 +1,4 @@
 pub mod Sections
-pub mod Told
+pub mod ToldWheels
 pub mod Helper
 pub mod Words

@@ -23,6 +23,16 @@ cut-other [] last other = grind (arith, nat_tests, other)
 cut-other (character ∷ []) last other = ap (onto_cut character) (cut-other [] last other)
 cut-other (character ∷ next ∷ text) last other = ap (onto_cut character) (cut-other (next ∷ text) last other)
 
+-- a character put before a text that is cut makes it longer by one at most
+one_longer : (character : ℕ) (text : List ℕ) → length (onto_cut character text) ≤ suc (length text)
+one_longer character [] = grind arith
+one_longer character (next ∷ others) = omega arith
+
+-- no text is longer without the blanks at its end
+pub no_longer : (text : List ℕ) → length (without_trailing_blanks text) ≤ length text
+no_longer [] = omega arith
+no_longer (character ∷ text) = omega (arith, one_longer character (without_trailing_blanks text), no_longer text)
+
 -- the text up to a place after 0 is the text up to the place before it and one character more
 take_back : (text : List ℕ) (end : ℕ) → 0 < end → end ≤ length text → take end text
     ≡ take (end - 1) text ++ get_or text (end - 1) 0 ∷ []

@@ -1,20 +1,12 @@
 -- How many bytes a line adds: fewer than its place gains, where a page counts 20,000 and a line of it 130.
-use Rattle.std.proofs.Common.{◌≡◌, ℕ, zero, suc, ◌+◌, ◌-◌, ◌*◌, ◌≤◌, inl, inr, List, [], ◌∷◌, ◌++◌, length, arith, length-append}
-use Rattle.page_text.specs.Pages.{onto_cut, without_trailing_blanks}
+use Rattle.std.proofs.Common.{◌≡◌, ℕ, zero, suc, ◌+◌, ◌-◌, ◌*◌, ◌≤◌, inl, inr, [], ◌∷◌, ◌++◌, length, arith, length-append}
+use Rattle.page_text.specs.Pages.{without_trailing_blanks}
+use Rattle.page_text.proofs.CutTexts.{no_longer}
 use Rattle.page_writer.proofs.BlankPages.{page_end-long}
 use Rattle.page_writer.proofs.Feeds.{here_long, later_long}
 use Rattle.page_writer.specs.Added.{added, blank_pages, feeds, page_end}
 use Rattle.page_text.specs.declared.placed_lines.placed_line.PlacedLine.{PlacedLine}
 use Rattle.page_text.specs.PlacedLines.InOrder.{IsAfter, IsOnForm}
-
-onto_cut_long : (character : ℕ) (text : List ℕ) → length (onto_cut character text) ≤ suc (length text)
-onto_cut_long character [] = grind arith
-onto_cut_long character (next ∷ others) = omega arith
-
--- a text without the blanks at its end is no longer
-pub cut_long : (text : List ℕ) → length (without_trailing_blanks text) ≤ length text
-cut_long [] = omega arith
-cut_long (character ∷ text) = omega (arith, onto_cut_long character (without_trailing_blanks text), cut_long text)
 
 -- a page has 145 bytes of blank lines at most
 blank_long : (form_lines pages : ℕ) → form_lines ≤ 144 → length (blank_pages form_lines pages) ≤ 145 * pages
@@ -45,7 +37,7 @@ added_long form_lines page line placed few within short (inl less) on_form =
     omega (
       arith,
       line_long form_lines page line placed,
-      cut_long placed.text,
+      no_longer placed.text,
       later_long form_lines page line placed.page (placed.line - 1) less,
       page_end-long form_lines line,
       blank_long form_lines (placed.page - (page + 1)) few,
@@ -55,7 +47,7 @@ added_long form_lines page line placed few within short (inr same) on_form =
     omega (
       arith,
       line_long form_lines page line placed,
-      cut_long placed.text,
+      no_longer placed.text,
       here_long form_lines page line placed.page (placed.line - 1) same.0,
       same.0,
       same.1,

@@ -17,7 +17,7 @@ const FORM_FEED: u8 = 12;
 
 // A place that pages are written up to: so many lines of a page.
 #[derive(Clone, Copy)]
-pub(crate) struct Place {
+pub(crate) struct PageFront {
     pub page: u64,
     pub lines: u32,
 }
@@ -57,8 +57,8 @@ fn feed_pages<S: Sink + Drop>(
 fn feed<S: Sink + Drop>(
     out: &mut Outlet<S>,
     form_lines: u32,
-    from: Place,
-    to: Place,
+    from: PageFront,
+    to: PageFront,
 ) -> Result<(), WriteFault>
     requires within { from.lines ≤ form_lines }
     requires later { (from.page < to.page) ⊎ ((from.page ≡ to.page) × (from.lines ≤ to.lines)) }
@@ -78,7 +78,7 @@ fn feed<S: Sink + Drop>(
 pub(crate) fn add_line<S: Sink + Drop>(
     out: &mut Outlet<S>,
     form_lines: u32,
-    from: Place,
+    from: PageFront,
     placed: &PlacedLine,
 ) -> Result<(), WriteFault>
     requires within { from.lines ≤ form_lines }
@@ -88,7 +88,7 @@ pub(crate) fn add_line<S: Sink + Drop>(
     ensures bytes { Takes S.held S.has_failed (added form_lines from.page from.lines placed.now) result out.old out.new }
     ensures same { S.borrow out.new.sink ≡ S.borrow out.old.sink }
 {
-    let to = Place {
+    let to = PageFront {
         page: placed.page,
         lines: placed.line - 1,
     };

@@ -8,7 +8,7 @@ ghost use Rattle.page_writer.specs.Writing.{HasPlace, Writing};
 ghost use Rattle.page_text.specs.PlacedLines.InOrder.{FollowInOrder, IsAfter, IsInOrder, IsOnForm};
 
 use crate::fault::WriteFault;
-use crate::feeding::{Place, add_line, end_pages};
+use crate::feeding::{PageFront, add_line, end_pages};
 use crate::outlet::Outlet;
 use devices::Sink;
 use page_text::placed_lines::PlacedLine;
@@ -108,7 +108,7 @@ impl<S: Sink + Drop> PageWriter<S> {
         ensures again { self.old.out.has_failed ≡ true → IsErr result × (self.new ≡ self.old) }
     {
         self.out.check()?;
-        let from = Place {
+        let from = PageFront {
             page: self.page,
             lines: self.line,
         };
@@ -239,6 +239,7 @@ pub fn write_pages<S: Sink>(
     // After a failure the end of the pages fails alike.
     let _ = pages.add_all(lines);
     let ended = pages.end();
+    // The lent sink is handed back, so that it is known what it took: that saves this function a sink of its own.
     let _sink = pages.into_sink();
     ended
 }

@@ -3,7 +3,7 @@
 //!
 //! [`read_back`] has the reader propose a draft. What it answers is decided by others: the draft's text is compiled as any chart's text is,
 //! and the panel is matched with it as with any chart. So nothing that the reader does can make the answer wrong. [`read_beside`] reads one panel
-//! and matches another with what is read. [`wired_chart`] is the chart for which a panel is wired, if it is so for what is read at once.
+//! and matches another with what is read. [`wired_chart`] is a chart for which a panel is wired, if it is so for what is read at once.
 //!
 //! - `panel_slips`: slips on a panel
 //! - `nearest_charts`: the chart that is nearest to a panel with slips

@@ -1,4 +1,4 @@
-//! The chart for which a panel is wired.
+//! A chart for which a panel is wired.
 
 ghost use Rattle.std.specs.Prelude.{IfOk, IfSome, string_bytes};
 ghost use Rattle.matching.specs.Answers.{plan_told};
@@ -8,8 +8,8 @@ use crate::answer::{PanelChart, read_beside};
 use setups::Setup;
 use std::alloc::{AllocError, Global};
 
-/// The chart for which a panel is wired by the plan that is told, as it is read off the panel at once, no line left out: so it is the one
-/// that [`read_back`](crate::read_back) answers too. None if the panel isn't wired for what is read. Its only refusal is memory.
+/// A chart for which a panel is wired by the plan that is told, if one is answered. It tries what is read off the panel at once, no line left
+/// out, and no other chart: so `None` doesn't say that there is none. Its only refusal is memory.
 pub fn wired_chart(alloc: Global, setup: &Setup) -> Result<Option<PanelChart>, AllocError>
     ensures { IfOk result (λ found. IfSome found (λ chart.
         IsWiredChart setup.now (string_bytes chart.text) chart.compiled (plan_told chart.matching))) }

@@ -4,7 +4,7 @@ use Rattle.std.specs.Prelude.{IfErr, OnOk}
 use Rattle.commands.proofs.Refusing.{wiring_refused}
 use Rattle.commands.specs.Answers.{Compiles}
 use Rattle.commands.specs.Refusals.{RefusesChart, chart}
-use Rattle.faults.specs.Told.{wiring_told}
+use Rattle.faults.specs.ToldFaults.{wiring_told}
 use Rattle.faults.specs.declared.fault.Fault.{Fault}
 use Rattle.faults.specs.declared.fault.Fault.TheVariants as fault
 use Rattle.wiring_text.specs.WiringFaults as wiring_faults

@@ -6,7 +6,7 @@ use Rattle.faults.specs.declared.fault.Fault.{Fault}
 use Rattle.faults.specs.declared.fault.Fault.TheVariants as fault
 use Rattle.panel_guides.proofs.RefusedTexts.{texts_status}
 use Rattle.panel_guides.specs.Explained.{IsUnexplained, RefusesTexts, no_line, no_wheel, nowhere, texts}
-use Rattle.panel_guides.specs.Served.{LeavesUnexplained, StopsExplanation}
+use Rattle.panel_guides.specs.ExplainEnds.{LeavesUnexplained, StopsExplanation}
 use Rattle.panel_guides.specs.Unexplained.{unexplained_status}
 use Rattle.panel_guides.specs.declared.place.Place.{Place}
 use Rattle.panel_guides.specs.declared.unexplained.Unexplained.{Unexplained}

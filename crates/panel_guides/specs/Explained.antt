@@ -4,7 +4,7 @@ use Rattle.std.specs.declared.alloc.Global.{Global}
 use Rattle.commands.specs.Answers.{CompilesAs}
 use Rattle.commands.specs.Refusals.{RefusesReplay, RefusesRun}
 use Rattle.compile407.specs.Compilation.{Compilation}
-use Rattle.explanation_text.specs.Told.{Explains}
+use Rattle.explanation_text.specs.ExplanationTexts.{Explains}
 use Rattle.explanations.specs.PlacedInRun.{PrintsNoneAt}
 use Rattle.faults.specs.declared.fault.Fault.{Fault}
 use Rattle.legend.specs.LineSetups.{AreLineSetups}

@@ -1,4 +1,4 @@
 pub mod Ledgers
 pub mod Explained
 pub mod Tellings
-pub mod Served
+pub mod LedgerEnds

@@ -3,7 +3,7 @@ pub mod Explained
 pub mod Laws
 pub mod Legends
 pub mod Panels
-pub mod Served
+pub mod ExplainEnds
 pub mod Unexplained
 pub mod TraceCalls
 pub mod LedgerCalls

@@ -1,2 +1,2 @@
-pub mod Served
+pub mod TraceEnds
 pub mod Traced

@@ -12,6 +12,7 @@ use Rattle.charts.specs.Field.{columns_of}
 use Rattle.charts.specs.Levels.{control_number}
 use Rattle.charts.specs.declared.chart.Line.{Line}
 use Rattle.charts.specs.declared.level.ControlLevel.{ControlLevel}
+use Rattle.charts.specs.declared.level.ControlLevel.TheVariants as control
 use Rattle.charts.specs.declared.statement.Field.{Field}
 use Rattle.charts.specs.declared.statement.Statement.{Statement}
 use Rattle.charts.specs.declared.statement.Statement.TheVariants as says
@@ -30,7 +31,8 @@ use Rattle.panel_plans.proofs.Exchange.{Exchanged, Goes, Holds, Whose, ahead, ba
 use Rattle.panel_plans.proofs.Planned.{planned-with}
 use Rattle.panel_plans.proofs.Rewired.{Rewired, kept_wire, of_comparing, other, rewired}
 use Rattle.panel_plans.proofs.Zipped.{get-map, map-get, part-at, parts-many, range-at, range-get}
-use Rattle.plans.specs.PartNumbers.{AreNumbers}
+use Rattle.plans.specs.PartNumbers.{AreNumbers, AreNumbersOf}
+use Rattle.plans.specs.Renumbered.{renumbered}
 use Rattle.plans.specs.declared.part_numbers.PartKind.TheVariants as kind
 use Rattle.plans.specs.Plans.{Lists, ServesChart}
 use Rattle.plans.proofs.Numbers.{first-more, number-serves}
@@ -299,21 +301,22 @@ module _ (chart : Chart) (setup : Wiring) (lawful : IsLawful chart) (rise : Numb
   planned-by : (numbers others : List ℕ) → ServesChart chart.lines (comparing-by its numbers) → AreNumbers 30 (length its.parts.comparing) others
       → ServesChart chart.lines (comparing-by its others)
   planned-by numbers others planned numbered =
-      planned-with chart.lines planned refl refl (record {
-        pilots = planned.numbers.pilots;
-        comparing = numbered;
-        storage = planned.numbers.storage;
-        splits = planned.numbers.splits;
-        minor = planned.numbers.minor;
-        intermediate = planned.numbers.intermediate;
-        major = planned.numbers.major;
-      })
+      planned-with chart.lines planned refl refl by
+    where
+      by : AreNumbersOf its.parts (renumbered its.numbers kind.Comparing others)
+      by kind.Comparing = numbered
+      by kind.Pilot = planned.numbers kind.Pilot
+      by kind.Storage = planned.numbers kind.Storage
+      by kind.Split = planned.numbers kind.Split
+      by (kind.Indicate control.Minor) = planned.numbers (kind.Indicate control.Minor)
+      by (kind.Indicate control.Intermediate) = planned.numbers (kind.Indicate control.Intermediate)
+      by (kind.Indicate control.Major) = planned.numbers (kind.Indicate control.Major)
 
   -- two alike places may change their positions
   pub positions-change : (numbers others : List ℕ) (one other : ℕ) → IsGood chart setup its numbers → AreAlike chart.lines one other
       → Exchanged numbers others one other → IsGood chart setup its others
   positions-change numbers others one other good alike e =
-      let numbered = numbers-exchanged 30 (length its.parts.comparing) e good.planned.numbers.comparing in
+      let numbered = numbers-exchanged 30 (length its.parts.comparing) e (good.planned.numbers kind.Comparing) in
       let planned = planned-by numbers others good.planned numbered in
       record {
         planned = planned;
@@ -322,7 +325,7 @@ module _ (chart : Chart) (setup : Wiring) (lawful : IsLawful chart) (rise : Numb
             λ wire. rewire chart rise (comparing-by its numbers) good.planned others numbered.many (partner-of chart.lines e alike)
                 ((good.wired.wires exit entry).0 wire),
             λ wire. (good.wired.wires exit entry).1
-                (rewire chart rise (comparing-by its others) planned numbers good.planned.numbers.comparing.many
+                (rewire chart rise (comparing-by its others) planned numbers (good.planned.numbers kind.Comparing).many
                 (partner-of chart.lines (turned e) alike) wire),
           );
           jacks = good.wired.jacks;
@@ -372,14 +375,14 @@ module _ (chart : Chart) (setup : Wiring) (lawful : IsLawful chart) (rise : Numb
       let plan = comparing-by its numbers in
       let less = slice_get_within numbers place number at in
       let inside : place < length (comparing_of chart.lines) =
-      omega (arith, less, good.planned.numbers.comparing.many, ap length (served-columns chart rise plan good.planned)) in
+      omega (arith, less, (good.planned.numbers kind.Comparing).many, ap length (served-columns chart rise plan good.planned)) in
       let position = get_or (comparing_of chart.lines) place (column_on 0 0) in
       let there = slice_get-get_or (comparing_of chart.lines) place (column_on 0 0) inside in
       let mine = column-at chart.lines place position there in
       let both : compared_in position.column (control_number mine.level) ≡ column =
       same_Some (compared_in position.column (control_number mine.level)) column (sym mine.beside ∙ here) in
       let served = position-at chart rise plan good.planned numbers mine.line.number (mine.field.first + mine.j) place
-      good.planned.numbers.comparing.many
+      (good.planned.numbers kind.Comparing).many
       (there ∙ ap (λ n. Some (column_on n position.column)) (sym mine.is_line)
       ∙ ap (λ n. Some (column_on mine.line.number n)) (sym mine.is_column)) ∙ at in
       subst (λ (c : ComparedColumn). IsCompared setup c.column c.level number) both
@@ -395,7 +398,7 @@ module _ (chart : Chart) (setup : Wiring) (lawful : IsLawful chart) (rise : Numb
   go-none wired = record {
     numbers = its.numbers.comparing;
     good = wired;
-    many = wired.planned.numbers.comparing.many ∙ ap length (served-columns chart rise its wired.planned) ∙ sym (many-columns chart.lines);
+    many = (wired.planned.numbers kind.Comparing).many ∙ ap length (served-columns chart rise its wired.planned) ∙ sym (many-columns chart.lines);
     begins = λ place number at. absurd (listed-none number (listed-at [] place number at));
   }
 
@@ -412,8 +415,8 @@ module _ (chart : Chart) (setup : Wiring) (lawful : IsLawful chart) (rise : Numb
       goes-on (IsGood chart setup its) (AreAlike chart.lines) (length (compared_columns chart.lines)) positions-change 30
       (IsCompared setup column.column column.level) (slice_get_within (compared_columns chart.lines) (length items) column here)
       (λ numbers good. (
-        good.planned.numbers.comparing.there,
-        good.planned.numbers.comparing.own,
+        (good.planned.numbers kind.Comparing).there,
+        (good.planned.numbers kind.Comparing).own,
         λ number at. position-named numbers (length items) number column good here at,
       )) none goes
 

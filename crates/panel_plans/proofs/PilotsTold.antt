@@ -42,6 +42,7 @@ use Rattle.panel_plans.proofs.Lowest.{total-told}
 use Rattle.panel_plans.proofs.OwnNames.{names-apart}
 use Rattle.panel_plans.proofs.WheelParts.{detail-on, same-detail}
 use Rattle.panel_plans.proofs.Zipped.{filter-listed, map-listed}
+use Rattle.plans.specs.declared.part_numbers.PartKind.TheVariants as kind
 use Rattle.plans.specs.declared.counter.TotalCounter.{TotalCounter}
 use Rattle.plans.specs.declared.counter.TotalCounter.TheVariants as of
 use Rattle.plans.specs.Plans.{Lists}
@@ -388,7 +389,7 @@ module _ (chart : Chart) (lawful : IsLawful chart) where
     -- an amount that wants a pilot has one
     pub pilot-there : (name : List ℕ) → Contains (pilots_of chart.lines) name → HasNumber (pilot_for its name) 16
     pilot-there name there =
-        number-given (λ served. is_same_name served name) its.parts.pilots its.numbers.pilots 16 name wired.planned.numbers.pilots
+        number-given (λ served. is_same_name served name) its.parts.pilots its.numbers.pilots 16 name (wired.planned.numbers kind.Pilot)
         (subst (λ list. Contains list name) (sym served-names) there) (is_same_name-own name)
 
     -- all pilots of the plan
@@ -396,7 +397,7 @@ module _ (chart : Chart) (lawful : IsLawful chart) where
     all-pilots =
         ap (filter_map (pilot_for its)) (sym served-names)
         ∙ all-numbers (λ one other. is_same_name other one) is_same_name-own (λ one other same. is_same_name-equal other one same)
-        its.parts.pilots its.numbers.pilots wired.planned.numbers.pilots.many
+        its.parts.pilots its.numbers.pilots (wired.planned.numbers kind.Pilot).many
         (subst HasOwnPlaces (sym served-names) (names-apart chart lawful))
 
   -- a panel on which no pilot is that of an amount shows the parts of none that is wired for the chart

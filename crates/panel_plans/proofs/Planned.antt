@@ -5,7 +5,8 @@ use Rattle.plans.proofs.Numbers.{in-order}
 use Rattle.panel_plans.specs.Renumbered.{TakesShown, with_numbers}
 use Rattle.panel_plans.specs.NamingWires.{ShowsPartsOf}
 use Rattle.panel_plans.specs.Wired.{IsWiredBy}
-use Rattle.plans.specs.PartNumbers.{AreNumbersOf, PartNumbers, in_order, renumbered}
+use Rattle.plans.specs.PartNumbers.{AreInOrder, AreNumbersOf, PartNumbers}
+use Rattle.plans.specs.Renumbered.{renumbered}
 use Rattle.plans.specs.declared.part_numbers.PartKind.TheVariants as kind
 use Rattle.charts.specs.declared.level.ControlLevel.TheVariants as control
 use Rattle.setups.specs.Wiring.{Wiring}
@@ -30,9 +31,9 @@ planned-with lines planned counters parts numbers = record {
 
 -- one whose other parts are in order
 pub planned-again : (lines : List Line) (own plan : Lists) → ServesChart lines own → IsWithinMachine own.parts → plan.counters ≡ own.counters
-    → plan.parts ≡ own.parts → plan.numbers ≡ in_order own.parts → ServesChart lines plan
+    → plan.parts ≡ own.parts → AreInOrder own.parts plan.numbers → ServesChart lines plan
 planned-again lines own plan planned within counters parts numbers =
-    planned-with lines planned counters parts (rw (numbers, parts) (in-order own.parts within))
+    planned-with lines planned counters parts (rw parts (in-order own.parts plan.numbers within numbers))
 
 -- numbers of which each kind is shown, one after the other
 module _ {lines : List Line} {setup : Wiring} {none units splits minor intermediate major positions all : PartNumbers} where

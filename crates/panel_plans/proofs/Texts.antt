@@ -29,6 +29,7 @@ use Rattle.panel_plans.specs.Wired.{IsWiredBy}
 use Rattle.panel_plans.specs.declared.text_units.TextPlace.{TextPlace}
 use Rattle.panel_plans.proofs.Apart.{HasOwnPlaces, all-numbers, apart-lines, own-place}
 use Rattle.panel_plans.proofs.Unique.{same-line}
+use Rattle.plans.specs.declared.part_numbers.PartKind.TheVariants as kind
 use Rattle.plans.specs.Plans.{Lists}
 use Rattle.line_rules.specs.PrintRules.Items.{item_of, text_item}
 use Rattle.line_rules.specs.declared.print_rules.items.PrintedLine.TheVariants.{Body}
@@ -223,7 +224,7 @@ module _ (chart : Chart) (setup : Wiring) (lawful : IsLawful chart) (rise : Numb
       let stored = ap (λ (p : Parts). p.storage) wired.planned.parts in
       by-lines its chart.lines ∙ ap (filter_map (unit_for its)) (sym stored)
       ∙ all-numbers (λ one other. other == one) (λ one. grind (arith, nat_tests)) (λ one other same. grind (arith, nat_tests, same))
-      its.parts.storage its.numbers.storage wired.planned.numbers.storage.many
+      its.parts.storage its.numbers.storage (wired.planned.numbers kind.Storage).many
       (subst HasOwnPlaces (sym stored)
       (own-place (map (λ (line : Line). line.number) (filter (λ line. is_total_text line.statement) chart.lines))
       (apart-lines (λ line. is_total_text line.statement) chart.lines chart.end rise)))

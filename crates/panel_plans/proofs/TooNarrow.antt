@@ -9,7 +9,7 @@ use Rattle.panel_plans.specs.Groups.{group_with}
 use Rattle.panel_plans.specs.Narrow.{IsNarrow, IsNarrowOn, IsTotal, NarrowFor}
 use Rattle.panel_plans.specs.Totals.{units_of}
 use Rattle.panel_plans.specs.Wired.{TotalOn, units_wheel}
-use Rattle.panel_plans.specs.declared.counters.Units.{Units}
+use Rattle.panel_plans.specs.declared.counters.TotalUnits.{TotalUnits}
 use Rattle.panel_plans.specs.declared.narrow.Narrow.{Narrow}
 use Rattle.setups.specs.Wiring.{Wiring}
 
@@ -22,7 +22,7 @@ none_narrow setup level wheel need last none group there narrow =
     none at.place (omega (arith, last, at.within)) (subst (IsNarrow setup level wheel need) (sym at.is) narrow)
 
 -- where no total stands on a line
-pub no_total : (lines : List Line) (setup : Wiring) (line : Line) (units : Option Units) → units ≡ None
+pub no_total : (lines : List Line) (setup : Wiring) (line : Line) (units : Option TotalUnits) → units ≡ None
     → ((total : TotalOn lines line) → units_wheel lines line total < 256 → units ≡ Some (units_of lines line total))
     → IsNarrowOn lines setup line None
 no_total lines setup line units is value = record {
@@ -31,12 +31,12 @@ no_total lines setup line units is value = record {
   none = λ total less. absurd (let e = sym is ∙ value total less in cc);
 }
 
-abbrev unit_in : Units → Option Units → Units
+abbrev unit_in : TotalUnits → Option TotalUnits → TotalUnits
 unit_in other None = other
 unit_in other (Some units) = units
 
 -- and where one does
-pub of_total : (lines : List Line) (setup : Wiring) (line : Line) (shown : Option Units) (units : Units) (found : Option Narrow) → shown ≡ Some units
+pub of_total : (lines : List Line) (setup : Wiring) (line : Line) (shown : Option TotalUnits) (units : TotalUnits) (found : Option Narrow) → shown ≡ Some units
     → ((total : TotalOn lines line) → units_wheel lines line total < 256 → shown ≡ Some (units_of lines line total)) → IsTotal line.statement
     → IfSome found (NarrowFor setup units.level units.wheel units.need)
     → IfNone found ((group : CounterGroup) → HasGroup standard group → ¬ IsNarrow setup units.level units.wheel units.need group)
@@ -44,10 +44,10 @@ pub of_total : (lines : List Line) (setup : Wiring) (line : Line) (shown : Optio
 of_total lines setup line shown units found is value only some none = record {
   only = whatever found;
   is = λ total less.
-      subst (λ (u : Units). IfSome found (NarrowFor setup u.level u.wheel u.need)) (same total less) some;
+      subst (λ (u : TotalUnits). IfSome found (NarrowFor setup u.level u.wheel u.need)) (same total less) some;
   none = λ total less.
       subst
-      (λ (u : Units). IfNone found ((group : CounterGroup) → HasGroup standard group → ¬ IsNarrow setup u.level u.wheel u.need group))
+      (λ (u : TotalUnits). IfNone found ((group : CounterGroup) → HasGroup standard group → ¬ IsNarrow setup u.level u.wheel u.need group))
       (same total less) none;
 }
   where

@@ -36,7 +36,8 @@ use Rattle.panel_plans.proofs.Asked.{asks}
 use Rattle.panel_plans.proofs.Apart.{HasOwnPlaces, apart-lines, number-at, own-place, positions-apart}
 use Rattle.panel_plans.proofs.Wheels.{on-wheels}
 use Rattle.panel_plans.proofs.Zipped.{get-map, given-at, given-many, part-at, parts-many, range-at, range-get}
-use Rattle.plans.specs.PartNumbers.{AreNumbers, numbers_at}
+use Rattle.plans.specs.PartNumbers.{AreNumbers, numbers_of}
+use Rattle.plans.specs.declared.part_numbers.PartKind.TheVariants as kind
 use Rattle.plans.specs.Plans.{Lists}
 use Rattle.line_rules.specs.PrintRules.Items.{detail_item, is_same_line, item_of}
 use Rattle.line_rules.specs.PrintRules.Wheels.{HasWheel}
@@ -285,7 +286,7 @@ module _ (chart : Chart) (setup : Wiring) (lawful : IsLawful chart) (rise : Numb
   split-led : (place v split : ℕ) → slice_get (split_wheels chart.lines) place ≡ Some v
       → slice_get its.numbers.splits place ≡ Some split → LeadsTo setup by_wheel.Split 16 v split
   split-led place v split here at =
-      let range = wired.planned.numbers.splits.there place split at in
+      let range = (wired.planned.numbers kind.Split).there place split at in
       let d = given-at (λ (line : Line). split_wheel chart.lines line.statement) (λ (line : Line). is_split_amount chart.lines line.statement)
       (λ (line : Line). line.number) (λ line. split-tested chart.lines line.statement) chart.lines place v here in
       by_line d.x d.listed (split-line chart.lines d.x.statement v d.gives) range.0 range.1 (d.beside)
@@ -299,7 +300,7 @@ module _ (chart : Chart) (setup : Wiring) (lawful : IsLawful chart) (rise : Numb
           served : split_for its line.number ≡ Some split
           served =
               number-at (λ one other. other == one) (λ one. grind (arith, nat_tests)) (λ one other same. grind (arith, nat_tests, same))
-              its.parts.splits its.numbers.splits wired.planned.numbers.splits.many splits-apart line.number place
+              its.parts.splits its.numbers.splits (wired.planned.numbers kind.Split).many splits-apart line.number place
               (ap (λ list. slice_get list place) served-splits ∙ beside) ∙ at
 
           its_amount : is_amount s.field.kind ≡ true
@@ -329,7 +330,7 @@ module _ (chart : Chart) (setup : Wiring) (lawful : IsLawful chart) (rise : Numb
 
   pub splits-led : AreLed setup by_wheel.Split 16 (split_wheels chart.lines) its.numbers.splits
   splits-led = record {
-    many = wired.planned.numbers.splits.many ∙ ap length served-splits
+    many = (wired.planned.numbers kind.Split).many ∙ ap length served-splits
         ∙ given-many (λ (line : Line). split_wheel chart.lines line.statement) (λ (line : Line). is_split_amount chart.lines line.statement)
         (λ (line : Line). line.number) (λ line. split-tested chart.lines line.statement) chart.lines;
     each = split-led;
@@ -347,13 +348,8 @@ module _ (chart : Chart) (setup : Wiring) (lawful : IsLawful chart) (rise : Numb
         at control.Intermediate = ap (λ (p : Parts). p.intermediate) wired.planned.parts
         at control.Major = ap (λ (p : Parts). p.major) wired.planned.parts
 
-    its-numbers : AreNumbers 30 (length (indicate_at its.parts level)) (numbers_at its.numbers level)
-    its-numbers = at level
-      where
-        at : (l : ControlLevel) → AreNumbers 30 (length (indicate_at its.parts l)) (numbers_at its.numbers l)
-        at control.Minor = wired.planned.numbers.minor
-        at control.Intermediate = wired.planned.numbers.intermediate
-        at control.Major = wired.planned.numbers.major
+    its-numbers : AreNumbers 30 (length (indicate_at its.parts level)) (numbers_of its.numbers (kind.Indicate level))
+    its-numbers = wired.planned.numbers (kind.Indicate level)
 
     many-on : (line : Line) → length (wheels_on chart.lines level line.statement) ≡ length (positions_on line)
     unfolding positions_for
@@ -375,7 +371,7 @@ module _ (chart : Chart) (setup : Wiring) (lawful : IsLawful chart) (rise : Numb
 
     -- the indicate position of a column leads to its wheel, and no other does
     indicate-led : (place v x : ℕ) → slice_get (indicated_wheels chart.lines level) place ≡ Some v
-        → slice_get (numbers_at its.numbers level) place ≡ Some x → LeadsTo setup (by_wheel.Indicated level) 30 v x
+        → slice_get (numbers_of its.numbers (kind.Indicate level)) place ≡ Some x → LeadsTo setup (by_wheel.Indicated level) 30 v x
     unfolding field_used positions_for
     indicate-led place v x here at =
         let range = its-numbers.there place x at in
@@ -398,7 +394,7 @@ module _ (chart : Chart) (setup : Wiring) (lawful : IsLawful chart) (rise : Numb
             served : indicate_for its level line.number (field.first + j) ≡ Some x
             served =
                 number-at (λ one other. is_same_position other one) (λ one. grind (arith, nat_tests)) same-position
-                (indicate_at its.parts level) (numbers_at its.numbers level) its-numbers.many indicates-apart
+                (indicate_at its.parts level) (numbers_of its.numbers (kind.Indicate level)) its-numbers.many indicates-apart
                 (column_on line.number (field.first + j)) place
                 (ap (λ list. slice_get list place) served-indicates ∙ beside) ∙ at
 
@@ -463,7 +459,7 @@ module _ (chart : Chart) (setup : Wiring) (lawful : IsLawful chart) (rise : Numb
             by_line line listed j field (indicated-line chart.lines level line.statement field is) ranged.0 ranged.1
             (beside ∙ ap (λ o. slice_get (positions_for line.number o) j) is ∙ place_at) from to
 
-    pub indicates-led : AreLed setup (by_wheel.Indicated level) 30 (indicated_wheels chart.lines level) (numbers_at its.numbers level)
+    pub indicates-led : AreLed setup (by_wheel.Indicated level) 30 (indicated_wheels chart.lines level) (numbers_of its.numbers (kind.Indicate level))
     unfolding field_used
     indicates-led = record {
       many = its-numbers.many ∙ ap length served-indicates

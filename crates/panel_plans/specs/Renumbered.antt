@@ -3,14 +3,15 @@ use Rattle.std.specs.Prelude.{◌≡◌, ℕ, List}
 use Rattle.charts.specs.declared.chart.Line.{Line}
 use Rattle.panel_plans.specs.NamingWires.{ShowsPartsOf}
 use Rattle.panel_plans.specs.Wired.{IsWiredBy}
-use Rattle.plans.specs.PartNumbers.{PartNumbers, renumbered}
+use Rattle.plans.specs.PartNumbers.{PartNumbers}
+use Rattle.plans.specs.Renumbered.{renumbered}
 use Rattle.plans.specs.Plans.{Lists}
 use Rattle.plans.specs.declared.part_numbers.PartKind.{PartKind}
 use Rattle.setups.specs.Wiring.{Wiring}
 
 -- a plan with other numbers
 abbrev pub with_numbers : Lists → PartNumbers → Lists
-with_numbers plan numbers = record { counters = plan.counters; parts = plan.parts; numbers = numbers }
+with_numbers plan numbers = record plan { numbers = numbers }
 
 -- a plan with others of one kind
 abbrev pub with_kind : Lists → PartKind → List ℕ → Lists

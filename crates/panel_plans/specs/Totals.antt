@@ -5,7 +5,7 @@ use Rattle.charts.specs.declared.chart.Line.{Line}
 use Rattle.line_rules.specs.FieldRules.Fields.{field_named}
 use Rattle.panel_plans.specs.Shown.{IsShown}
 use Rattle.panel_plans.specs.Wired.{TotalOn, units_wheel}
-use Rattle.panel_plans.specs.declared.counters.Units.{Units}
+use Rattle.panel_plans.specs.declared.counters.TotalUnits.{TotalUnits}
 use Rattle.plans.specs.declared.counter.TotalCounter.{TotalCounter}
 use Rattle.setups.specs.Wiring.{Wiring}
 use Rattle.wanted.specs.ChartTotals.{need_of}
@@ -15,7 +15,7 @@ abbrev pub its_need : (lines : List Line) (line : Line) → TotalOn lines line �
 its_need lines line total = need_of (field_named lines total.asked.name) total.asked.digits
 
 -- where its units stand, and what it needs
-abbrev pub units_of : (lines : List Line) (line : Line) → TotalOn lines line → Units
+abbrev pub units_of : (lines : List Line) (line : Line) → TotalOn lines line → TotalUnits
 units_of lines line total =
     record { level = level_number total.asked.level; wheel = units_wheel lines line total; need = its_need lines line total }
 

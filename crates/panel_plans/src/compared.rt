@@ -128,7 +128,7 @@ pub(crate) fn shown_positions(
     ensures shown { IfOk result (λ found. IfSome found (λ list. AreShown chart.now.lines setup.now PartKind.Comparing list.items)) }
     ensures none { IfOk result (λ found. IfNone found (ShowsNoParts chart.now.lines setup.now)) }
 {
-    // What is known of the lines of a chart is told with them.
+    // Called for its promise alone, that the chart breaks no rule and its line numbers rise: it saves a `requires`.
     let _lines = chart.lines();
     let columns = compared_columns(alloc, chart)?;
     let mut positions = Vec::new(alloc);

@@ -14,7 +14,7 @@ ghost use Rattle.panel_plans.specs.Wired.{TotalOn, units_wheel};
 ghost use Rattle.wiring_table.specs.Figures.{digit_wheel};
 ghost use Rattle.std.specs.Prelude.{Some};
 
-use crate::groups::{GROUPS, carries_to, group_at, shows_units};
+use crate::groups::{GROUPS, carries_to, shows_units, standard_group};
 use capacity::CounterGroup;
 use chart_rules::Chart;
 use charts::{Line, Name, Statement};
@@ -26,7 +26,7 @@ use wanted::{line_total, takes_two};
 
 /// Where the units of a total stand, and what it needs.
 #[derive(Clone, Copy)]
-pub struct Units {
+pub struct TotalUnits {
     /// The number of its level, 1 to 4.
     pub level: u8,
     /// The wheel of its units.
@@ -55,7 +55,7 @@ fn decimals_of(chart: &Chart, name: Name) -> u16
 }
 
 /// Where the units of the total on a line stand, if a total stands there.
-pub(crate) fn units_on(chart: &Chart, line: &Line) -> Option<Units>
+pub(crate) fn units_on(chart: &Chart, line: &Line) -> Option<TotalUnits>
     ensures value { (total : TotalOn chart.now.lines line.now) → units_wheel chart.now.lines line.now total < 256
         → result ≡ Some (units_of chart.now.lines line.now total) }
     ensures only { IfSome result (λ _. IsTotal line.now.statement) }
@@ -64,7 +64,7 @@ pub(crate) fn units_on(chart: &Chart, line: &Line) -> Option<Units>
     match &line.statement {
         Statement::TotalAmount(total) => {
             let decimals = decimals_of(chart, total.name);
-            Some(Units {
+            Some(TotalUnits {
                 level: total.level.number(),
                 wheel: units_wheel(total.wheel, total.digits, decimals)?,
                 need,
@@ -81,7 +81,7 @@ fn upper_of(setup: &Setup, lower: CounterGroup) -> Option<CounterGroup>
     ensures none { IfNone result ((upper : CounterGroup) → HasGroup standard upper → ¬ CarriesTo setup.now lower upper) }
 {
     for place in 0..GROUPS {
-        let upper = group_at(place);
+        let upper = standard_group(place);
         if carries_to(setup, lower, upper) {
             return Some(upper);
         }
@@ -90,7 +90,7 @@ fn upper_of(setup: &Setup, lower: CounterGroup) -> Option<CounterGroup>
 }
 
 // The counter with a group for its units.
-fn counter_with(setup: &Setup, units: Units, lower: CounterGroup) -> Option<TotalCounter>
+fn counter_with(setup: &Setup, units: TotalUnits, lower: CounterGroup) -> Option<TotalCounter>
     requires there { HasGroup standard lower }
     requires shows { ShowsUnits setup.now units.level units.wheel lower }
     ensures shown { IfSome result (IsShown setup.now units.level units.wheel units.need) }
@@ -106,13 +106,13 @@ fn counter_with(setup: &Setup, units: Units, lower: CounterGroup) -> Option<Tota
 }
 
 // The counter that shows a total, if its lower group is the one at a place.
-fn counter_at(setup: &Setup, units: Units, place: u8) -> Option<TotalCounter>
+fn counter_at(setup: &Setup, units: TotalUnits, place: u8) -> Option<TotalCounter>
     requires { place ≤ 31 }
     ensures shown { IfSome result (IsShown setup.now units.level units.wheel units.need) }
     ensures none { IfNone result ((counter : TotalCounter) → units_group counter ≡ group_with place
         → ¬ IsShown setup.now units.level units.wheel units.need counter) }
 {
-    let lower = group_at(place);
+    let lower = standard_group(place);
     if shows_units(setup, units.level, units.wheel, lower) {
         counter_with(setup, units, lower)
     } else {
@@ -132,7 +132,7 @@ pub(crate) fn shown_on(chart: &Chart, setup: &Setup, line: &Line) -> Option<Tota
 }
 
 /// The counter that shows a total, if there is one: the first by the places of groups.
-pub(crate) fn shown_counter(setup: &Setup, units: Units) -> Option<TotalCounter>
+pub(crate) fn shown_counter(setup: &Setup, units: TotalUnits) -> Option<TotalCounter>
     ensures shown { IfSome result (IsShown setup.now units.level units.wheel units.need) }
     ensures none { IfNone result ((counter : TotalCounter) → ¬ IsShown setup.now units.level units.wheel units.need counter) }
 {

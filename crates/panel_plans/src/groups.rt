@@ -10,14 +10,15 @@ ghost use Rattle.hubs.specs.declared.hub.Hub.TheVariants.{GX, PX, RO, W};
 ghost use Rattle.setups.specs.Wiring.{HasWire};
 
 use capacity::CounterGroup;
-use hubs::{Group, Hub};
+use hubs::Hub;
 use setups::Setup;
+use total_wires::panel_group;
 
 /// How many counter groups the standard machine has.
 pub(crate) const GROUPS: u8 = 32;
 
 /// The groups of the standard machine by a place, 0 to 31: those of 3 positions first, then those of 4, 6 and 8, each by number.
-pub(crate) fn group_at(place: u8) -> CounterGroup
+pub(crate) fn standard_group(place: u8) -> CounterGroup
     requires { place ≤ 31 }
     ensures value { result ≡ group_with place }
     ensures there { HasGroup standard result }
@@ -31,16 +32,6 @@ pub(crate) fn group_at(place: u8) -> CounterGroup
     CounterGroup {
         width,
         number: place % 8 + 1,
-    }
-}
-
-/// A counter group of a plan as a group of the panel.
-pub(crate) fn panel_group(group: CounterGroup) -> Group
-    ensures { result ≡ panel_group group }
-{
-    Group {
-        width: group.width,
-        number: group.number,
     }
 }
 

@@ -5,8 +5,8 @@ ghost use Rattle.capacity.specs.Capacities.{HasGroup, standard};
 ghost use Rattle.capacity.specs.declared.group.CounterGroup.{CounterGroup};
 ghost use Rattle.panel_plans.specs.Narrow.{IsNarrow, IsNarrowOn, NarrowFor};
 
-use crate::counters::{Units, units_on};
-use crate::groups::{GROUPS, group_at, shows_units};
+use crate::counters::{TotalUnits, units_on};
+use crate::groups::{GROUPS, shows_units, standard_group};
 use capacity::CounterGroup;
 use chart_rules::Chart;
 use charts::Line;
@@ -22,7 +22,7 @@ pub struct Narrow {
 }
 
 // Whether a group shows a total, and has too few positions for it, or for the lower half of one that takes two groups.
-fn is_narrow(setup: &Setup, units: Units, group: CounterGroup) -> bool
+fn is_narrow(setup: &Setup, units: TotalUnits, group: CounterGroup) -> bool
     ensures { IsTrue result ↔ IsNarrow setup.now units.level units.wheel units.need group }
 {
     shows_units(setup, units.level, units.wheel, group)
@@ -31,13 +31,13 @@ fn is_narrow(setup: &Setup, units: Units, group: CounterGroup) -> bool
 }
 
 // The first group that shows a total and is too narrow for it, if there is one.
-fn narrow_with(setup: &Setup, units: Units) -> Option<Narrow>
+fn narrow_with(setup: &Setup, units: TotalUnits) -> Option<Narrow>
     ensures found { IfSome result (NarrowFor setup.now units.level units.wheel units.need) }
     ensures none { IfNone result ((group : CounterGroup) → HasGroup standard group
         → ¬ IsNarrow setup.now units.level units.wheel units.need group) }
 {
     for place in 0..GROUPS {
-        let group = group_at(place);
+        let group = standard_group(place);
         if is_narrow(setup, units, group) {
             return Some(Narrow {
                 group,

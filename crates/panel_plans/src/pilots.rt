@@ -22,7 +22,6 @@ ghost use Rattle.wiring_table.specs.Figures.{mark_wheel, rule_of};
 ghost use Rattle.wiring_table.specs.Parts.{negative_side, panel_group, pilot_for};
 
 use crate::counters::shown_on;
-use crate::groups::panel_group;
 use chart_rules::Chart;
 use charts::{DetailOption, Field, Line, Name, SignRule, Statement};
 use hubs::{Group, Hub};
@@ -30,6 +29,7 @@ use line_wires::{mark_wheel, negative_side, rule_of};
 use plans::{PartKind, TotalCounter};
 use setups::Setup;
 use std::alloc::{AllocError, Global};
+use total_wires::panel_group;
 
 /// An amount with a sign rule.
 #[derive(Clone, Copy)]
@@ -66,7 +66,7 @@ fn leads_to_total(chart: &Chart, setup: &Setup, line: &Line, rule: SignRule, pil
         → line_total chart.now.lines line.now.number line.now.statement ≡ Some total
         → IsTrue result ↔ LeadsToTotal chart.now.lines its other rule pilot line.now.number }
 {
-    // What is known of the lines of a chart is told with them.
+    // Called for its promise alone, that the chart breaks no rule and its line numbers rise: it saves a `requires`.
     let _lines = chart.lines();
     match shown_on(chart, setup, line) {
         Some(counter) => setup.has(negative_side(rule, pilot, 1), Hub::MI(units_group(counter))),
@@ -97,7 +97,7 @@ fn tells_pilot(chart: &Chart, setup: &Setup, line: &Line, amount: &SignedAmount,
     ensures no { (other : Wiring) (its : Lists) → ShowsPartsOf chart.now.lines setup.now other its → Contains chart.now.lines line.now
         → pilot_for its amount.now.field.name ≡ Some pilot → TellsPilot chart.now.lines amount.now.field.name line.now → IsTrue result }
 {
-    // What is known of the lines of a chart is told with them.
+    // Called for its promise alone, that the chart breaks no rule and its line numbers rise: it saves a `requires`.
     let _lines = chart.lines();
     let wanted = amount.field.name;
     let rule = amount.rule;
@@ -155,7 +155,7 @@ fn is_pilot(chart: &Chart, setup: &Setup, amount: &SignedAmount, pilot: u8) -> b
     ensures no { (other : Wiring) (its : Lists) → ShowsPartsOf chart.now.lines setup.now other its → pilot_for its amount.now.field.name ≡ Some pilot
         → IsTold chart.now.lines amount.now.field.name → IsTrue result }
 {
-    // What is known of the lines of a chart is told with them.
+    // Called for its promise alone, that the chart breaks no rule and its line numbers rise: it saves a `requires`.
     let _lines = chart.lines();
     picks_up(setup, column_of(amount.rule), pilot) && is_told(chart, setup, amount, pilot)
 }
@@ -183,7 +183,7 @@ fn shown_pilot(chart: &Chart, setup: &Setup, name: Name) -> Option<u8>
     ensures shown { IfSome result (λ pilot. (other : Wiring) (its : Lists) → ShowsPartsOf chart.now.lines setup.now other its → pilot_for its name ≡ Some pilot) }
     ensures none { Contains (pilots_of chart.now.lines) name → IfNone result (ShowsNoParts chart.now.lines setup.now) }
 {
-    // What is known of the lines of a chart is told with them.
+    // Called for its promise alone, that the chart breaks no rule and its line numbers rise: it saves a `requires`.
     let _lines = chart.lines();
     match signed_amount(chart, name) {
         Some(amount) => pilot_of(chart, setup, &amount),
@@ -203,7 +203,7 @@ pub(crate) fn shown_pilots(
     ensures shown { IfOk result (λ found. IfSome found (λ list. AreShown chart.now.lines setup.now PartKind.Pilot list.items)) }
     ensures none { IfOk result (λ found. IfNone found (ShowsNoParts chart.now.lines setup.now)) }
 {
-    // What is known of the lines of a chart is told with them.
+    // Called for its promise alone, that the chart breaks no rule and its line numbers rise: it saves a `requires`.
     let _lines = chart.lines();
     let mut pilots = Vec::new(alloc);
     for name in names {

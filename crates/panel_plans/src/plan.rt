@@ -4,13 +4,13 @@ ghost use Rattle.std.specs.Prelude.{◌≡◌, IfOk, ◌∷◌};
 ghost use Rattle.panel_plans.specs.NamingWires.{ShowsPartsOf};
 ghost use Rattle.panel_plans.specs.Renumbered.{with_numbers};
 ghost use Rattle.panel_plans.specs.Wired.{IsWiredBy};
-ghost use Rattle.plans.specs.PartNumbers.{in_order};
+ghost use Rattle.plans.specs.PartNumbers.{AreInOrder};
 ghost use Rattle.plans.specs.Plans.{IsWithinMachine, Lists, ServesChart};
 ghost use Rattle.setups.specs.Wiring.{Wiring};
 ghost use Rattle.std.specs.Option.{IsSomeAnd};
 ghost use Rattle.wanted.specs.Wanted.{parts_of};
 
-use crate::counters::{Units, shown_counter, shown_on, units_on};
+use crate::counters::{TotalUnits, shown_counter, shown_on, units_on};
 use crate::parts::shown_numbers;
 use crate::stand_ins::{Taken, is_double, stand_in};
 use chart_rules::Chart;
@@ -20,7 +20,7 @@ use std::alloc::{AllocError, Global};
 use wanted::{Wanted, line_total};
 
 // Where the units of the totals of a chart stand, in the order of their lines.
-fn units_of(alloc: Global, chart: &Chart) -> Result<Vec<Units>, AllocError> {
+fn units_of(alloc: Global, chart: &Chart) -> Result<Vec<TotalUnits>, AllocError> {
     chart
         .lines()
         .iter()
@@ -54,7 +54,7 @@ fn shown_counters(
 fn shown_each(
     alloc: Global,
     setup: &Setup,
-    totals: &[Units],
+    totals: &[TotalUnits],
 ) -> Result<Vec<Option<TotalCounter>>, AllocError> {
     let mut shown = Vec::new(alloc);
     for units in totals {
@@ -68,7 +68,7 @@ fn shown_each(
 fn all_counters(
     alloc: Global,
     setup: &Setup,
-    totals: &[Units],
+    totals: &[TotalUnits],
     shown: &[Option<TotalCounter>],
 ) -> Result<Option<Vec<TotalCounter>>, AllocError> {
     let mut counters = Vec::new(alloc);
@@ -110,10 +110,10 @@ fn with_counters(
     requires { ServesChart chart.now.lines own.now }
     ensures counters { IfOk result (λ plan. plan.counters ≡ counters.now) }
     ensures parts { IfOk result (λ plan. plan.parts ≡ own.now.parts) }
-    ensures numbers { IfOk result (λ plan. plan.numbers ≡ in_order own.now.parts) }
+    ensures numbers { IfOk result (λ plan. AreInOrder own.now.parts plan.numbers) }
     ensures within { IsWithinMachine own.now.parts }
 {
-    // What is known of the parts of every plan is told with them.
+    // Called for its promise alone, that no more is served than the machine has parts: it saves a `requires`.
     let _pilots = own.pilots();
     let wanted = Wanted::of(alloc, chart)?;
     let mut copied = Vec::new(alloc);
@@ -169,7 +169,7 @@ fn shown_plan(
     ensures numbers { IfOk result (λ plan. (other : Wiring) (its : Lists) → ShowsPartsOf chart.now.lines setup.now other its
         → IsWiredBy chart.now.lines other (with_numbers its plan.numbers)) }
 {
-    // What is known of the parts of every plan is told with them.
+    // Called for its promise alone, that no more is served than the machine has parts: it saves a `requires`.
     let _pilots = own.pilots();
     let wanted = Wanted::of(alloc, chart)?;
     let parts = wanted.into_parts();

@@ -3,12 +3,13 @@
 ghost use Rattle.std.specs.Prelude.{◌≡◌, ◌≤◌, true, IfSome};
 ghost use Rattle.capacity.specs.Capacities.{HasGroup, standard};
 
-use crate::counters::Units;
-use crate::groups::{GROUPS, carries_to, group_at, is_read_out, leads_to, panel_group};
+use crate::counters::TotalUnits;
+use crate::groups::{GROUPS, carries_to, is_read_out, leads_to, standard_group};
 use capacity::CounterGroup;
 use hubs::Hub;
 use plans::TotalCounter;
 use setups::Setup;
+use total_wires::panel_group;
 use wanted::takes_two;
 
 /// The counters that are taken: those that the setup shows, and those that stand in for others.
@@ -73,7 +74,7 @@ fn higher_wires(setup: &Setup, group: CounterGroup) -> u8
 
 // How much speaks for a group as that of a total, or as the lower one of two. The wire from its units to their wheel counts twice and the
 // read-out in the level's cycle once; where they name two groups, the one that is wired further up has the more.
-fn units_wires(setup: &Setup, units: Units, group: CounterGroup) -> u8
+fn units_wires(setup: &Setup, units: TotalUnits, group: CounterGroup) -> u8
     ensures { result ≤ 10 }
 {
     let read_out = is_read_out(setup, units.level, group);
@@ -89,7 +90,7 @@ fn units_wires(setup: &Setup, units: Units, group: CounterGroup) -> u8
 // The first free group of so many positions, or more, for which so much speaks.
 fn group_with(
     setup: &Setup,
-    units: Units,
+    units: TotalUnits,
     taken: Taken,
     width: u32,
     wires: u8,
@@ -98,7 +99,7 @@ fn group_with(
     ensures wide { IfSome result (λ group. width ≤ group.width) }
 {
     for place in 0..GROUPS {
-        let group = group_at(place);
+        let group = standard_group(place);
         if width <= u32::from(group.width)
             && units_wires(setup, units, group) == wires
             && is_free(taken, group)
@@ -110,7 +111,7 @@ fn group_with(
 }
 
 // The free group of so many positions, or more, for which the most speaks.
-fn units_group(setup: &Setup, units: Units, taken: Taken, width: u32) -> Option<CounterGroup>
+fn units_group(setup: &Setup, units: TotalUnits, taken: Taken, width: u32) -> Option<CounterGroup>
     ensures there { IfSome result (HasGroup standard) }
     ensures wide { IfSome result (λ group. width ≤ group.width) }
 {
@@ -124,7 +125,7 @@ fn units_group(setup: &Setup, units: Units, taken: Taken, width: u32) -> Option<
 }
 
 // How much speaks for a group as the upper one of a counter: the carry from the lower one, or that the level's cycle reads it out.
-fn upper_wires(setup: &Setup, units: Units, lower: CounterGroup, group: CounterGroup) -> u8
+fn upper_wires(setup: &Setup, units: TotalUnits, lower: CounterGroup, group: CounterGroup) -> u8
     ensures { result ≤ 2 }
 {
     if carries_to(setup, lower, group) {
@@ -137,7 +138,7 @@ fn upper_wires(setup: &Setup, units: Units, lower: CounterGroup, group: CounterG
 // The first free group of 8 positions of a higher number for which so much speaks as the upper one of a counter.
 fn upper_with(
     setup: &Setup,
-    units: Units,
+    units: TotalUnits,
     taken: Taken,
     lower: CounterGroup,
     wires: u8,
@@ -145,7 +146,7 @@ fn upper_with(
     ensures there { IfSome result (HasGroup standard) }
 {
     for place in 0..GROUPS {
-        let group = group_at(place);
+        let group = standard_group(place);
         if group.width == 8
             && lower.number < group.number
             && upper_wires(setup, units, lower, group) == wires
@@ -160,7 +161,7 @@ fn upper_with(
 // The free group for which the most speaks.
 fn upper_group(
     setup: &Setup,
-    units: Units,
+    units: TotalUnits,
     taken: Taken,
     lower: CounterGroup,
 ) -> Option<CounterGroup>
@@ -177,7 +178,7 @@ fn upper_group(
 
 /// A counter of free groups that stands in for that of a total, if there is one: of the groups that are enough the one for which the most
 /// speaks.
-pub(crate) fn stand_in(setup: &Setup, units: Units, taken: Taken) -> Option<TotalCounter> {
+pub(crate) fn stand_in(setup: &Setup, units: TotalUnits, taken: Taken) -> Option<TotalCounter> {
     if takes_two(units.need) {
         let lower = units_group(setup, units, taken, 8)?;
         let upper = upper_group(setup, units, taken, lower)?;

@@ -203,7 +203,7 @@ pub(crate) fn shown_splits(
     ensures shown { IfOk result (λ found. IfSome found (λ list. AreShown chart.now.lines setup.now PartKind.Split list.items)) }
     ensures none { IfOk result (λ found. IfNone found (ShowsNoParts chart.now.lines setup.now)) }
 {
-    // What is known of the lines of a chart is told with them.
+    // Called for its promise alone, that the chart breaks no rule and its line numbers rise: it saves a `requires`.
     let _lines = chart.lines();
     let wheels = split_wheels(alloc, chart)?;
     led_numbers(alloc, setup, wheels.as_slice(), WheelPart::Split, 16)
@@ -221,7 +221,7 @@ pub(crate) fn shown_indicates(
     ensures shown { IfOk result (λ found. IfSome found (λ list. AreShown chart.now.lines setup.now (PartKind.Indicate level) list.items)) }
     ensures none { IfOk result (λ found. IfNone found (ShowsNoParts chart.now.lines setup.now)) }
 {
-    // What is known of the lines of a chart is told with them.
+    // Called for its promise alone, that the chart breaks no rule and its line numbers rise: it saves a `requires`.
     let _lines = chart.lines();
     let wheels = indicated_wheels(alloc, chart, level)?;
     led_numbers(

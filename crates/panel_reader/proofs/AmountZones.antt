@@ -11,8 +11,8 @@ use Rattle.hubs.specs.declared.jack.Jack.TheVariants.{Link}
 use Rattle.panel_reader.specs.Chains.{exit_of}
 use Rattle.panel_reader.specs.Shown.{HasUnitsOn, IsAmountWheel, IsAmountZone}
 use Rattle.panel_reader.specs.Zones.{has_wheel}
-use Rattle.panel_reader.specs.declared.counters.Counter.{Counter}
-use Rattle.panel_reader.specs.declared.counters.Total.{Total}
+use Rattle.panel_reader.specs.declared.totals.Counter.{Counter}
+use Rattle.panel_reader.specs.declared.totals.Total.{Total}
 use Rattle.panel_reader.specs.declared.zones.Zone.{Zone}
 use Rattle.setups.specs.Wiring.{HasJack, HasWire, Wiring}
 

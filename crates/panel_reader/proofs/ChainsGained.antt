@@ -5,7 +5,7 @@ use Rattle.std.specs.Prelude.{OnOk}
 use Rattle.panel_reader.proofs.ItemsGained.{gains_nothing, gains_then}
 use Rattle.panel_reader.specs.Chains.{GainsChain, GainsChains, GainsField, GainsTotal, GoesUp, IsChain, IsReadOut, IsReadTotal, IsTotalItem, alone, next, none, one_more}
 use Rattle.panel_reader.specs.Items.{Gains}
-use Rattle.panel_reader.specs.declared.counters.Total.{Total}
+use Rattle.panel_reader.specs.declared.totals.Total.{Total}
 use Rattle.panel_reader.specs.declared.draft.Draft.{Draft}
 use Rattle.panel_reader.specs.declared.draft.DraftField.{DraftField}
 use Rattle.panel_reader.specs.declared.draft.Item.{Item}

@@ -5,8 +5,8 @@ use Rattle.charts.specs.declared.statement.BodyLine.TheVariants as line
 use Rattle.hubs.specs.declared.hub.Group.{Group}
 use Rattle.hubs.specs.declared.hub.Hub.{Hub}
 use Rattle.hubs.specs.declared.hub.Hub.TheVariants as hub
-use Rattle.panel_reader.specs.declared.counters.Counter.{Counter}
-use Rattle.panel_reader.specs.declared.counters.Total.{Total}
+use Rattle.panel_reader.specs.declared.totals.Counter.{Counter}
+use Rattle.panel_reader.specs.declared.totals.Total.{Total}
 use Rattle.panel_reader.specs.declared.draft.Draft.{Draft}
 use Rattle.panel_reader.specs.declared.draft.DraftField.{DraftField}
 use Rattle.panel_reader.specs.declared.draft.Item.{Item}

@@ -2,11 +2,11 @@
 
 ghost use Rattle.std.specs.Prelude.{All, IfSome, OnOk};
 ghost use Rattle.panel_reader.specs.Chains.{GainsChain, GainsChains, GainsTotal, GoesUp, IsReadOut};
-ghost use Rattle.panel_reader.specs.declared.counters.Total.{Total};
+ghost use Rattle.panel_reader.specs.declared.totals.Total.{Total};
 
-use crate::counters::{LEVELS, Total};
 use crate::draft::{Draft, DraftField, Item, PrintedLine, Said};
 use crate::hub_rows::{HubRow, lowest_exit};
+use crate::totals::{LEVELS, Total};
 use crate::zones::Zone;
 use charts::{BodyLine, FieldKind, Level, SignRule};
 use hubs::{Group, Hub};

@@ -14,7 +14,6 @@ mod card_line;
 mod chains;
 mod compared;
 mod control_fields;
-mod counters;
 mod draft;
 mod dropping;
 mod hub_rows;
@@ -23,6 +22,7 @@ mod literals;
 mod names;
 mod reading;
 mod total_texts;
+mod totals;
 mod writing;
 mod zones;
 

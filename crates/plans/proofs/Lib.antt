@@ -3,3 +3,4 @@ pub mod CounterGroups
 pub mod Enough
 pub mod Numbers
 pub mod Single
+mod EachKind

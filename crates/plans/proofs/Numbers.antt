@@ -8,8 +8,11 @@ use Rattle.std.specs.Option.{option_and_then}
 use Rattle.std.proofs.lemmas.List.FromFn.{get_or-range_with_len, length-range_with_len}
 use Rattle.std.proofs.lemmas.Option.{get_or_from_slice_get, slice_get-get_or, slice_get_within}
 use Rattle.charts.proofs.Listed.{StandsAt, position-stands, position-passing, position-within}
-use Rattle.plans.specs.PartNumbers.{AreApart, AreNumbers, AreNumbersOf, AreThere, in_order, number_for}
+use Rattle.plans.specs.PartNumbers.{AreApart, AreInOrder, AreNumbers, AreNumbersOf, AreThere, PartNumbers, count_of, last_of, number_for}
 use Rattle.plans.specs.Plans.{IsWithinMachine}
+use Rattle.plans.specs.declared.part_numbers.PartKind.{PartKind}
+use Rattle.plans.specs.declared.part_numbers.PartKind.TheVariants as kind
+use Rattle.charts.specs.declared.level.ControlLevel.TheVariants as control
 use Rattle.wanted.specs.Wanted.{Parts}
 
 -- A number of a part, from 1.
@@ -187,14 +190,14 @@ first-numbers last things few = record {
         sym (get_or_from_slice_get (range_with_len 1 things) place number 0 at)
         ∙ get_or-range_with_len 1 things place 0 (omega (arith, within, length-range_with_len 1 things))
 
--- and so in each list of what a chart asks for
-pub in-order : (parts : Parts) → IsWithinMachine parts → AreNumbersOf parts (in_order parts)
-in-order parts within = record {
-  pilots = first-numbers 16 (length parts.pilots) within.pilots;
-  comparing = first-numbers 30 (length parts.comparing) within.comparing;
-  storage = first-numbers 4 (length parts.storage) within.storage;
-  splits = first-numbers 16 (length parts.splits) within.splits;
-  minor = first-numbers 30 (length parts.minor) within.minor;
-  intermediate = first-numbers 30 (length parts.intermediate) within.intermediate;
-  major = first-numbers 30 (length parts.major) within.major;
-}
+-- and so of each kind
+pub in-order : (parts : Parts) (numbers : PartNumbers) → IsWithinMachine parts → AreInOrder parts numbers → AreNumbersOf parts numbers
+in-order parts numbers within ordered each = rw (ordered each) (first-numbers (last_of each) (count_of parts each) (few each)) where
+  few : (of : PartKind) → count_of parts of ≤ last_of of
+  few kind.Pilot = within.pilots
+  few kind.Comparing = within.comparing
+  few kind.Storage = within.storage
+  few kind.Split = within.splits
+  few (kind.Indicate control.Minor) = within.minor
+  few (kind.Indicate control.Intermediate) = within.intermediate
+  few (kind.Indicate control.Major) = within.major

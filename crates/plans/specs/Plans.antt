@@ -7,7 +7,7 @@ use Rattle.wanted.specs.declared.total.Total.{Total}
 use Rattle.wanted.specs.declared.count.Capacity.TheVariants as of
 use Rattle.plans.specs.Excess.{IsOver}
 use Rattle.plans.specs.Assignments.{IsAssignment}
-use Rattle.plans.specs.PartNumbers.{AreNumbersOf, PartNumbers, in_order}
+use Rattle.plans.specs.PartNumbers.{AreInOrder, AreNumbersOf, PartNumbers}
 use Rattle.plans.specs.declared.counter.TotalCounter.{TotalCounter}
 use Rattle.wanted.specs.Wanted.{Parts, Wanted, wanted_of}
 
@@ -42,7 +42,7 @@ ServesChart lines plan = Serves (wanted_of lines) plan
 -- on serve, each list in the order in which the chart asks for it.
 pub record IsFor (lines : List Line) (plan : Lists) : Type 0 where
   pub serves : ServesChart lines plan
-  pub numbers : plan.numbers ≡ in_order plan.parts
+  pub numbers : AreInOrder plan.parts plan.numbers
 
 -- no more is served than the standard machine has parts
 pub record IsWithinMachine (parts : Parts) : Type 0 where

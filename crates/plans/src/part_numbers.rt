@@ -85,13 +85,15 @@ impl PartNumbers {
     ghost use Rattle.std.specs.List.{range_with_len};
     ghost use Rattle.std.specs.Prelude.{length};
     ghost use Rattle.wanted.specs.Wanted.{indicate_at};
-    ghost use Rattle.plans.specs.PartNumbers.{AreNumbers, AreNumbersOf, AreThere, in_order, last_of, numbers_at, renumbered};
+    ghost use Rattle.plans.specs.PartNumbers.{AreInOrder, AreNumbers, AreNumbersOf, AreThere, last_of, numbers_of};
+    ghost use Rattle.plans.specs.Renumbered.{renumbered};
+    ghost use Rattle.plans.specs.declared.part_numbers.PartKind.TheVariants.{Indicate};
     ghost use Rattle.plans.specs.Plans.{IsWithinMachine};
 
     /// The parts 1, 2 and so on of each kind, for these things in their order.
     pub fn in_order(alloc: Global, parts: &Parts) -> Result<PartNumbers, AllocError>
         requires { IsWithinMachine parts.now }
-        ensures { IfOk result (λ numbers. numbers ≡ in_order parts.now) }
+        ensures { IfOk result (AreInOrder parts.now) }
     {
         let pilots = first_numbers(alloc, parts.pilots().len(), 16)?;
         let comparing = first_numbers(alloc, parts.comparing().len(), 30)?;
@@ -149,8 +151,8 @@ impl PartNumbers {
 
     /// The numbers of the indicate positions of a level.
     pub fn indicate(&self, level: ControlLevel) -> &[u8]
-        ensures value { result.now ≡ numbers_at self.now level }
-        ensures there { AreThere 30 (numbers_at self.now level) }
+        ensures value { result.now ≡ numbers_of self.now (Indicate level) }
+        ensures there { AreThere 30 (numbers_of self.now (Indicate level)) }
     {
         match level {
             ControlLevel::Minor => self.minor.as_slice(),
@@ -192,7 +194,7 @@ impl PartNumbers {
 
     /// Whether these are the parts 1, 2 and so on of each kind, for these things in their order.
     pub(crate) fn are_in_order(&self, parts: &Parts) -> bool
-        ensures { IsTrue result ↔ (self.now ≡ in_order parts.now) }
+        ensures { IsTrue result ↔ AreInOrder parts.now self.now }
     {
         are_first(self.pilots(), parts.pilots().len())
             && are_first(self.comparing(), parts.comparing().len())
@@ -205,14 +207,14 @@ impl PartNumbers {
 
     /// Whether the indicate positions 1, 2 and so on serve the columns that are indicated at a level.
     fn are_first_at(&self, parts: &Parts, level: ControlLevel) -> bool
-        ensures { IsTrue result ↔ (numbers_at self.now level ≡ range_with_len 1 (length (indicate_at parts.now level))) }
+        ensures { IsTrue result ↔ (numbers_of self.now (Indicate level) ≡ range_with_len 1 (length (indicate_at parts.now level))) }
     {
         are_first(self.indicate(level), parts.indicate(level).len())
     }
 
     /// Whether each of the columns that are indicated at a level has a position of its own.
     fn are_at(&self, parts: &Parts, level: ControlLevel) -> bool
-        ensures { IsTrue result ↔ AreNumbers 30 (length (indicate_at parts.now level)) (numbers_at self.now level) }
+        ensures { IsTrue result ↔ AreNumbers 30 (length (indicate_at parts.now level)) (numbers_of self.now (Indicate level)) }
     {
         are_numbers(self.indicate(level), parts.indicate(level).len(), 30)
     }

@@ -48,7 +48,8 @@ impl Plan {
     ghost use Rattle.charts.specs.Name.{is_same_name};
     ghost use Rattle.wanted.specs.ChartTotals.{totals_of};
     ghost use Rattle.wanted.specs.Wanted.{indicate_at};
-    ghost use Rattle.plans.specs.PartNumbers.{in_order, number_for, numbers_at};
+    ghost use Rattle.plans.specs.PartNumbers.{AreInOrder, number_for, numbers_of};
+    ghost use Rattle.plans.specs.declared.part_numbers.PartKind.TheVariants.{Indicate};
     ghost use Rattle.plans.specs.Plans.{IsFor, IsWithinMachine, ServesChart, counter_on};
     ghost use Rattle.wanted.specs.Positions.{is_same_position};
 
@@ -77,7 +78,7 @@ impl Plan {
         requires { IsWithinMachine parts }
         ensures counters { IfOk result (λ plan. plan.counters ≡ counters.items) }
         ensures parts { IfOk result (λ plan. plan.parts ≡ parts) }
-        ensures numbers { IfOk result (λ plan. plan.numbers ≡ in_order parts) }
+        ensures numbers { IfOk result (λ plan. AreInOrder parts plan.numbers) }
     {
         let numbers = PartNumbers::in_order(alloc, &parts)?;
         Ok(Plan::of(counters, parts, numbers))
@@ -203,7 +204,7 @@ impl Plan {
 
     /// The number of the indicate position of a level that serves a column of the field of an INDICATE item, from 1.
     pub fn indicate_position(&self, level: ControlLevel, at: Position) -> Option<u8>
-        ensures value { result ≡ number_for (λ served. is_same_position served at) (indicate_at self.now.parts level) (numbers_at self.now.numbers level) }
+        ensures value { result ≡ number_for (λ served. is_same_position served at) (indicate_at self.now.parts level) (numbers_of self.now.numbers (Indicate level)) }
         ensures few { IfSome result (λ number. (1 ≤ number) × (number ≤ 30)) }
     {
         number_at(

@@ -4,7 +4,7 @@ use Rattle.card_code.specs.Deck.{HasDeckFault}
 use Rattle.card_code.specs.declared.deck.DeckFault.{DeckFault}
 use Rattle.card_code.specs.declared.deck.DeckFault.TheVariants as deck
 use Rattle.faults.specs.Status.{status_of}
-use Rattle.faults.specs.Told.{deck_told}
+use Rattle.faults.specs.ToldFaults.{deck_told}
 use Rattle.faults.specs.declared.fault.Fault.{Fault}
 use Rattle.faults.specs.declared.fault.Fault.TheVariants as fault
 use Rattle.program_io.specs.Refusals.{RefusesDeck}

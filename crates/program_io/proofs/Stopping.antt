@@ -5,7 +5,7 @@ use Rattle.std.specs.Prelude.{IfErr}
 use Rattle.faults.proofs.Statuses.{deck_status, memory_or_not, wiring_status}
 use Rattle.faults.specs.Lines.{IsTold}
 use Rattle.faults.specs.Status.{status_of}
-use Rattle.faults.specs.Told.{deck_told, wiring_told}
+use Rattle.faults.specs.ToldFaults.{deck_told, wiring_told}
 use Rattle.faults.specs.declared.fault.Fault.{Fault}
 use Rattle.faults.specs.declared.fault.Fault.TheVariants as fault
 use Rattle.program_io.specs.Refusals.{RefusesDeck}

@@ -2,7 +2,7 @@
 use Rattle.std.specs.Prelude.{◌≡◌, ℕ, List}
 use Rattle.card_code.specs.Deck.{HasDeckFault}
 use Rattle.card_code.specs.declared.deck.DeckFault.{DeckFault}
-use Rattle.faults.specs.Told.{deck_told, wiring_told}
+use Rattle.faults.specs.ToldFaults.{deck_told, wiring_told}
 use Rattle.faults.specs.declared.fault.Fault.{Fault}
 use Rattle.wiring_text.specs.WiringFaults.{HasWiringFault}
 use Rattle.wiring_text.specs.declared.fault.WiringFault.{WiringFault}

@@ -14,7 +14,7 @@ mod words;
 
 use crate::obeying::obey;
 use crate::release::VERSION;
-use crate::words::{given_words, tell_refused, tell_wordless};
+use crate::words::{given_words, tell_more, tell_refused, tell_wordless};
 use command_line::read_words;
 use commands::tell;
 pub use commands::{replay_by_orders, serve};
@@ -25,7 +25,10 @@ fn main(rt: HostRuntime) -> ExitCode {
     let status = match given_words(&rt) {
         Ok(words) => match read_words(&rt, VERSION, words.as_slice()) {
             Ok(wanted) => match obey(&rt, wanted) {
-                Ok(done) => done.status,
+                Ok(done) => {
+                    tell_more(&rt, done.status);
+                    done.status
+                }
                 Err(unread) => tell(&unread, &mut rt.stderr()).status,
             },
             Err(refused) => tell_refused(&rt, &refused),

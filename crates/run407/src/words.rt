@@ -11,6 +11,9 @@ use std::io::{ErrorKind, IsTerminal, Write};
 /// The status of words that can't be read.
 const USAGE: u8 = 2;
 
+/// The status of a chart, a deck or a wiring chart with a fault.
+const FAULTY: u8 = 3;
+
 /// The words, the program's name first.
 ///
 /// # Errors
@@ -44,6 +47,16 @@ pub fn tell_waiting(rt: &HostRuntime) {
         // If it can't be written, nobody needs it.
         let _ = rt.stderr().write_all(
             b"run407: type a chart, and its deck behind the chart's line END; --help tells the commands\n",
+        );
+    }
+}
+
+/// Says at a terminal where more is told of a fault. Its line alone is the same wherever it is written.
+pub fn tell_more(rt: &HostRuntime, status: u8) {
+    if status == FAULTY && rt.stderr().is_terminal() {
+        // If it can't be written, the line of the fault is there all the same.
+        let _ = rt.stderr().write_all(
+            b"run407 fault NUMBER tells what it means, and run407 check --all CHART lists every fault of a chart\n",
         );
     }
 }

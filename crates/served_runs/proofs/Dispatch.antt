@@ -1,32 +1,37 @@
 -- Where each unit stands among those of a machine, and what becomes of them where one of them senses.
-use Rattle.std.proofs.Common.{◌≡◌, ◌≢◌, ◌∙◌, ap, sym, refl, ℕ, ◌+◌, ◌-◌, ◌<◌, ◌≤◌, List, [], ◌∷◌, ◌++◌, map, length, arith, slice_index_or, slice_set, inl, inr, Bool}
-use Rattle.std.proofs.lemmas.Bool.{cases_eq}
-use Rattle.std.proofs.lemmas.List.{get_or-append_right, get_or-map, get_or-set_other, get_or-set_same, get_or_append_left, length-map, map-set, set-append_left, set-append_right, set-get_or, length-set}
-use Rattle.counters.specs.Counters.{Counter}
+use Rattle.std.proofs.Common.{◌≡◌, ◌∙◌, ap, sym, refl, ℕ, ◌+◌, ◌-◌, ◌<◌, ◌≤◌, List, [], ◌∷◌, ◌++◌, map, length, arith, slice_index_or, slice_set, Bool}
+use Rattle.std.proofs.lemmas.List.{get_or-append_right, get_or-map, get_or-set_other, get_or-set_same, get_or_append_left, length-map, map-set, set-append_left, set-append_right}
+use Rattle.counters.specs.Counters.{Counter, counter_number}
 use Rattle.hubs.specs.declared.hub.Hub.{Hub}
+use Rattle.machine.specs.Fields.{IsInUnitOrder}
 use Rattle.machine.specs.Machine.{MachineState}
 use Rattle.net.specs.declared.cycle.Cycle.{Cycle}
 use Rattle.net.specs.declared.cycle.Point.{Point}
-use Rattle.served_runs.specs.Units.{IsWhole, SensesOne}
-use Rattle.served_units.proofs.AnyUnitKeeps.{any-keeps_number}
-use Rattle.served_units.proofs.Listed.{units_long}
-use Rattle.served_units.specs.AnyUnit.{AnyUnit, AreInOrder, any_number, any_sensed, last_units, unit_at, units_of}
+use Rattle.served_runs.specs.Units.{SensesOne}
+use Rattle.served_units.proofs.Listed.{units_in_order, units_long}
+use Rattle.served_units.specs.AnyUnit.{AnyUnit, any_sensed, last_units, unit_at, units_of}
 use Rattle.served_units.specs.AnyUnit.AnyUnit.{ComparingUnit, GroupUnit, SplitsUnit, StationsUnit, StorageUnit}
-use Rattle.storage_units.specs.Storage.{StorageState}
+use Rattle.storage_units.specs.Storage.{StorageState, storage_number}
 
 -- what stands for a unit that there is none of
 none : AnyUnit
 none = SplitsUnit (record {})
 
-module _ (machine : MachineState) (whole : IsWhole machine) where
+module _ (machine : MachineState) (ordered : IsInUnitOrder machine) where
   abbrev pub first_two : List AnyUnit
   first_two = StationsUnit machine.stations ∷ ComparingUnit machine.comparing ∷ []
 
+  many_groups : length machine.groups ≡ 32
+  many_groups = sym (length-map machine.groups counter_number) ∙ ap length ordered.groups
+
+  many_storage : length machine.storage ≡ 4
+  many_storage = sym (length-map machine.storage storage_number) ∙ ap length ordered.storage
+
   groups_long : length (map GroupUnit machine.groups) ≡ 32
-  groups_long = length-map machine.groups GroupUnit ∙ whole.groups
+  groups_long = length-map machine.groups GroupUnit ∙ many_groups
 
   storage_long : length (map StorageUnit machine.storage) ≡ 4
-  storage_long = length-map machine.storage StorageUnit ∙ whole.storage
+  storage_long = length-map machine.storage StorageUnit ∙ many_storage
 
   storage_on : List AnyUnit
   storage_on = map StorageUnit machine.storage ++ last_units machine
@@ -36,7 +41,7 @@ module _ (machine : MachineState) (whole : IsWhole machine) where
       → unit_at machine unit ≡ GroupUnit (slice_index_or machine.groups (unit - 3) d)
   unfolding storage_on none
   group_at unit d from to =
-      let low : unit - 3 < length machine.groups = omega (arith, from, to, whole.groups) in
+      let low : unit - 3 < length machine.groups = omega (arith, from, to, many_groups) in
       let low_too : unit - 3 < length (map GroupUnit machine.groups) = omega (arith, from, to, groups_long) in
       let place : unit - 1 - 2 ≡ unit - 3 = omega (arith, from) in
       get_or-append_right first_two (map GroupUnit machine.groups ++ storage_on) 2 (unit - 1) none refl (omega (arith, from))
@@ -49,7 +54,7 @@ module _ (machine : MachineState) (whole : IsWhole machine) where
       → unit_at machine unit ≡ StorageUnit (slice_index_or machine.storage (unit - 35) d)
   unfolding storage_on none
   storage_at unit d from to =
-      let low : unit - 35 < length machine.storage = omega (arith, from, to, whole.storage) in
+      let low : unit - 35 < length machine.storage = omega (arith, from, to, many_storage) in
       let low_too : unit - 35 < length (map StorageUnit machine.storage) = omega (arith, from, to, storage_long) in
       let place : unit - 1 - 2 - 32 ≡ unit - 35 = omega (arith, from) in
       get_or-append_right first_two (map GroupUnit machine.groups ++ storage_on) 2 (unit - 1) none refl (omega (arith, from))
@@ -118,7 +123,7 @@ module _ (machine : MachineState) (whole : IsWhole machine) where
       → SensesOne cycle point picture unit machine new
   unfolding none
   one_senses new cycle point picture unit from to set =
-      let long = units_long machine whole.ordered in
+      let long = units_long machine (units_in_order machine ordered) in
       let low : unit - 1 < length (units_of machine) = omega (arith, from, to, long) in
       record {
         own = ap (λ (units : List AnyUnit). slice_index_or units (unit - 1) none) set
@@ -128,16 +133,3 @@ module _ (machine : MachineState) (whole : IsWhole machine) where
             ∙ get_or-set_other (units_of machine) (unit - 1) (other - 1) (any_sensed (unit_at machine unit) cycle point picture) none
             (λ same. apart (omega (arith, same, from, apart)));
       }
-
-  -- and each still stands at its number
-  pub still_ordered : (new : MachineState) (cycle : Cycle) (point : Point) (picture : Hub → Bool) (unit : ℕ)
-      → units_of new ≡ slice_set (units_of machine) (unit - 1) (any_sensed (unit_at machine unit) cycle point picture)
-      → AreInOrder new
-  unfolding none
-  still_ordered new cycle point picture unit set =
-      ap (map any_number) set
-      ∙ map-set any_number (units_of machine) (unit - 1) (any_sensed (unit_at machine unit) cycle point picture)
-      ∙ ap (slice_set (map any_number (units_of machine)) (unit - 1)) (any-keeps_number (unit_at machine unit) cycle point picture)
-      ∙ sym (map-set any_number (units_of machine) (unit - 1) (unit_at machine unit))
-      ∙ ap (map any_number) (set-get_or (units_of machine) (unit - 1) none)
-      ∙ whole.ordered

@@ -1,12 +1,11 @@
 -- The contacts of the balance positions of a group are those of its unit.
-use Rattle.std.proofs.Common.{◌≡◌, ◌∙◌, ap, sym, refl, ℕ, zero, suc, ◌+◌, ◌-◌, ◌*◌, ◌≤◌, ◌&&◌, ◌||◌, not, Bool, true, false, Option, Some, None, option_map, arith, if◌then◌else◌}
+use Rattle.std.proofs.Common.{◌≡◌, ◌∙◌, ap, sym, refl, ℕ, ◌+◌, ◌-◌, ◌*◌, ◌≤◌, ◌&&◌, ◌||◌, not, Bool, true, false, Option, Some, None, option_map, arith, if◌then◌else◌}
 use Rattle.std.specs.Prelude.{◌==◌, nat_lt}
 use Rattle.std.proofs.lemmas.Bool.{false≢true}
 use Rattle.std.proofs.lemmas.Bool.Decides.{nat_tests}
 use Rattle.counters.proofs.ControlHubs.{group_place-unit}
 use Rattle.counters.specs.Counters.{Counter, counter_closes, counter_number, group_of_unit, wheels_in}
 use Rattle.counters.specs.Wheels.{all_nines}
-use Rattle.hub_table.proofs.PlaceLemmas.{width_place-range}
 use Rattle.hub_table.specs.Places.{group_place, part_place, up_to, width_place}
 use Rattle.hub_table.specs.Ranges.{is_within}
 use Rattle.hubs.specs.declared.hub.Group.{Group}
@@ -18,7 +17,7 @@ use Rattle.net.specs.HubSets.{is_hub, is_same_number}
 use Rattle.net.specs.Panel.{unit_after, unit_of}
 use Rattle.net.specs.declared.cycle.Cycle.{Cycle}
 use Rattle.net.specs.declared.cycle.Point.{Point}
-use Rattle.served_runs.specs.Contacts.{balances_to, has_before}
+use Rattle.served_runs.specs.Contacts.{balances_to}
 
 -- the unit of the group that is a unit
 pub unit_of-named : (unit : ℕ) → 3 ≤ unit → unit ≤ 34 → unit_of (group_of_unit unit) ≡ unit

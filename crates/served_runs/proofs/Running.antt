@@ -3,18 +3,16 @@ use Rattle.std.proofs.Common.{◌≡◌, ◌∙◌, ap, sym, refl, ℕ, ◌+◌,
 use Rattle.machine.proofs.FewCycles.{IsSupplied, ahead, ahead-falls, still-supplied}
 use Rattle.machine.proofs.Keeps.{CycleRun-ends}
 use Rattle.machine.specs.Cycles.{CycleRun, line_of}
-use Rattle.machine.specs.Machine.{MachineState}
+use Rattle.machine.specs.Machine.{MachineState, machine_at_start}
 use Rattle.machine.specs.Runs.{InRun, MachineLines, RunsBy, cycle_due, made_ready, run_at_start}
 use Rattle.net.specs.declared.cycle.Cycle.{Cycle}
 use Rattle.page_text.specs.declared.placed_lines.placed_line.PlacedLine.{PlacedLine}
-use Rattle.served.specs.Orders.{unit_count}
-use Rattle.served.specs.Steps.{AreOver, Runs}
 use Rattle.served.proofs.FewRounds.{rounds_steps}
 use Rattle.served_runs.specs.Runs.{CycleInRounds, IsServedRun, RunsInRounds, no_counts, orders_from}
 use Rattle.served_runs.specs.declared.counts.Counts.{Counts}
-use Rattle.served_units.proofs.ServedRuns.{served_cycles_are, served_runs_print}
-use Rattle.served_units.specs.AnyUnit.{AnyUnit, AreInOrder, any_kind}
-use Rattle.served_units.specs.Runs.{ServedCycle, ServedLines}
+use Rattle.served_units.proofs.ServedRuns.{moved_ordered, ready_ordered, served_cycles_are, served_runs_print, stays_ordered}
+use Rattle.served_units.specs.AnyUnit.{AreInOrder, any_kind}
+use Rattle.served_units.specs.Runs.{ServedCycle}
 use Rattle.setups.specs.Wiring.{Wiring}
 
 -- a cycle in rounds is one by a schedule
@@ -70,23 +68,30 @@ pub start_ahead : (wiring : Wiring) (cards : List (List ℕ)) → ahead (run_at_
 start_ahead wiring [] = omega arith
 start_ahead wiring (card ∷ cards) = omega arith
 
--- A cycle leaves less to follow.
+-- the units stand in order at the start
+pub start_ordered : (wiring : Wiring) (cards : List (List ℕ)) → AreInOrder (run_at_start wiring cards).machine
+start_ordered wiring cards = moved_ordered (machine_at_start wiring) cards refl
+
+-- A cycle leaves less to follow, and the units in their order.
 pub record GoesOn (now : InRun) (ready : InRun) (new : MachineState) : Type 0 where
   pub falls : ahead (record { machine = new; hopper = ready.hopper }) < ahead now
   pub supplied : IsSupplied new
+  pub ordered : AreInOrder new
 
 pub goes_on : (wiring : Wiring) (service : List (List ℕ)) (cycle : Cycle) (now ready : InRun) (new : MachineState) (before after : Counts)
-    → made_ready cycle now ≡ ready → IsSupplied now.machine → cycle_due now.machine ≡ Some cycle → AreInOrder ready.machine
+    → made_ready cycle now ≡ ready → IsSupplied now.machine → cycle_due now.machine ≡ Some cycle → AreInOrder now.machine
     → CycleInRounds wiring service cycle ready.machine new before after → GoesOn now ready new
-goes_on wiring service cycle now ready new before after is supplied due =
-    subst
-    (λ (r : InRun). AreInOrder r.machine → CycleInRounds wiring service cycle r.machine new before after → GoesOn now r new) is
-    (λ ordered run.
-    let ran = cycle_ran wiring service cycle (made_ready cycle now).machine new before after ordered run in
-    let ends = (CycleRun-ends wiring cycle (made_ready cycle now).machine new ran).order in
+goes_on wiring service cycle now ready new before after is supplied due ordered =
+    subst (λ (r : InRun). CycleInRounds wiring service cycle r.machine new before after → GoesOn now r new) is
+    (λ run.
+    let old = (made_ready cycle now).machine in
+    let still = ready_ordered cycle now ordered in
+    let ran = cycle_ran wiring service cycle old new before after still run in
+    let ends = (CycleRun-ends wiring cycle old new ran).order in
     record {
       falls = ahead-falls cycle now new supplied due ends;
       supplied = still-supplied cycle now new supplied due ends;
+      ordered = stays_ordered wiring cycle old still new ran;
     })
 
 module _ (wiring : Wiring) (service cards : List (List ℕ)) where

@@ -1,5 +1,5 @@
 -- A cycle in rounds, as far as it has come.
-use Rattle.std.proofs.Common.{◌≡◌, ◌∙◌, ap, sym, refl, ℕ, suc, ◌+◌, ◌*◌, ◌<◌, ◌≤◌, inl, inr, List, [], ◌∷◌, map, subst, arith}
+use Rattle.std.proofs.Common.{◌≡◌, ◌∙◌, ap, sym, ℕ, suc, ◌+◌, ◌<◌, ◌≤◌, inl, inr, List, map, subst, arith}
 use Rattle.std.proofs.lemmas.Bool.{cases_eq}
 use Rattle.std.proofs.lemmas.Simd.{map-map}
 use Rattle.machine.specs.Machine.{MachineState, ended}
@@ -9,12 +9,12 @@ use Rattle.served.proofs.FewRounds.{IsAhead, ahead_none, over_after, round_ahead
 use Rattle.served.specs.Orders.{IsOrder}
 use Rattle.served.specs.Steps.{AreOver, Served, Starts}
 use Rattle.served.specs.Units.{IsUnit}
-use Rattle.served_runs.proofs.Taken.{RoundsAre, RoundsSoFar, rounds_more, rounds_none, rounds_of}
+use Rattle.served_runs.proofs.Taken.{RoundsSoFar, rounds_more, rounds_none, rounds_of}
 use Rattle.served_runs.specs.Runs.{CycleInRounds, order_of}
 use Rattle.served_runs.specs.Seen.{RoundIs}
 use Rattle.served_runs.specs.declared.counts.Counts.{Counts}
 use Rattle.served_units.proofs.Listed.{units_by_number, units_ended}
-use Rattle.served_units.specs.AnyUnit.{AnyUnit, AreInOrder, any_ended, any_kind, unit_at, unit_numbers, units_of}
+use Rattle.served_units.specs.AnyUnit.{AnyUnit, AreInOrder, any_ended, any_kind, unit_at, unit_numbers}
 use Rattle.setups.specs.Wiring.{Wiring}
 
 module _ (wiring : Wiring) (cycle : Cycle) (service : List (List ℕ)) (before : Counts) (units : ℕ → AnyUnit) where

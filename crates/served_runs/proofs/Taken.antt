@@ -1,10 +1,10 @@
 -- Steps, turns and rounds taken so far, with what was seen in them.
-use Rattle.std.proofs.Common.{◌≡◌, ◌∙◌, ◌↔◌, ap, sym, refl, ℕ, zero, suc, ◌+◌, ◌-◌, ◌<◌, ◌≤◌, true, false, inl, inr, List, [], ◌∷◌, subst, arith}
+use Rattle.std.proofs.Common.{◌≡◌, ◌∙◌, ◌↔◌, sym, refl, ℕ, suc, ◌+◌, ◌-◌, ◌≤◌, true, inl, inr, List, [], ◌∷◌, subst, arith}
 use Rattle.std.proofs.lemmas.Bool.{false≢true}
 use Rattle.net.specs.HubSets.{is_bit}
 use Rattle.net.specs.declared.cycle.Cycle.{Cycle}
 use Rattle.served.specs.Rounds.{AreStepsOf, Round, Rounds}
-use Rattle.served.specs.Steps.{AreOver, CanStep, Emits, HasEmitted, MaySense, Runs, Served, Step}
+use Rattle.served.specs.Steps.{AreOver, CanStep, Emits, HasEmitted, Runs, Served, Step}
 use Rattle.served.specs.Steps.Step.{emission, sensing}
 use Rattle.served.specs.Units.{IsUnit}
 use Rattle.served.specs.Waits.{WaitsFor}

@@ -1,5 +1,5 @@
 -- What stands inside a cycle, as the laws of units that run ahead see it.
-use Rattle.std.specs.Prelude.{◌≡◌, ℕ, Bool, false, List, [], slice_index_or}
+use Rattle.std.specs.Prelude.{ℕ, Bool, false, List, [], slice_index_or}
 use Rattle.hubs.specs.declared.hub.Hub.{Hub}
 use Rattle.net.specs.HubSets.{HubSet, has_hub}
 use Rattle.net.specs.Nets.{IsNetOf}

@@ -1,5 +1,4 @@
 pub mod Below
-pub mod Fields
 pub mod Units
 pub mod Contacts
 pub mod Course

@@ -9,7 +9,8 @@ ghost use Rattle.served.specs.Units.{all_close};
 ghost use Rattle.served_units.specs.AnyUnit.{any_kind, unit_at};
 
 use crate::sizes::size;
-use crate::units::Units;
+use crate::units::{close_unit, emit_unit, sense_unit};
+use machine::UnitSet;
 use net::{Contacts, Cycle, Net, POINTS, Picture};
 use waits::{UNITS, has_bit};
 
@@ -23,7 +24,7 @@ pub(crate) struct Panel {
 // What stands inside a cycle.
 #[derive(Drop)]
 pub(crate) struct Course {
-    pub(crate) units: Units,
+    pub(crate) units: UnitSet,
     // By the number of each unit, the place of the point to which it has come: 14 after the closing point. The number 0 is no unit's.
     places: [u8; UNITS + 1],
     // Whether it has emitted there.
@@ -50,7 +51,7 @@ impl Course {
     ghost use Rattle.setups.specs.Wiring.{Wiring};
 
     // The start of a cycle: all units have come to the control point, and none has emitted.
-    pub(crate) fn start(units: Units, cycle: Cycle) -> Self
+    pub(crate) fn start(units: UnitSet, cycle: Cycle) -> Self
         ensures { Starts any_kind cycle unit_count (unit_at units) (served_in result) }
     {
         let mut first = Contacts::new();
@@ -108,7 +109,7 @@ impl Course {
     {
         let place = self.places[unit as usize] as usize;
         let mut exits = self.exits[place];
-        self.units.emit(unit, cycle, POINTS[place], &mut exits);
+        emit_unit(&self.units, unit, cycle, POINTS[place], &mut exits);
         self.exits[place] = exits;
         self.emitted[unit as usize] = true;
     }
@@ -140,7 +141,7 @@ impl Course {
         let place = self.places[unit as usize] as usize;
         if place < 14 {
             let mut closed = self.closed[place];
-            self.units.close(unit, cycle, POINTS[place], &mut closed);
+            close_unit(&self.units, unit, cycle, POINTS[place], &mut closed);
             self.closed[place] = closed;
         }
     }
@@ -156,7 +157,7 @@ impl Course {
     {
         let place = self.places[unit as usize] as usize;
         let picture = self.picture(net, place);
-        self.units.sense(unit, cycle, POINTS[place], &picture);
+        sense_unit(&mut self.units, unit, cycle, POINTS[place], &picture);
         self.places[unit as usize] += 1;
         self.emitted[unit as usize] = false;
         self.come(cycle, unit);
@@ -200,10 +201,10 @@ impl Course {
 }
 
 // Closes the contacts of all units that are closed at the control point.
-fn close_all(units: &Units, cycle: Cycle, contacts: &mut Contacts)
+fn close_all(units: &UnitSet, cycle: Cycle, contacts: &mut Contacts)
     ensures { GainsHubs (all_close any_kind unit_count (unit_at units.now) cycle (point_at 0)) contacts.old contacts.new }
 {
     for unit in 1..=UNITS as u8 {
-        units.close(unit, cycle, POINTS[0], contacts);
+        close_unit(units, unit, cycle, POINTS[0], contacts);
     }
 }

@@ -8,18 +8,18 @@ ghost use Rattle.setups.specs.Wiring.{Wiring};
 
 use crate::counts::Counts;
 use crate::course::{Course, Panel};
-use crate::units::Units;
+use machine::UnitSet;
 use net::Cycle;
 use served::Service;
 
 // A cycle, in rounds until it is over for all units; then each ends it.
 pub(crate) fn serve_cycle(
-    units: Units,
+    units: UnitSet,
     panel: &Panel,
     cycle: Cycle,
     service: &Service,
     before: Counts,
-) -> (Units, Counts)
+) -> (UnitSet, Counts)
     requires panel { (wiring : Wiring) × IsPanelOf wiring panel.now }
     requires rounds { before.rounds + most_rounds < 2 ^ 64 }
     requires seen { before.seen + most_seen < 2 ^ 64 }
@@ -35,8 +35,6 @@ pub(crate) fn serve_cycle(
         counts.rounds += 1;
     }
     let mut units = course.units;
-    // That the units are whole is told here: it spares a clause in each of their calls.
-    units.known();
     units.end_cycle(cycle);
     (units, counts)
 }

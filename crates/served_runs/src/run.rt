@@ -8,10 +8,10 @@ ghost use Rattle.served_runs.specs.Runs.{IsServedRun};
 
 use crate::counts::Counts;
 use crate::course::Panel;
+use crate::feed::{make_ready, move_cards};
 use crate::rounds::serve_cycle;
-use crate::units::Units;
 use card_code::Card;
-use machine::append_line;
+use machine::UnitSet;
 use net::Net;
 use page_text::placed_lines::PlacedLine;
 use served::Service;
@@ -51,16 +51,14 @@ pub fn simulate_served(
     let net = Net::of(alloc, setup)?;
     let waits = all_waits(&net);
     let panel = Panel { net, waits };
-    let mut units = Units::new(setup);
-    let mut hopper = units.move_cards(cards);
+    let mut units = UnitSet::new(setup);
+    let mut hopper = move_cards(&mut units, cards);
     let mut counts = Counts { rounds: 0, seen: 0 };
     let mut lines = Vec::new(alloc);
     while let Some(cycle) = units.cycle_due() {
-        hopper = units.make_ready(cycle, hopper);
-        // That the units are whole is told here: it spares a clause in each of their calls.
-        units.known();
+        hopper = make_ready(&mut units, cycle, hopper);
         (units, counts) = serve_cycle(units, &panel, cycle, service, counts);
-        append_line(&mut lines, units.placed_line())?;
+        units.append_line(&mut lines)?;
     }
     let Counts { rounds, seen } = counts;
     Ok(Served {

@@ -5,9 +5,11 @@ use Rattle.std.proofs.lemmas.Bool.{false≢true, or_cases}
 use Rattle.std.proofs.lemmas.List.{ext_get_or, get_or-map, length-map}
 use Rattle.std.proofs.lemmas.List.Folds.{list_any_at}
 use Rattle.std.proofs.lemmas.List.FromFn.{get_or-map-range_with_len, get_or-range_with_len, length-map-range_with_len, length-range_with_len}
-use Rattle.machine.specs.Below.counters.Counters.{Counter, counter_ended, counter_sensed}
+use Rattle.machine.specs.Below.counters.Counters.{Counter, counter_ended, counter_number, counter_sensed}
 use Rattle.machine.specs.Below.hubs.declared.hub.Hub.{Hub}
-use Rattle.machine.specs.Machine.{MachineState, closes, emits, ended, sensed}
+use Rattle.machine.proofs.UnitOrder.{numbers-kept}
+use Rattle.machine.specs.Fields.{IsInUnitOrder}
+use Rattle.machine.specs.Machine.{MachineState, closes, emits, ended, group_units, sensed}
 use Rattle.machine.specs.Below.net.declared.cycle.Cycle.{Cycle}
 use Rattle.machine.specs.Below.net.declared.cycle.Point.{Point}
 use Rattle.served.proofs.SomeUnit.{some_unit-found, some_unit-holds}
@@ -15,7 +17,7 @@ use Rattle.served.specs.Units.{IsUnit, all_close, all_emit, some_unit}
 use Rattle.served_units.proofs.AnyUnitKeeps.{any-ends_with_number, any-keeps_number}
 use Rattle.served_units.specs.AnyUnit.{AnyUnit, AreInOrder, any_closes, any_emits, any_ended, any_kind, any_number, any_sensed, last_units, unit_at, unit_numbers, units_of}
 use Rattle.served_units.specs.AnyUnit.AnyUnit.{CarriageUnit, ComparingUnit, EmittersUnit, GroupUnit, IndicationUnit, PilotsUnit, ProgramUnit, SplitsUnit, StationsUnit, StorageUnit, WheelsUnit}
-use Rattle.machine.specs.Below.storage_units.Storage.{StorageState, storage_ended, storage_sensed}
+use Rattle.machine.specs.Below.storage_units.Storage.{StorageState, storage_ended, storage_number, storage_sensed}
 
 -- what changes units of one type changes them in a list
 changed-map : {A : Type 0} (made : A → AnyUnit) (one : A → A) (change : AnyUnit → AnyUnit) → ((a : A) → change (made a) ≡ made (one a))
@@ -61,27 +63,38 @@ units_ended machine cycle =
     (λ group. counter_ended group cycle) (λ storage. storage_ended storage cycle)
     (λ state. refl) (λ state. refl) (last_units machine)))
 
--- what keeps each number keeps the order
-numbers-kept : (change : AnyUnit → AnyUnit) → ((unit : AnyUnit) → any_number (change unit) ≡ any_number unit)
-    → (units : List AnyUnit) → map any_number (map change units) ≡ map any_number units
-numbers-kept change keeps [] = refl
-numbers-kept change keeps (unit ∷ units) =
-    let rest = numbers-kept change keeps units in
-    λ i. keeps unit i ∷ rest i
-
+-- a machine stays in order
 pub sensed-in_order : (machine : MachineState) (cycle : Cycle) (point : Point) (picture : Hub → Bool)
     → AreInOrder machine → AreInOrder (sensed machine cycle point picture)
 sensed-in_order machine cycle point picture ordered =
     ap (map any_number) (units_sensed machine cycle point picture)
-    ∙ numbers-kept (λ unit. any_sensed unit cycle point picture)
+    ∙ numbers-kept any_number (λ unit. any_sensed unit cycle point picture)
     (λ unit. any-keeps_number unit cycle point picture) (units_of machine)
     ∙ ordered
 
 pub ended-in_order : (machine : MachineState) (cycle : Cycle) → AreInOrder machine → AreInOrder (ended machine cycle)
 ended-in_order machine cycle ordered =
     ap (map any_number) (units_ended machine cycle)
-    ∙ numbers-kept (λ unit. any_ended unit cycle) (λ unit. any-ends_with_number unit cycle) (units_of machine)
+    ∙ numbers-kept any_number (λ unit. any_ended unit cycle) (λ unit. any-ends_with_number unit cycle) (units_of machine)
     ∙ ordered
+
+-- the units of a machine whose groups and storage units stand in order all do
+pub units_in_order : (machine : MachineState) → IsInUnitOrder machine → AreInOrder machine
+units_in_order machine ordered =
+    ap (λ (numbers : List ℕ). 1 ∷ 2 ∷ numbers)
+    (listed GroupUnit counter_number (λ group. refl) machine.groups (map StorageUnit machine.storage ++ last_units machine)
+    ∙ ap (λ (numbers : List ℕ). numbers ++ map any_number (map StorageUnit machine.storage ++ last_units machine)) ordered.groups
+    ∙ ap (λ (numbers : List ℕ). group_units ++ numbers)
+    (listed StorageUnit storage_number (λ storage. refl) machine.storage (last_units machine)
+    ∙ ap (λ (numbers : List ℕ). numbers ++ map any_number (last_units machine)) ordered.storage))
+  where
+    listed : {A : Type 0} (made : A → AnyUnit) (number : A → ℕ) → ((a : A) → any_number (made a) ≡ number a)
+        → (units : List A) (others : List AnyUnit)
+        → map any_number (map made units ++ others) ≡ map number units ++ map any_number others
+    listed made number same [] others = refl
+    listed made number same (unit ∷ units) others =
+        let rest = listed made number same units others in
+        λ i. same unit i ∷ rest i
 
 -- a machine in order has 45 units
 pub units_long : (machine : MachineState) → AreInOrder machine → length (units_of machine) ≡ 45

@@ -143,7 +143,7 @@ module _ (wiring : Wiring) (cycle : Cycle) (old : MachineState) (ordered : AreIn
             ∙ sym (same_ends goes);
       }
 
-  stays_ordered : (new : MachineState) → CycleRun wiring cycle old new → AreInOrder new
+  pub stays_ordered : (new : MachineState) → CycleRun wiring cycle old new → AreInOrder new
   stays_ordered new run =
       subst AreInOrder (CycleRun-one wiring cycle old (ended (machine_before 14) cycle) new cycle_at_once run)
       (ended-in_order (machine_before 14) cycle (before_ordered 14))
@@ -153,12 +153,12 @@ served_cycles_are wiring cycle old new ordered =
     (cycle_of_served wiring cycle old ordered new, served_of_cycle wiring cycle old ordered new)
 
 -- cards that move on leave the units in their order
-moved_ordered : (machine : MachineState) (cards : List (List ℕ)) → AreInOrder machine
+pub moved_ordered : (machine : MachineState) (cards : List (List ℕ)) → AreInOrder machine
     → AreInOrder (cards_moved machine cards).machine
 moved_ordered machine [] ordered = ordered
 moved_ordered machine (card ∷ cards) ordered = ordered
 
-ready_ordered : (cycle : Cycle) (run : InRun) → AreInOrder run.machine → AreInOrder (made_ready cycle run).machine
+pub ready_ordered : (cycle : Cycle) (run : InRun) → AreInOrder run.machine → AreInOrder (made_ready cycle run).machine
 ready_ordered RunIn run ordered = ordered
 ready_ordered Card run ordered = moved_ordered run.machine run.hopper ordered
 ready_ordered (Prog level ordinal) run ordered = ordered

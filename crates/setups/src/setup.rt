@@ -185,6 +185,7 @@ impl Setup {
         ensures wires { IsLawfulWiring self.now }
         ensures form { IsCarriageTape self.now.tape }
     {
+        // Read for the proof alone: it saves each reader of a setup a test of its wires and of its form.
         let _tape = self.tape.known();
         self
     }

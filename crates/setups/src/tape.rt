@@ -95,6 +95,7 @@ impl Tape {
         ensures value { result.now ≡ self.now }
         ensures form { IsCarriageTape self.now }
     {
+        // Read for the proof alone: it saves each reader of a tape a test of its form.
         let _lines = self.lines;
         self
     }

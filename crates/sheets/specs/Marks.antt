@@ -4,14 +4,11 @@ use Rattle.std.specs.List.{flat_map}
 use Rattle.chart_rules.specs.Below.charts.Field.{sign_column}
 use Rattle.chart_rules.specs.Below.charts.Name.{name_text}
 use Rattle.chart_rules.specs.Below.charts.declared.statement.Field.{Field}
-
--- a byte as it is shown: a question mark stands for one that is no character of ASCII, or doesn't print
-abbrev pub shown_byte : ℕ → ℕ
-shown_byte byte = if nat_le 32 byte && nat_lt byte 127 then byte else 63
+use Rattle.program_io.specs.Printable.{printable}
 
 -- the front of a line, as much of it as a card has columns
 abbrev pub shown_line : List ℕ → List ℕ
-shown_line line = map shown_byte (take 80 line)
+shown_line line = map printable (take 80 line)
 
 -- whether a column is a sign column, if there is one
 abbrev pub is_sign_at : (column : ℕ) → Option ℕ → Bool

@@ -1,6 +1,6 @@
 //! A line of a deck as it stands, with a mark under one of its columns.
 
-ghost use Rattle.std.specs.Prelude.{◌≡◌, ◌++◌, OnOk, map};
+ghost use Rattle.std.specs.Prelude.{◌≡◌, ◌++◌, OnOk};
 ghost use Rattle.std.specs.List.{flat_map};
 ghost use Rattle.chart_rules.specs.Below.line_rules.FieldRules.Fields.{fields_of};
 ghost use Rattle.sheets.specs.Marks as marks;
@@ -9,25 +9,9 @@ use crate::runs::write_run;
 use bad_columns::front_of;
 use chart_rules::Chart;
 use charts::Field;
+use program_io::write_printable;
 use std::io;
 use std::io::Write;
-
-// A byte as it is shown.
-fn shown_byte(byte: u8) -> u8
-    ensures { result ≡ marks.shown_byte byte }
-{
-    if 32 <= byte && byte < 127 { byte } else { b'?' }
-}
-
-// Bytes as they are shown.
-fn write_shown(text: &mut Vec<u8>, bytes: &[u8]) -> io::Result<()>
-    ensures { OnOk result (text.new.items ≡ text.old.items ++ map marks.shown_byte bytes.now) }
-{
-    for byte in bytes {
-        text.push(shown_byte(*byte))?;
-    }
-    Ok(())
-}
 
 // Whether a field reads a column: one of its own, or that of its sign.
 fn reads_column(field: &Field, column: u32) -> bool
@@ -87,7 +71,7 @@ pub fn write_marked_line(
 ) -> io::Result<()>
     ensures { OnOk result (text.new.items ≡ text.old.items ++ marks.marked_line line.now column (fields_of chart.now.lines)) }
 {
-    write_shown(text, front_of(line))?;
+    write_printable(text, front_of(line))?;
     text.write_all(b"\n")?;
     write_column_mark(text, column, chart.fields())
 }

@@ -14,7 +14,7 @@ use Rattle.page_text.specs.declared.placed_lines.placed_line.PlacedLine.{PlacedL
 use Rattle.setups.specs.Wiring.{Wiring}
 use Rattle.show_page.specs.ShownLines.Shown.{AreShown}
 use Rattle.page_sections.specs.WheelSections.Sections.{told_sections}
-use Rattle.page_sections.specs.WheelSections.Told.{AreTold, IsTold, printed_places}
+use Rattle.page_sections.specs.WheelSections.ToldWheels.{AreTold, IsTold, printed_places}
 use Rattle.page_sections.specs.declared.wheel_sections.told.ToldWheel.{ToldWheel}
 use Rattle.page_sections.specs.WireSections.Helper.{GainsWireSections}
 use Rattle.page_links.specs.declared.shown.ShownRun.{ShownRun}

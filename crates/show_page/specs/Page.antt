@@ -35,7 +35,7 @@ use Rattle.traces.specs.declared.parts.TracePart.{TracePart}
 use Rattle.wheel_ledgers.specs.Totals.{totals_in}
 use Rattle.wheel_ledgers.specs.declared.chart_totals.TitledAccount.{TitledAccount}
 use Rattle.page_sections.specs.WheelSections.Sections.{told_sections}
-use Rattle.page_sections.specs.WheelSections.Told.{AreTold, printed_places}
+use Rattle.page_sections.specs.WheelSections.ToldWheels.{AreTold, printed_places}
 use Rattle.page_sections.specs.declared.wheel_sections.told.ToldWheel.{ToldWheel}
 use Rattle.page_sections.specs.WireSections.Sections.{AreWireSections}
 use Rattle.wiring_text.specs.declared.statement.Version.{Version}

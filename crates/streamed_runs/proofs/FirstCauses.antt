@@ -10,7 +10,7 @@ use Rattle.card_code.specs.MostCards.{most_cards}
 use Rattle.charts.specs.Chart.{Chart}
 use Rattle.report.proofs.FollowedDecks.FitSoFar.{first_told}
 use Rattle.report.specs.FollowedDecks.FitSoFar.{misfits_of_last}
-use Rattle.misfits.specs.Told.{told}
+use Rattle.misfits.specs.ToldMisfits.{told}
 use Rattle.misfits.specs.declared.misfit.Misfit.{Misfit as Found}
 use Rattle.report.specs.Misfits.{first_of, misfits}
 use Rattle.streamed_runs.specs.Laws.{MisfitsAreTheDecks}

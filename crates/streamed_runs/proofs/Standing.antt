@@ -16,7 +16,7 @@ use Rattle.machine.specs.Machine.{MachineState, machine_at_start}
 use Rattle.machine.specs.Runs.{MachineLines}
 use Rattle.machine.proofs.Order.{MachineLines-in_order}
 use Rattle.misfits.specs.OpenSums.{Sums}
-use Rattle.misfits.specs.Told.{told}
+use Rattle.misfits.specs.ToldMisfits.{told}
 use Rattle.misfits.specs.declared.misfit.Misfit.{Misfit as Found}
 use Rattle.page_text.specs.Pages.{Pages}
 use Rattle.page_writer.specs.Open.{Open}

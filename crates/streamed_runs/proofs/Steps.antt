@@ -20,7 +20,7 @@ use Rattle.machine.specs.Gains.{GainsFeed}
 use Rattle.machine.specs.Machine.{MachineState, machine_at_start}
 use Rattle.machine.specs.Running.{IsStarted}
 use Rattle.misfits.specs.OpenSums.{AreSumsOf, Sums}
-use Rattle.misfits.specs.Told.{told}
+use Rattle.misfits.specs.ToldMisfits.{told}
 use Rattle.misfits.specs.declared.misfit.Misfit.{Misfit as Found}
 use Rattle.net.specs.Nets.{IsNetOf}
 use Rattle.page_writer.specs.Added.{added_all, line_after, page_after}

@@ -7,7 +7,7 @@ use Rattle.line_rules.specs.FieldRules.Fields.{fields_of}
 use Rattle.chart_rules.specs.ValidCard.{IsFirstInvalid, fault_number}
 use Rattle.chart_rules.specs.declared.card.CardFault.{CardFault}
 use Rattle.report.specs.Misfits.{first_of, misfits}
-use Rattle.misfits.specs.Told.{told}
+use Rattle.misfits.specs.ToldMisfits.{told}
 use Rattle.streamed_runs.specs.Reading.{HasRead}
 use Rattle.streamed_runs.specs.declared.fault.StreamCause.{StreamCause}
 use Rattle.streamed_runs.specs.declared.fault.StreamCause.TheVariants as cause

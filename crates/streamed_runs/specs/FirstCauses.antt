@@ -4,7 +4,7 @@ use Rattle.card_code.specs.Deck.{Deck}
 use Rattle.charts.specs.Chart.{Chart}
 use Rattle.charts.specs.declared.chart.Line.{Line}
 use Rattle.report.specs.FollowedDecks.FitSoFar.{FitSoFar, misfits_of_last}
-use Rattle.misfits.specs.Told.{told}
+use Rattle.misfits.specs.ToldMisfits.{told}
 use Rattle.misfits.specs.declared.misfit.Misfit.{Misfit as Found}
 use Rattle.report.specs.Misfits.{first_of}
 use Rattle.streamed_runs.specs.declared.fault.StreamCause.{StreamCause}

@@ -10,7 +10,7 @@ use Rattle.machine.specs.Machine.{MachineState, machine_at_start}
 use Rattle.machine.specs.Runs.{MachineLines}
 use Rattle.page_text.specs.PlacedLines.InOrder.{IsInOrder}
 use Rattle.page_text.specs.declared.placed_lines.placed_line.PlacedLine.{PlacedLine}
-use Rattle.misfits.specs.Told.{told}
+use Rattle.misfits.specs.ToldMisfits.{told}
 use Rattle.misfits.specs.declared.misfit.Misfit.{Misfit as Found}
 use Rattle.report.specs.Misfits.{first_of, misfits}
 use Rattle.report.specs.Totals.{Fits}

@@ -9,7 +9,7 @@ ghost use Rattle.report.specs.FollowedDecks.FitSoFar.{misfits_of_last};
 ghost use Rattle.machine.specs.Gains.{GainsFeed};
 ghost use Rattle.machine.specs.Running.{IsStarted};
 ghost use Rattle.misfits.specs.OpenSums.{AreSumsOf};
-ghost use Rattle.misfits.specs.Told.{told};
+ghost use Rattle.misfits.specs.ToldMisfits.{told};
 ghost use Rattle.report.specs.Breaks.{no_cards};
 ghost use Rattle.report.specs.Misfits.{first_of};
 ghost use Rattle.streamed_runs.specs.Causes.{HasCause};

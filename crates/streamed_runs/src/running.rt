@@ -101,7 +101,7 @@ pub fn stream_deck<S: Source + Drop, W: Sink + Drop>(
     ensures same_source { S.borrow result.source ≡ S.borrow source }
     ensures same_sink { W.borrow result.sink ≡ W.borrow sink }
 {
-    // What is known of the lines of every chart is told with them.
+    // What is known of the lines of every chart is told with them: that saves another check of the chart.
     let _lines = chart.lines();
     let mut cards = CardLines::new(source);
     let mut pages = PageWriter::new(sink, u32::from(setup.tape().lines()));
@@ -142,11 +142,12 @@ pub fn run_stream<S: Source, W: Sink>(
     ensures read { IfErr result (λ fault. (line : ℕ) → fault.cause ≡ cause.Card (read.Read line) → S.has_failed source.new ≡ true) }
     ensures write { IfErr result (λ fault. fault.cause ≡ cause.Write → W.has_failed sink.new ≡ true) }
 {
-    // What is known of the lines of every chart is told with them.
+    // What is known of the lines of every chart is told with them: that saves another check of the chart.
     let _lines = chart.lines();
     let mut cards = CardLines::new(source);
     let mut pages = PageWriter::new(sink, u32::from(setup.tape().lines()));
     let count = run_pages(alloc, chart, setup, &mut cards, &mut pages);
+    // What was lent is handed back, so that it is known what was read and written: that saves a caller to give both away.
     let _source = cards.into_source();
     let _sink = pages.into_sink();
     count

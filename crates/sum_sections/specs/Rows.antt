@@ -11,7 +11,7 @@ use Rattle.ledgers.specs.declared.entry.Entry.{Entry}
 use Rattle.ledgers.specs.declared.ledger.LeftOut.{LeftOut}
 use Rattle.markup.specs.Escapes.{escaped}
 use Rattle.page_links.specs.declared.shown.Shown.{Shown}
-use Rattle.wheel_ledgers.specs.Told.{words_told}
+use Rattle.wheel_ledgers.specs.ToldLedgers.{words_told}
 use Rattle.wheel_ledgers.specs.declared.chart_totals.TitledAccount.{TitledAccount}
 use Rattle.sum_sections.specs.Targets.{target_close, target_of, target_open}
 use Rattle.sum_sections.specs.declared.sums.PageSum.{PageSum}
@@ -44,8 +44,8 @@ unfoldable pub sum_cell : (positions : ℕ) → Entry → List ℕ
 sum_cell positions entry = codes "</td><td><code>" ++ escaped (sum_text positions entry) ++ codes "</code></td></tr>\n"
 
 -- a row
-unfoldable pub row_text : Shown → List PageSum → PageSum → Entry → List ℕ
-row_text shown sums sum entry =
+unfoldable pub entry_row : Shown → List PageSum → PageSum → Entry → List ℕ
+entry_row shown sums sum entry =
     from_cell shown sums sum.total entry ++ amount_cell sum.total entry ++ sum_cell sum.positions entry
 
 -- the row in place of the entries that are left out, if some are
@@ -57,9 +57,9 @@ gap_rows total left_out = if left_out.count == 0 then [] else gap_row total left
 
 -- all rows
 unfoldable pub table_front : Shown → List PageSum → PageSum → List ℕ
-table_front shown sums sum = codes "<table class=\"sum\">\n" ++ flat_map (row_text shown sums sum) sum.ledger.first
+table_front shown sums sum = codes "<table class=\"sum\">\n" ++ flat_map (entry_row shown sums sum) sum.ledger.first
 
 unfoldable pub table_text : Shown → List PageSum → PageSum → List ℕ
 table_text shown sums sum =
-    table_front shown sums sum ++ gap_rows sum.total sum.ledger.left_out ++ flat_map (row_text shown sums sum) sum.ledger.last
+    table_front shown sums sum ++ gap_rows sum.total sum.ledger.left_out ++ flat_map (entry_row shown sums sum) sum.ledger.last
     ++ codes "</table>\n"

@@ -4,8 +4,8 @@ ghost use Rattle.std.specs.Prelude.{◌≡◌, ◌++◌, codes, IfOk, OnOk};
 ghost use Rattle.std.specs.List.{flat_map};
 ghost use Rattle.std.specs.String.{string_bytes};
 ghost use Rattle.ledgers.specs.LedgerText.Entries.{gap_line, sum_text};
-ghost use Rattle.wheel_ledgers.specs.Told.{words_told};
-ghost use Rattle.sum_sections.specs.Rows.{amount_cell, amount_of, from_cell, from_text, gap_row, gap_rows, row_text, sum_cell, table_front, table_text};
+ghost use Rattle.wheel_ledgers.specs.ToldLedgers.{words_told};
+ghost use Rattle.sum_sections.specs.Rows.{amount_cell, amount_of, entry_row, from_cell, from_text, gap_row, gap_rows, sum_cell, table_front, table_text};
 
 use crate::sums::PageSum;
 use crate::targets::{target_of, write_target_close, write_target_open};
@@ -157,7 +157,7 @@ fn write_sum_cell(
     text.push_str("</code></td></tr>\n")
 }
 
-#[tactic(auto, unfolding(crate::specs::Rows::row_text))]
+#[tactic(auto, unfolding(crate::specs::Rows::entry_row))]
 // The row of an entry.
 fn write_row(
     alloc: Global,
@@ -167,7 +167,7 @@ fn write_row(
     sum: &PageSum,
     entry: &Entry,
 ) -> Result<(), AllocError>
-    ensures { OnOk result (string_bytes text.new ≡ string_bytes text.old ++ row_text shown sums.now sum.now entry.now) }
+    ensures { OnOk result (string_bytes text.new ≡ string_bytes text.old ++ entry_row shown sums.now sum.now entry.now) }
 {
     write_from(alloc, text, shown, sums, &sum.total, entry)?;
     write_amount_cell(alloc, text, &sum.total, entry)?;
@@ -184,7 +184,7 @@ fn write_rows(
     sum: &PageSum,
     entries: &[Entry],
 ) -> Result<(), AllocError>
-    ensures { OnOk result (string_bytes text.new ≡ string_bytes text.old ++ flat_map (row_text shown sums.now sum.now) entries.now) }
+    ensures { OnOk result (string_bytes text.new ≡ string_bytes text.old ++ flat_map (entry_row shown sums.now sum.now) entries.now) }
 {
     for entry in entries {
         write_row(alloc, text, shown, sums, sum, entry)?;

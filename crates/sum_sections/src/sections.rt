@@ -40,7 +40,7 @@ fn write_back(text: &mut String, sum: &PageSum) -> Result<(), AllocError>
 }
 
 // The name of the cycle that printed the figure.
-fn cycle_of(alloc: Global, found: FoundCycle) -> Result<Vec<u8>, AllocError>
+fn printing_cycle(alloc: Global, found: FoundCycle) -> Result<Vec<u8>, AllocError>
     ensures { IfOk result (λ words. words.items ≡ cycle_text found.cycle found.card) }
 {
     let mut words = Vec::new(alloc);
@@ -55,7 +55,7 @@ fn cycle_of(alloc: Global, found: FoundCycle) -> Result<Vec<u8>, AllocError>
 fn write_before(alloc: Global, text: &mut String, sum: &PageSum) -> Result<(), AllocError>
     ensures { OnOk result (string_bytes text.new ≡ string_bytes text.old ++ before_text sum.now) }
 {
-    let cycle = cycle_of(alloc, sum.found)?;
+    let cycle = printing_cycle(alloc, sum.found)?;
     text.push_str("</h2>\n<p>Counter ")?;
     push_escaped(text, &sum.groups)?;
     text.push_str(" before ")?;

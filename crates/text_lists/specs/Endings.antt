@@ -2,7 +2,7 @@
 use Rattle.std.specs.Prelude.{◌≡◌, ℕ, List, ◌∷◌, Option, ◌⊎◌, true, false, codes}
 use Rattle.std.specs.Io.KnownBytes.{Appends}
 use Rattle.fault_lists.specs.Endings.{AnswersOk, EndsListing, IsBrokenOff}
-use Rattle.faults.specs.Told.{wiring_told}
+use Rattle.faults.specs.ToldFaults.{wiring_told}
 use Rattle.faults.specs.declared.fault.Fault.{Fault}
 use Rattle.panel_guides.specs.Panels.{is_wiring_text}
 use Rattle.setups.specs.Wiring.{Wiring}

@@ -4,7 +4,7 @@ use Rattle.std.proofs.lemmas.Bool.{eqb-true, eq-eqb, and_parts, not-true}
 use Rattle.std.proofs.lemmas.Option.{same_Some}
 use Rattle.std.specs.List.{list_all, onto_first}
 use Rattle.tokens.specs.Tokens.{is_plain, is_inside, IsPlainToken, IsToken, IsApart, HasTokens, ended, spaced, led}
-use Rattle.tokens.specs.Dividing.{Place, between, in_plain, in_literal, closed, before, tokens_from, tokens_of}
+use Rattle.tokens.specs.Dividing.{TokenState, between, in_plain, in_literal, closed, before, tokens_from, tokens_of}
 
 -- the same line, and the same tokens
 has_same : {line other : List ℕ} {tokens others : List (List ℕ)} → line ≡ other → tokens ≡ others
@@ -43,7 +43,7 @@ record ClosedRest (line : List ℕ) (tokens : List (List ℕ)) : Type 0 where
   left : HasTokens line others
 
 -- the rest of a line from a place on
-abbrev IsRest : Place → List ℕ → List (List ℕ) → Type 0
+abbrev IsRest : TokenState → List ℕ → List (List ℕ) → Type 0
 IsRest between line tokens = HasTokens line tokens
 IsRest in_plain line tokens = PlainRest line tokens
 IsRest in_literal line tokens = LiteralRest line tokens
@@ -159,7 +159,7 @@ nothing_left tokens same = record {
 
 -- that what is read of these bytes are the tokens of them, from every place on
 abbrev IsRead : List ℕ → Type 0
-IsRead line = (place : Place) (tokens : List (List ℕ)) → tokens_from place line ≡ Some tokens → IsRest place line tokens
+IsRead line = (place : TokenState) (tokens : List (List ℕ)) → tokens_from place line ≡ Some tokens → IsRest place line tokens
 
 at_between : (b : ℕ) (bs : List ℕ) (tokens : List (List ℕ)) (x y : Bool) → eqb b 32 ≡ x → eqb b 39 ≡ y → IsRead bs
     → cond x (tokens_from between bs)

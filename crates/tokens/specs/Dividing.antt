@@ -5,15 +5,15 @@ use Rattle.std.specs.List.{onto_first}
 use denote.Ref.{Bor}
 
 -- where in a line a byte stands: between tokens, in a plain token, in a literal, or after its second apostrophe
-pub data Place : Type 0 where
-  between in_plain in_literal closed : Place
+pub data TokenState : Type 0 where
+  between in_plain in_literal closed : TokenState
 
 -- a token before the others
 abbrev pub before : List ℕ → List (List ℕ) → List (List ℕ)
 before token tokens = token ∷ tokens
 
 -- the tokens from a byte on, the first one being the rest of a token that is begun
-unfoldable pub tokens_from : Place → List ℕ → Option (List (List ℕ))
+unfoldable pub tokens_from : TokenState → List ℕ → Option (List (List ℕ))
 tokens_from between [] = Some []
 tokens_from between (b ∷ bs) =
     if b == 32 then tokens_from between bs

@@ -26,7 +26,7 @@ pub(crate) enum Control {
 }
 
 /// A counter group of a plan as a group of the panel.
-pub(crate) fn panel_group(group: CounterGroup) -> Group
+pub fn panel_group(group: CounterGroup) -> Group
     ensures { result ≡ panel_group group }
 {
     Group {

@@ -2,3 +2,4 @@ pub mod Pieces
 mod Running
 mod PartCycles
 mod PartRuns
+mod OneTrace

@@ -8,7 +8,7 @@ use Rattle.std.proofs.lemmas.List.FromFn.{length-map-range_with_len, map-range_w
 use Rattle.std.proofs.lemmas.Slice.Eq.{bytes_eq-Decides}
 use Rattle.std.specs.List.{flat_map, range_with_len}
 use Rattle.std.specs.Str.{bytes_eq}
-use Rattle.traces.specs.Told.{bracketed, digits_text}
+use Rattle.traces.specs.TracedUnits.{bracketed, digits_text}
 
 -- the piece of one thing more
 pub piece_more : {X : Type 0} (f : X → List ℕ) (old mid new : List ℕ) (things : List X) (place : ℕ) (thing : X) → place < length things

@@ -18,7 +18,7 @@ use Rattle.machine.proofs.FewCycles.{IsSupplied, ahead, ahead-falls, still-suppl
 use Rattle.machine.proofs.Keeps.{CycleRun-ends}
 use Rattle.traces.specs.Lines.{cycle_line, cycle_name, put_behind, units_told}
 use Rattle.traces.specs.Parts.{CyclesTo, ToldCycle, next}
-use Rattle.traces.specs.Told.{line_told}
+use Rattle.traces.specs.TracedUnits.{line_told}
 use Rattle.traces.specs.Traces.{TracedTo, begun, behind_cycle, card_in, more}
 use Rattle.traces.specs.Tracing.{HasTraced, TracesCycle, WritesTrace, in_run}
 

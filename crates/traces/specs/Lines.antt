@@ -8,7 +8,7 @@ use Rattle.net.specs.declared.cycle.Cycle.TheVariants.{RunIn, Card, Prog, Head}
 use Rattle.storage_units.specs.Storage.{StorageState, storage_ended}
 use Rattle.machine.specs.Cycles.{line_of}
 use Rattle.machine.specs.Machine.{MachineState, ended}
-use Rattle.traces.specs.Told.{group_told, line_told, pilots_told, storage_told}
+use Rattle.traces.specs.TracedUnits.{group_told, line_told, pilots_told, storage_told}
 
 -- which cycle: of a card cycle the number of its card, from 1; of a program cycle its level and which of its three cycles it is
 abbrev pub cycle_name : Cycle → ℕ → List ℕ

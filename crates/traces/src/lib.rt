@@ -5,6 +5,7 @@
 #![tactic(auto)]
 
 mod groups;
+pub mod laws;
 mod lines;
 mod parts;
 mod places;

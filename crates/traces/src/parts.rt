@@ -4,6 +4,7 @@ ghost use Rattle.std.specs.Prelude.{◌≡◌, ◌≤◌, ◌<◌, ◌+◌, ◌^
 ghost use Rattle.card_code.specs.MostCards.{most_cards};
 ghost use Rattle.traces.specs.Listing.{IsBounded, TakesCycle};
 ghost use Rattle.traces.specs.Parts.{IsPartOf, IsTracePart};
+ghost use Rattle.traces.specs.declared.parts.CycleChoice.{CycleChoice};
 
 use crate::tracing::{card_in, make_ready, move_on, run_cycle};
 use card_code::Card;
@@ -40,11 +41,10 @@ pub struct TracePart {
 }
 
 // The part of a trace before any cycle.
-fn no_cycles(alloc: Global, choice: CycleChoice) -> TracePart
-    ensures part { IsPartOf choice [] result }
+fn no_cycles(alloc: Global) -> TracePart
+    ensures part { (choice : CycleChoice) → IsPartOf choice [] result }
     ensures lines { result.lines ≡ 0 }
 {
-    let _choice = choice;
     TracePart {
         before: 0,
         all: 0,
@@ -108,7 +108,7 @@ pub fn trace_part(
     let mut machine = SteppedMachine::new(alloc, setup)?;
     let mut told = Vec::new(alloc);
     let mut line = Vec::new(alloc);
-    let mut part = no_cycles(alloc, choice);
+    let mut part = no_cycles(alloc);
     let mut hopper = move_on(&mut machine, cards);
     let mut card = 0;
     while let Some(cycle) = machine.cycle_due() {

@@ -2,7 +2,7 @@
 
 ghost use Rattle.std.specs.Prelude.{◌≡◌, ◌++◌, OnOk, option_to_list};
 ghost use Rattle.std.specs.List.{flat_map};
-ghost use Rattle.traces.specs.Told.{bracketed, line_told, pilot_told, pilots_told};
+ghost use Rattle.traces.specs.TracedUnits.{bracketed, line_told, pilot_told, pilots_told};
 
 use numerals::write_numbered;
 use page_text::placed_lines::PlacedLine;

@@ -6,7 +6,7 @@ ghost use Rattle.card_code.specs.Rows.{rows};
 ghost use Rattle.print_unit.specs.ZeroControl.{received_set};
 ghost use Rattle.storage_units.specs.Storage.{holds, storage_ended};
 ghost use Rattle.traces.specs.Lines.{storages_told};
-ghost use Rattle.traces.specs.Told.{bracketed, column_character, storage_told, storage_text};
+ghost use Rattle.traces.specs.TracedUnits.{bracketed, column_character, storage_told, storage_text};
 
 use crate::places::write_bracketed;
 use card_code::{Column, ROWS};

@@ -13,7 +13,7 @@ use Rattle.ledgers.specs.LedgerText.Entries.{Words}
 use Rattle.ledgers.specs.LedgerText.Tellings.{ledger_text}
 use Rattle.wheel_ledgers.specs.Figures.{printed_text}
 use Rattle.wheel_ledgers.specs.Printed.{place_printed}
-use Rattle.wheel_ledgers.specs.Told.{IsFigureText, IsPlaceText, IsTextFor, TellsLedger, account_told, words_told}
+use Rattle.wheel_ledgers.specs.ToldLedgers.{IsFigureText, IsPlaceText, IsTextFor, TellsLedger, account_told, words_told}
 use Rattle.wheel_ledgers.specs.declared.chart_totals.TitledAccount.{TitledAccount}
 
 -- the account that is told for a place is on the panel

@@ -8,19 +8,19 @@ use Rattle.hubs.specs.declared.hub.Hub.{Hub}
 use Rattle.ledgers.specs.Running.{PlacesLine}
 use Rattle.ledgers.specs.declared.found.FoundCycle.{FoundCycle}
 use Rattle.setups.specs.Wiring.{Wiring}
-use Rattle.wheel_ledgers.specs.Resting.{AreTexts, IsBasisText, TellsBasis, is_printed_of, more}
-use Rattle.wheel_ledgers.specs.Told.{IsPlaceText}
+use Rattle.wheel_ledgers.specs.Resting.{ArePlaceTexts, IsBasisText, TellsBasis, is_printed_of, more}
+use Rattle.wheel_ledgers.specs.ToldLedgers.{IsPlaceText}
 use Rattle.wheel_ledgers.specs.Totals.{find_total}
 use Rattle.wheel_ledgers.specs.declared.chart_totals.TitledAccount.{TitledAccount}
 
 -- one ledger more
 pub one_more : (wiring : Wiring) (cards : List (List ℕ)) (totals : List TitledAccount) (ends : ℕ) (found : FoundCycle)
     (ways : List (Option (Vec Hub Global))) (place : ℕ) (old text new : List ℕ)
-    → AreTexts wiring cards totals ends found ways place old → is_printed_of ways place ≡ true
+    → ArePlaceTexts wiring cards totals ends found ways place old → is_printed_of ways place ≡ true
     → IsPlaceText wiring cards ends found (find_total totals place) place text → new ≡ old ++ text
-    → AreTexts wiring cards totals ends found ways (place + 1) new
+    → ArePlaceTexts wiring cards totals ends found ways (place + 1) new
 one_more wiring cards totals ends found ways place old text new are printed is put =
-    subst (λ (all : List ℕ). AreTexts wiring cards totals ends found ways (place + 1) all) (sym put) (more place old text are printed is)
+    subst (λ (all : List ℕ). ArePlaceTexts wiring cards totals ends found ways (place + 1) all) (sym put) (more place old text are printed is)
 
 -- all of them, for a wheel that is explained, of the line that was found
 pub tells_basis : (wiring : Wiring) (cards : List (List ℕ)) (totals : List TitledAccount) (ends page line wheel : ℕ) (told : Explanation)

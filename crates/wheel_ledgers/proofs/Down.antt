@@ -21,7 +21,7 @@ use Rattle.ledgers.specs.declared.read_outs.ReadOuts.{ReadOuts}
 use Rattle.net.specs.declared.cycle.Cycle.TheVariants.{RunIn}
 use Rattle.setups.specs.Wiring.{Wiring}
 use Rattle.wheel_ledgers.specs.Lower.{IsAsked}
-use Rattle.wheel_ledgers.specs.Told.{words_told}
+use Rattle.wheel_ledgers.specs.ToldLedgers.{words_told}
 use Rattle.wheel_ledgers.specs.Totals.{AreAccounts, find_total}
 use Rattle.wheel_ledgers.specs.Whole.{AreDown, AreTold, AreToldFrom, IsWholeText, TellsAll, TellsWhole, all_told, is_among, ledger_asked, lower_told, next_told, none_told, one_told, with_lower, with_one}
 use Rattle.wheel_ledgers.specs.declared.chart_totals.TitledAccount.{TitledAccount}

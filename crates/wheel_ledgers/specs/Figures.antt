@@ -50,13 +50,13 @@ emitter_to wiring wheel (suc emitter) = row_to wiring (suc emitter) wheel 13 || 
 
 -- A character of a literal stands on a wheel: an emitter is wired to it, and it is no part of an amount, neither a point nor linked to the
 -- wheel before it by zero control.
-unfoldable pub is_literal : Wiring → (wheel character : ℕ) → Bool
-is_literal wiring wheel character = emitter_to wiring wheel 8 && not (nat_eq character 46 || is_plugged wiring (Link wheel))
+unfoldable pub is_of_literal : Wiring → (wheel character : ℕ) → Bool
+is_of_literal wiring wheel character = emitter_to wiring wheel 8 && not (nat_eq character 46 || is_plugged wiring (Link wheel))
 
 -- the number of another group, a text or a literal is wired to a wheel, and the number of the account is not
 unfoldable pub is_other : Wiring → Account → (wheel character : ℕ) → Bool
 is_other wiring account wheel character =
-    not (is_own wiring account wheel) && (number_to wiring wheel 32 || text_to wiring wheel 4 || is_literal wiring wheel character)
+    not (is_own wiring account wheel) && (number_to wiring wheel 32 || text_to wiring wheel 4 || is_of_literal wiring wheel character)
 
 -- whether a character is a blank
 abbrev pub is_blank : ℕ → Bool

@@ -2,7 +2,7 @@ pub mod Places
 pub mod Printed
 pub mod Totals
 pub mod Figures
-pub mod Told
+pub mod ToldLedgers
 pub mod Resting
 pub mod Lower
 pub mod Whole

@@ -11,7 +11,7 @@ use Rattle.ledgers.specs.declared.entry.Entry.{Entry}
 use Rattle.ledgers.specs.declared.read_outs.ReadOuts.{ReadOuts}
 use Rattle.origins.specs.declared.changes.PassedCycle.{PassedCycle}
 use Rattle.setups.specs.Wiring.{Wiring}
-use Rattle.wheel_ledgers.specs.Told.{account_told}
+use Rattle.wheel_ledgers.specs.ToldLedgers.{account_told}
 use Rattle.wheel_ledgers.specs.Totals.{find_total}
 use Rattle.wheel_ledgers.specs.declared.chart_totals.TitledAccount.{TitledAccount}
 use Rattle.wheel_ledgers.specs.declared.lower.AskedGroup.{AskedGroup}

@@ -6,11 +6,11 @@ use Rattle.explanations.specs.declared.explanation.Explanation.{Explanation}
 use Rattle.hubs.specs.declared.hub.Hub.{Hub}
 use Rattle.ledgers.specs.Running.{PlacesLine}
 use Rattle.ledgers.specs.declared.found.FoundCycle.{FoundCycle}
-use Rattle.origins.specs.Told.{AreOrigins}
+use Rattle.origins.specs.ToldOrigins.{AreOrigins}
 use Rattle.setups.specs.Wiring.{Wiring}
 use Rattle.wheel_ledgers.specs.Places.{place_of}
 use Rattle.wheel_ledgers.specs.Printed.{group_of_way}
-use Rattle.wheel_ledgers.specs.Told.{IsPlaceText}
+use Rattle.wheel_ledgers.specs.ToldLedgers.{IsPlaceText}
 use Rattle.wheel_ledgers.specs.Totals.{find_total}
 use Rattle.wheel_ledgers.specs.declared.chart_totals.TitledAccount.{TitledAccount}
 
@@ -29,23 +29,23 @@ is_printed_of [] place = false
 is_printed_of (way ∷ ways) place = begins_at way place || is_printed_of ways place
 
 -- The texts of the ledgers, one behind the other, of those of the first places at whose groups one of some ways begins.
-pub data AreTexts (wiring : Wiring) (cards : List (List ℕ)) (totals : List TitledAccount) (ends : ℕ) (found : FoundCycle)
+pub data ArePlaceTexts (wiring : Wiring) (cards : List (List ℕ)) (totals : List TitledAccount) (ends : ℕ) (found : FoundCycle)
     (ways : List (Option (Vec Hub Global))) : ℕ → List ℕ → Type 0 where
-  none : AreTexts wiring cards totals ends found ways 0 []
+  none : ArePlaceTexts wiring cards totals ends found ways 0 []
   more :
-      (place : ℕ) (texts text : List ℕ) → AreTexts wiring cards totals ends found ways place texts
+      (place : ℕ) (texts text : List ℕ) → ArePlaceTexts wiring cards totals ends found ways place texts
       → is_printed_of ways place ≡ true → IsPlaceText wiring cards ends found (find_total totals place) place text
-      → AreTexts wiring cards totals ends found ways (place + 1) (texts ++ text)
+      → ArePlaceTexts wiring cards totals ends found ways (place + 1) (texts ++ text)
   other :
-      (place : ℕ) (texts : List ℕ) → AreTexts wiring cards totals ends found ways place texts → is_printed_of ways place ≡ false
-      → AreTexts wiring cards totals ends found ways (place + 1) texts
+      (place : ℕ) (texts : List ℕ) → ArePlaceTexts wiring cards totals ends found ways place texts → is_printed_of ways place ≡ false
+      → ArePlaceTexts wiring cards totals ends found ways (place + 1) texts
 
 -- Before a cycle that placed a line, by the ways to a wheel at the rows of the cycle: the text tells the ledgers of all counter groups at
 -- whose exits one of the ways begins, and behind them the origins of what else they begin at, and of the cycle.
 pub record IsBasisText (wiring : Wiring) (cards : List (List ℕ)) (totals : List TitledAccount) (ends : ℕ) (found : FoundCycle)
     (ways : List (Option (Vec Hub Global))) (answer : List ℕ) : Type 0 where
   pub ledgers : List ℕ
-  pub texts : AreTexts wiring cards totals ends found ways 32 ledgers
+  pub texts : ArePlaceTexts wiring cards totals ends found ways 32 ledgers
   pub origins : List ℕ
   pub are : AreOrigins wiring cards found ways origins
   pub whole : answer ≡ ledgers ++ origins

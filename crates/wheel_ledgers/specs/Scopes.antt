@@ -2,7 +2,7 @@
 use Rattle.std.specs.Prelude.{ℕ, List}
 use Rattle.setups.specs.Wiring.{Wiring}
 use Rattle.wheel_ledgers.specs.Resting.{TellsBasis}
-use Rattle.wheel_ledgers.specs.Told.{TellsLedger}
+use Rattle.wheel_ledgers.specs.ToldLedgers.{TellsLedger}
 use Rattle.wheel_ledgers.specs.Whole.{TellsWhole}
 use Rattle.wheel_ledgers.specs.declared.chart_totals.TitledAccount.{TitledAccount}
 use Rattle.wheel_ledgers.specs.declared.scope.Scope.{Scope}

@@ -12,12 +12,12 @@ use Rattle.ledgers.specs.CycleReadOuts.{TellReadOuts}
 use Rattle.ledgers.specs.declared.found.FoundCycle.{FoundCycle}
 use Rattle.ledgers.specs.declared.kept.AskedLedger.{AskedLedger}
 use Rattle.ledgers.specs.declared.read_outs.ReadOuts.{ReadOuts}
-use Rattle.origins.specs.Told.{AreOrigins}
+use Rattle.origins.specs.ToldOrigins.{AreOrigins}
 use Rattle.origins.specs.declared.changes.PassedCycle.{PassedCycle}
 use Rattle.setups.specs.Wiring.{Wiring}
 use Rattle.wheel_ledgers.specs.Lower.{lower_of}
 use Rattle.wheel_ledgers.specs.Resting.{is_printed_of}
-use Rattle.wheel_ledgers.specs.Told.{account_told, words_told}
+use Rattle.wheel_ledgers.specs.ToldLedgers.{account_told, words_told}
 use Rattle.wheel_ledgers.specs.Totals.{find_total}
 use Rattle.wheel_ledgers.specs.declared.chart_totals.TitledAccount.{TitledAccount}
 use Rattle.wheel_ledgers.specs.declared.lower.AskedGroup.{AskedGroup}

@@ -2,7 +2,7 @@
 
 ghost use Rattle.std.specs.Prelude.{◌≡◌, ◌≤◌, ◌<◌, ◌+◌, ◌++◌, OnOk, length};
 ghost use Rattle.ledgers.specs.Accounts.{IsAccount};
-ghost use Rattle.wheel_ledgers.specs.Figures.{begin_of, column_to, digit_to, end_of, figure_on, group_to, emitter_to, is_beside, is_literal, is_other, is_own, number_to, row_to, printed_text, text_to};
+ghost use Rattle.wheel_ledgers.specs.Figures.{begin_of, column_to, digit_to, end_of, figure_on, group_to, emitter_to, is_beside, is_of_literal, is_other, is_own, number_to, row_to, printed_text, text_to};
 
 use counters::group_of_unit;
 use hubs::{Group, Hub, Jack};
@@ -106,9 +106,9 @@ fn emitter_to(setup: &Setup, wheel: u8, emitters: u8) -> bool
 }
 
 // Whether a character of a literal stands on a wheel: one from an emitter that is no part of an amount.
-#[tactic(auto, unfolding(crate::specs::Figures::is_literal))]
-fn is_literal(setup: &Setup, wheel: u8, character: u8) -> bool
-    ensures { result ≡ is_literal setup.now wheel character }
+#[tactic(auto, unfolding(crate::specs::Figures::is_of_literal))]
+fn is_of_literal(setup: &Setup, wheel: u8, character: u8) -> bool
+    ensures { result ≡ is_of_literal setup.now wheel character }
 {
     emitter_to(setup, wheel, 8) && !(character == b'.' || setup.has_jack(Jack::Link(wheel)))
 }
@@ -122,7 +122,7 @@ fn is_other(setup: &Setup, account: Account, wheel: u8, character: u8) -> bool
     !is_own(setup, account, wheel)
         && (number_to(setup, wheel, 32)
             || text_to(setup, wheel, 4)
-            || is_literal(setup, wheel, character))
+            || is_of_literal(setup, wheel, character))
 }
 
 // Whether the figure has no character at a place of a line: a blank stands there, or one of another figure.

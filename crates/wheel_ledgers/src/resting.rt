@@ -6,13 +6,13 @@ ghost use Rattle.explanations.specs.Explanations.{IsExplanation};
 ghost use Rattle.explanations.specs.PlacedInRun.{PrintsNoneAt};
 ghost use Rattle.explanations.specs.declared.refusal.Refusal.TheVariants.{NoSuchLine, NoSuchWheel};
 ghost use Rattle.ledgers.specs.Running.{PlacesLine};
-ghost use Rattle.wheel_ledgers.specs.Resting.{AreTexts, IsBasisText, TellsBasis, begins_at, is_printed_of};
+ghost use Rattle.wheel_ledgers.specs.Resting.{ArePlaceTexts, IsBasisText, TellsBasis, begins_at, is_printed_of};
 ghost use Rattle.wheel_ledgers.specs.Totals.{AreAccounts};
 
 use crate::chart_totals::TitledAccount;
 use crate::places::{GROUPS, place_of};
 use crate::printed::group_of_way;
-use crate::telling::{cycle_of, place_text};
+use crate::telling::{cycle_at, place_text};
 use card_code::Card;
 use explanations::{Explanation, Refusal, explain};
 use hubs::Hub;
@@ -62,8 +62,8 @@ fn add_ledger(
     requires accounts { AreAccounts totals.now }
     requires places { PlacesLine setup.now cards.now found }
     requires place { place < 32 }
-    requires texts { AreTexts setup.now cards.now totals.now ends found ways.now place text.old.items }
-    ensures { OnOk result (AreTexts setup.now cards.now totals.now ends found ways.now (place + 1) text.new.items) }
+    requires texts { ArePlaceTexts setup.now cards.now totals.now ends found ways.now place text.old.items }
+    ensures { OnOk result (ArePlaceTexts setup.now cards.now totals.now ends found ways.now (place + 1) text.new.items) }
 {
     if !is_printed_of(ways, place) {
         return Ok(());
@@ -85,7 +85,7 @@ fn texts_of(
     requires few { length cards.now ≤ most_cards }
     requires accounts { AreAccounts totals.now }
     requires places { PlacesLine setup.now cards.now found }
-    ensures { IfOk result (λ text. AreTexts setup.now cards.now totals.now ends found ways.now 32 text.items) }
+    ensures { IfOk result (λ text. ArePlaceTexts setup.now cards.now totals.now ends found ways.now 32 text.items) }
 {
     let mut text = Vec::new(alloc);
     for place in 0..GROUPS {
@@ -138,7 +138,7 @@ fn basis_of(
     ensures there { result ≡ Err NoSuchWheel → ⊥ }
     ensures no_line { result ≡ Err NoSuchLine → PrintsNoneAt setup.now cards.now page line }
 {
-    let found = cycle_of(alloc, setup, cards, page, line)?;
+    let found = cycle_at(alloc, setup, cards, page, line)?;
     let ways = told.rows.as_slice();
     match basis_text(alloc, setup, totals, cards, found, ways, ends) {
         Ok(text) => Ok(text),

@@ -8,7 +8,7 @@ ghost use Rattle.explanations.specs.declared.refusal.Refusal.TheVariants.{NoSuch
 ghost use Rattle.ledgers.specs.Running.{PlacesLine};
 ghost use Rattle.ledgers.specs.LedgerText.Titles.{words_of};
 ghost use Rattle.ledgers.specs.LedgerText.Tellings.{no_ledger_text};
-ghost use Rattle.wheel_ledgers.specs.Told.{IsFigureText, IsPlaceText, IsTextFor, TellsLedger, account_told, words_told};
+ghost use Rattle.wheel_ledgers.specs.ToldLedgers.{IsFigureText, IsPlaceText, IsTextFor, TellsLedger, account_told, words_told};
 ghost use Rattle.wheel_ledgers.specs.Totals.{AreAccounts, find_total};
 
 use crate::chart_totals::{TitledAccount, find_total};
@@ -131,7 +131,7 @@ fn text_for(
 }
 
 // The cycle that places a line at a page and a line of it.
-pub(crate) fn cycle_of(
+pub(crate) fn cycle_at(
     alloc: Global,
     setup: &Setup,
     cards: &[Card],
@@ -172,7 +172,7 @@ fn ledger_of(
     ensures there { result ≡ Err NoSuchWheel → ⊥ }
     ensures no_line { result ≡ Err NoSuchLine → PrintsNoneAt setup.now cards.now page line }
 {
-    let found = cycle_of(alloc, setup, cards, page, line)?;
+    let found = cycle_at(alloc, setup, cards, page, line)?;
     let printed = place_printed(told);
     match text_for(alloc, setup, totals, cards, found, printed, wheel, ends) {
         Ok(text) => Ok(text),

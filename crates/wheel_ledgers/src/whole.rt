@@ -9,7 +9,7 @@ ghost use Rattle.wheel_ledgers.specs.LedgerHoles.Down.{IsLedgerDown};
 ghost use Rattle.ledgers.specs.Accounts.{IsAccount};
 ghost use Rattle.ledgers.specs.Running.{HasCycle, PlacesLine};
 ghost use Rattle.wheel_ledgers.specs.Lower.{IsAsked};
-ghost use Rattle.wheel_ledgers.specs.Told.{words_told};
+ghost use Rattle.wheel_ledgers.specs.ToldLedgers.{words_told};
 ghost use Rattle.wheel_ledgers.specs.Totals.{AreAccounts};
 ghost use Rattle.wheel_ledgers.specs.Whole.{AreDown, IsWholeText, TellsAll, TellsWhole, asked_at, asked_of, cycle_found, is_among, is_same, ledger_asked, lower_told, with_lower, with_one};
 
@@ -18,7 +18,7 @@ use crate::ledger_holes::tell_ledger_down;
 use crate::lower::{AskedGroup, add_lower_of_all};
 use crate::places::GROUPS;
 use crate::resting::is_printed_of;
-use crate::telling::{account_told, cycle_of, title_told};
+use crate::telling::{account_told, cycle_at, title_told};
 use crate::texts::put_together;
 use card_code::Card;
 use explanations::{Explanation, Refusal, explain};
@@ -293,7 +293,7 @@ fn whole_of(
     ensures there { result ≡ Err NoSuchWheel → ⊥ }
     ensures no_line { result ≡ Err NoSuchLine → PrintsNoneAt setup.now cards.now page line }
 {
-    let found = cycle_of(alloc, setup, cards, page, line)?;
+    let found = cycle_at(alloc, setup, cards, page, line)?;
     let ways = told.rows.as_slice();
     match whole_text(alloc, setup, totals, cards, found, ways, ends) {
         Ok(text) => Ok(text),

@@ -84,7 +84,7 @@ ready-moved wiring next machine ready = record {
   };
 }
 
-ready-begun : (wiring : Wiring) (next : Option (List ℕ)) (machine : MachineState)
+pub ready-begun : (wiring : Wiring) (next : Option (List ℕ)) (machine : MachineState)
     → IsReady wiring machine → IsReady wiring (begun machine next).machine
 ready-begun wiring next machine ready = by (is_fresh machine.program.stage)
   where
@@ -96,7 +96,7 @@ ready-begun wiring next machine ready = by (is_fresh machine.program.stage)
     by true = ready-moved wiring next machine ready
     by false = ready
 
-ready-taken : (wiring : Wiring) (cycle : Cycle) (fed : Fed) → IsReady wiring fed.machine → IsReady wiring (taken cycle fed).machine
+pub ready-taken : (wiring : Wiring) (cycle : Cycle) (fed : Fed) → IsReady wiring fed.machine → IsReady wiring (taken cycle fed).machine
 ready-taken wiring RunIn fed ready = ready
 ready-taken wiring Card fed ready = ready-moved wiring fed.next fed.machine ready
 ready-taken wiring (Prog level ordinal) fed ready = ready

@@ -16,7 +16,6 @@ use wiring_text::Version;
 pub fn write_parts(text: &mut String, version: Version, setup: &Setup) -> Result<(), AllocError>
     ensures { OnOk result (GainsParts version setup.now (string_bytes text.old) (string_bytes text.new)) }
 {
-    let setup = setup.known();
     write_stops(text, setup.tape())?;
     write_jacks(text, setup)?;
     write_all_wires(text, version, setup)?;

@@ -49,6 +49,7 @@ fn write_in(alloc: Global, version: Version, setup: &Setup) -> Result<String, Al
     ensures written { IfOk result (λ text. IsWrittenIn version setup.now (string_bytes text)) }
     ensures reads_back { IfOk result (λ text. ReadsAs (string_bytes text) setup.now) }
 {
+    // What is known of every setup is told with it: that saves a check of its wires and of its form.
     let setup = setup.known();
     let mut text = String::from_str(alloc, title(version))?;
     write_form(&mut text, setup.tape())?;

@@ -38,7 +38,7 @@ use Rattle.wired_panels.specs.Groups.{IsGroupOf, IsPlaceFor}
 use Rattle.wired_panels.specs.PanelCycles.{IsPanelCycle}
 use Rattle.wired_panels.specs.Panel.{Arrives}
 use Rattle.wired_panels.specs.Panel.Arrives.{straight, through}
-use Rattle.wired_panels.specs.Sources.{EmitsAtRow, digit_at}
+use Rattle.wired_panels.specs.Sources.{EmitsAtRow, digit_from_units}
 use Rattle.wired_panels.specs.Sources.EmitsAtRow.{first, second, digit, column, emitter}
 
 -- A group of the machine reads out a digit at a row.
@@ -49,7 +49,7 @@ pub record ReadsDigit (old : MachineState) (pictures : Point → Hub → Bool) (
   pub reads : pictures C (RO group) ≡ true
   pub from : 1 ≤ position
   pub to : position ≤ length counter.digits
-  pub is : digit_at counter.digits position ≡ row_number row
+  pub is : digit_from_units counter.digits position ≡ row_number row
 
 -- what sends at an exit of a group
 pub digit_sent : (old : MachineState) (pictures : Point → Hub → Bool) (cycle : Cycle) (row : CardRow) (group : Group) (position : ℕ)
@@ -66,7 +66,7 @@ digit_sent old pictures cycle row group position (digit counter p listed out low
       reads = ap (λ g. pictures C (RO g)) (sym named) ∙ out;
       from = omega (arith, low, place);
       to = omega (arith, high, place);
-      is = ap (digit_at counter.digits) (sym place) ∙ is;
+      is = ap (digit_from_units counter.digits) (sym place) ∙ is;
     }
 digit_sent old pictures cycle row group position (column storage c listed out held) same = cc
 digit_sent old pictures cycle row group position (emitter e is) same = cc

@@ -21,7 +21,7 @@ use Rattle.whole_cycles.specs.Below.stations.Punches.{is_punched_at}
 use Rattle.whole_cycles.specs.Below.stations.Stations.{stations_emits}
 use Rattle.whole_cycles.specs.Below.storage_units.Storage.{holds}
 use Rattle.whole_cycles.specs.WholeCycles.{control_emits, row_emits, group_reads_out, storage_reads_out}
-use Rattle.wired_panels.specs.Sources.{EmitsAtControl, EmitsAtRow, ReadsFirst, digit_at}
+use Rattle.wired_panels.specs.Sources.{EmitsAtControl, EmitsAtRow, ReadsFirst, digit_from_units}
 use Rattle.wired_panels.specs.Sources.ReadsFirst.{run_in, card as card_reads}
 use Rattle.wired_panels.specs.Sources.EmitsAtControl.{card as tells_card, prog as tells_prog, head as tells_head}
 use Rattle.wired_panels.specs.Sources.EmitsAtRow.{first, second, digit, column, emitter}
@@ -40,7 +40,7 @@ telling n (tells_head heading) is = own (HX (ordinal_number heading)) n is
 -- a group shows the digit of each of its positions
 showing :
     (name : Group) (given : ℕ) (digits : List ℕ) (position n : ℕ) → 1 ≤ position → position ≤ length digits
-    → digit_at digits position ≡ given → number_of (GX name position) ≡ Some n → shows name given digits (GX name position) ≡ true
+    → digit_from_units digits position ≡ given → number_of (GX name position) ≡ Some n → shows name given digits (GX name position) ≡ true
 showing name given [] position n low high is there = absurd (omega (arith, low, high))
 showing name given (d ∷ below) position n low high is there =
     by (position == length below + 1) refl (λ less. showing name given below position n low less)
@@ -59,7 +59,7 @@ showing name given (d ∷ below) position n low high is there =
         rw (test, hub) refl
 
     by : (b : Bool) → (position == length below + 1) ≡ b
-        → (position ≤ length below → digit_at below position ≡ given → number_of (GX name position) ≡ Some n
+        → (position ≤ length below → digit_from_units below position ≡ given → number_of (GX name position) ≡ Some n
         → shows name given below (GX name position) ≡ true)
         → shows name given (d ∷ below) (GX name position) ≡ true
     by true same others = here (grind (arith, nat_tests, same))

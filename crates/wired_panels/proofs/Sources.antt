@@ -21,7 +21,7 @@ use Rattle.whole_cycles.specs.Below.stations.Punches.{is_punched_at}
 use Rattle.whole_cycles.specs.Below.stations.Stations.{first_emits, second_emits, stations_emits}
 use Rattle.whole_cycles.specs.Below.storage_units.Storage.{StorageState, holds}
 use Rattle.whole_cycles.specs.WholeCycles.{control_emits, row_emits, group_reads_out, storage_reads_out}
-use Rattle.wired_panels.specs.Sources.{EmitsAtControl, EmitsAtRow, digit_at}
+use Rattle.wired_panels.specs.Sources.{EmitsAtControl, EmitsAtRow, digit_from_units}
 use Rattle.wired_panels.specs.Sources.EmitsAtControl.{card as tells_card, prog as tells_prog, head as tells_head}
 use Rattle.wired_panels.specs.Sources.ReadsFirst.{run_in as reads_run_in, card as reads_card}
 use Rattle.wired_panels.specs.Sources.EmitsAtRow.{first, second, digit, column, emitter}
@@ -57,18 +57,18 @@ second_source card row other on = cc
 -- a digit that a group shows
 shown_source :
     (name : Group) (given : ℕ) (digits : List ℕ) (hub : Hub) → shows name given digits hub ≡ true
-    → (position : ℕ) × (1 ≤ position) × (position ≤ length digits) × (digit_at digits position ≡ given) × (hub ≡ GX name position)
+    → (position : ℕ) × (1 ≤ position) × (position ≤ length digits) × (digit_from_units digits position ≡ given) × (hub ≡ GX name position)
 shown_source name given [] hub on = cc
 shown_source name given (d ∷ below) hub on =
     by (d == given) (is_hub (GX name (length below + 1)) hub) refl refl on (shown_source name given below hub)
   where
-    here : d ≡ given → digit_at (d ∷ below) (length below + 1) ≡ given
+    here : d ≡ given → digit_from_units (d ∷ below) (length below + 1) ≡ given
     here same =
         let none : suc (length below) - (length below + 1) ≡ 0 = omega arith in
         ap (λ k. slice_index (d ∷ below) k) none ∙ same
 
-    deeper : ((position : ℕ) × (1 ≤ position) × (position ≤ length below) × (digit_at below position ≡ given) × (hub ≡ GX name position))
-        → (position : ℕ) × (1 ≤ position) × (position ≤ suc (length below)) × (digit_at (d ∷ below) position ≡ given)
+    deeper : ((position : ℕ) × (1 ≤ position) × (position ≤ length below) × (digit_from_units below position ≡ given) × (hub ≡ GX name position))
+        → (position : ℕ) × (1 ≤ position) × (position ≤ suc (length below)) × (digit_from_units (d ∷ below) position ≡ given)
         × (hub ≡ GX name position)
     deeper (p, low, high, is, at) =
         let k : suc (length below) - p ≡ suc (length below - p) = omega (arith, low, high) in
@@ -77,8 +77,8 @@ shown_source name given (d ∷ below) hub on =
     by : (a b : Bool) → (d == given) ≡ a → is_hub (GX name (length below + 1)) hub ≡ b
         → ((a && b) || shows name given below hub) ≡ true
         → (shows name given below hub ≡ true → (position : ℕ) × (1 ≤ position) × (position ≤ length below)
-        × (digit_at below position ≡ given) × (hub ≡ GX name position))
-        → (position : ℕ) × (1 ≤ position) × (position ≤ suc (length below)) × (digit_at (d ∷ below) position ≡ given)
+        × (digit_from_units below position ≡ given) × (hub ≡ GX name position))
+        → (position : ℕ) × (1 ≤ position) × (position ≤ suc (length below)) × (digit_from_units (d ∷ below) position ≡ given)
         × (hub ≡ GX name position)
     by true true same is any others =
         (length below + 1, omega arith, omega arith, here (grind (arith, nat_tests, same)), sym (is_hub-same (GX name (length below + 1)) hub is))

@@ -24,8 +24,8 @@ pub data EmitsAtControl : Cycle → Hub → Type 0 where
   head : (heading : Ordinal) → EmitsAtControl (Head heading) (HX (ordinal_number heading))
 
 -- the digit of a group at a position, counted from the units
-abbrev pub digit_at : List ℕ → ℕ → ℕ
-digit_at digits position = slice_index digits (length digits - position)
+abbrev pub digit_from_units : List ℕ → ℕ → ℕ
+digit_from_units digits position = slice_index digits (length digits - position)
 
 -- the cycles in which the card at first reading is read
 pub data ReadsFirst : Cycle → Type 0 where
@@ -40,7 +40,7 @@ pub data EmitsAtRow (old : MachineState) (pictures : Point → Hub → Bool) (cy
   second : (column : ℕ) → cycle ≡ Card → is_punched_at old.stations.second row column ≡ true
       → EmitsAtRow old pictures cycle row (SR column)
   digit : (group : Counter) (position : ℕ) → Contains old.groups group → pictures C (RO group.name) ≡ true
-      → 1 ≤ position → position ≤ length group.digits → digit_at group.digits position ≡ row_number row
+      → 1 ≤ position → position ≤ length group.digits → digit_from_units group.digits position ≡ row_number row
       → EmitsAtRow old pictures cycle row (GX group.name position)
   column : (storage : StorageState) (column : ℕ) → Contains old.storage storage
       → pictures C (SO storage.place) ≡ true → holds storage row column ≡ true

@@ -19,7 +19,8 @@ use Rattle.plans.proofs.Below.chart_rules.Laws.{field-line}
 use Rattle.report.proofs.Below.line_rules.FieldRules.Places.{is_same_name-equal, is_same_name-own}
 use Rattle.report.specs.Below.line_rules.FieldRules.Fields.{field_named, fields_of}
 use Rattle.plans.proofs.Numbers.{HasNumber, both-stand, number-given, number-there}
-use Rattle.plans.specs.PartNumbers.{AreNumbers, number_for, numbers_at}
+use Rattle.plans.specs.PartNumbers.{AreNumbers, number_for, numbers_of}
+use Rattle.plans.specs.declared.part_numbers.PartKind.TheVariants as kind
 use Rattle.plans.specs.Plans.{Lists, ServesChart}
 use Rattle.plans.specs.Below.wanted.Pilots.{prints_name, pilots_of, shows, wants_pilot}
 use Rattle.plans.specs.Below.wanted.Positions.{compared_field, field_used, indicated_field, is_same_position, positions_for}
@@ -57,45 +58,38 @@ line-given lines test list numbers last line are is listed passes =
     (listed-map (λ (each : Line). each.number) (filter test lines) line (listed-filter test lines line listed passes)))
     (grind (arith, nat_tests))
 
--- the indicate positions of a level have their numbers
-at-level : (lines : List Line) (plan : Lists) → ServesChart lines plan → (level : ControlLevel)
-    → AreNumbers 30 (length (indicate_at plan.parts level)) (numbers_at plan.numbers level)
-at-level lines plan planned control.Minor = planned.numbers.minor
-at-level lines plan planned control.Intermediate = planned.numbers.intermediate
-at-level lines plan planned control.Major = planned.numbers.major
-
 module _ (lines : List Line) (plan : Lists) (planned : ServesChart lines plan) where
   -- no part serves two
   pub unit-own : (one other unit : ℕ) → unit_for plan one ≡ Some unit → unit_for plan other ≡ Some unit → one ≡ other
   unit-own one other unit is is_other =
-      line-own one other unit 4 plan.parts.storage plan.numbers.storage planned.numbers.storage is is_other
+      line-own one other unit 4 plan.parts.storage plan.numbers.storage (planned.numbers kind.Storage) is is_other
 
   pub split-own : (one other split : ℕ) → split_for plan one ≡ Some split → split_for plan other ≡ Some split → one ≡ other
   split-own one other split is is_other =
-      line-own one other split 16 plan.parts.splits plan.numbers.splits planned.numbers.splits is is_other
+      line-own one other split 16 plan.parts.splits plan.numbers.splits (planned.numbers kind.Split) is is_other
 
   pub pilot-own : (one other : List ℕ) (pilot : ℕ) → pilot_for plan one ≡ Some pilot → pilot_for plan other ≡ Some pilot → one ≡ other
   pilot-own one other pilot is is_other =
       let (x, a, b) = both-stand (λ served. is_same_name served one) (λ served. is_same_name served other) plan.parts.pilots
-      plan.numbers.pilots 16 (length plan.parts.pilots) pilot planned.numbers.pilots is is_other in
+      plan.numbers.pilots 16 (length plan.parts.pilots) pilot (planned.numbers kind.Pilot) is is_other in
       sym (is_same_name-equal x one a) ∙ is_same_name-equal x other b
 
   pub comparing-own : (number other column its place : ℕ) → comparing_for plan number column ≡ Some place
       → comparing_for plan other its ≡ Some place → (number ≡ other) × (column ≡ its)
   comparing-own number other column its place is is_other =
-      column-own number other column its place plan.parts.comparing plan.numbers.comparing planned.numbers.comparing is is_other
+      column-own number other column its place plan.parts.comparing plan.numbers.comparing (planned.numbers kind.Comparing) is is_other
 
   pub indicate-own : (level : ControlLevel) (number other column its place : ℕ) → indicate_for plan level number column ≡ Some place
       → indicate_for plan level other its ≡ Some place → (number ≡ other) × (column ≡ its)
   indicate-own level number other column its place is is_other =
-      column-own number other column its place (indicate_at plan.parts level) (numbers_at plan.numbers level)
-      (at-level lines plan planned level) is is_other
+      column-own number other column its place (indicate_at plan.parts level) (numbers_of plan.numbers (kind.Indicate level))
+      (planned.numbers (kind.Indicate level)) is is_other
 
   -- a storage unit is one of the machine
   pub unit-there : (number unit : ℕ) → unit_for plan number ≡ Some unit → (1 ≤ unit) × (unit ≤ 4)
   unit-there number unit is =
       number-there (λ served. served == number) plan.parts.storage plan.numbers.storage 4 (length plan.parts.storage) unit
-      planned.numbers.storage is
+      (planned.numbers kind.Storage) is
 
   -- a split serves the amount on a DETAIL line whose sign column is one of its own
   pub split-given : (line : Line) (wheel : ℕ) (name : List ℕ) (how : DetailOption) (field : Field) → Contains lines line
@@ -103,7 +97,7 @@ module _ (lines : List Line) (plan : Lists) (planned : ServesChart lines plan) w
       → is_inside field (sign_column field.kind) ≡ true → HasNumber (split_for plan line.number) 16
   unfolding is_of_kind
   split-given line wheel name how field listed says_it named inside =
-      line-given lines (λ each. is_split_amount lines each.statement) plan.parts.splits plan.numbers.splits 16 line planned.numbers.splits
+      line-given lines (λ each. is_split_amount lines each.statement) plan.parts.splits plan.numbers.splits 16 line (planned.numbers kind.Split)
       (ap (λ (p : Parts). p.splits) planned.parts) listed (ap (is_split_amount lines) says_it ∙ ap has_inside_sign named ∙ inside)
 
   -- a storage unit serves the text on a total line
@@ -111,7 +105,7 @@ module _ (lines : List Line) (plan : Lists) (planned : ServesChart lines plan) w
       → line.statement ≡ says.TotalText level wheel name → HasNumber (unit_for plan line.number) 4
   unfolding is_of_kind
   unit-given line level wheel name listed says_it =
-      line-given lines (λ each. is_total_text each.statement) plan.parts.storage plan.numbers.storage 4 line planned.numbers.storage
+      line-given lines (λ each. is_total_text each.statement) plan.parts.storage plan.numbers.storage 4 line (planned.numbers kind.Storage)
       (ap (λ (p : Parts). p.storage) planned.parts) listed (ap is_total_text says_it)
 
   -- a pilot serves an amount with a sign rule that a DETAIL or TOTAL line shows
@@ -125,7 +119,7 @@ module _ (lines : List Line) (plan : Lists) (planned : ServesChart lines plan) w
       let there : Contains (pilots_of lines) field.name =
       listed-map (λ (each : Field). each.name) (filter (wants_pilot lines) (fields_of lines)) field
       (listed-filter (wants_pilot lines) (fields_of lines) field found.among wants) in
-      number-given (λ served. is_same_name served name) plan.parts.pilots plan.numbers.pilots 16 field.name planned.numbers.pilots
+      number-given (λ served. is_same_name served name) plan.parts.pilots plan.numbers.pilots 16 field.name (planned.numbers kind.Pilot)
       (subst (λ list. Contains list field.name) (sym (ap (λ (p : Parts). p.pilots) planned.parts)) there)
       (ap (λ n. is_same_name n name) found.own_name ∙ is_same_name-own name)
 
@@ -151,7 +145,7 @@ module _ (lines : List Line) (plan : Lists) (planned : ServesChart lines plan) w
   unfolding field_used
   comparing-given line level name field place listed says_it named within =
       column-given (λ each. compared_field lines each.statement) plan.parts.comparing plan.numbers.comparing line field place
-      planned.numbers.comparing (ap (λ (p : Parts). p.comparing) planned.parts) listed (ap (compared_field lines) says_it ∙ named) within
+      (planned.numbers kind.Comparing) (ap (λ (p : Parts). p.comparing) planned.parts) listed (ap (compared_field lines) says_it ∙ named) within
 
   pub indicate-given : (line : Line) (level : ControlLevel) (wheel : ℕ) (name : List ℕ) (field : Field) (place : ℕ) → Contains lines line
       → line.statement ≡ says.DetailField wheel name (shown.Indicated level) → field_named lines name ≡ Some field → place < columns_of field
@@ -159,8 +153,8 @@ module _ (lines : List Line) (plan : Lists) (planned : ServesChart lines plan) w
   unfolding field_used
   indicate-given line level wheel name field place listed says_it named within =
       let own : (control_number level == control_number level) ≡ true = grind (arith, nat_tests) in
-      column-given (λ each. indicated_field lines level each.statement) (indicate_at plan.parts level) (numbers_at plan.numbers level) line
-      field place (at-level lines plan planned level) (served level) listed
+      column-given (λ each. indicated_field lines level each.statement) (indicate_at plan.parts level) (numbers_of plan.numbers (kind.Indicate level)) line
+      field place (planned.numbers (kind.Indicate level)) (served level) listed
       (ap (indicated_field lines level) says_it ∙ rw own named) within
     where
       served : (its : ControlLevel) → indicate_at plan.parts its ≡ flat_map (λ each. positions_for each.number (indicated_field lines its each.statement)) lines

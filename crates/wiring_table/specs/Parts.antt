@@ -2,9 +2,10 @@
 use Rattle.std.specs.Prelude.{◌≡◌, ℕ, ◌+◌, ◌<◌, ◌≤◌, ◌==◌, ◌&&◌, Bool, List, Contains, Option, Some, find, option_and_then, option_map, true, false, ◌⊎◌}
 use Rattle.plans.specs.Below.wanted.ChartTotals.{totals_of}
 use Rattle.plans.specs.Counters.{single_group}
-use Rattle.plans.specs.PartNumbers.{number_for, numbers_at}
+use Rattle.plans.specs.PartNumbers.{number_for, numbers_of}
 use Rattle.plans.specs.Plans.{Lists, counter_on}
 use Rattle.plans.specs.declared.counter.TotalCounter.{TotalCounter}
+use Rattle.plans.specs.declared.part_numbers.PartKind.TheVariants.{Indicate}
 use Rattle.plans.specs.declared.counter.TotalCounter.TheVariants as of
 use Rattle.plans.specs.Below.wanted.Positions.{is_same_position}
 use Rattle.plans.specs.Below.wanted.Wanted.{indicate_at}
@@ -92,7 +93,7 @@ comparing_for plan number column =
 -- the indicate position of a column of an INDICATE item of a level
 abbrev pub indicate_for : Lists → ControlLevel → (number column : ℕ) → Option ℕ
 indicate_for plan level number column =
-    number_for (λ served. is_same_position served (column_on number column)) (indicate_at plan.parts level) (numbers_at plan.numbers level)
+    number_for (λ served. is_same_position served (column_on number column)) (indicate_at plan.parts level) (numbers_of plan.numbers (Indicate level))
 
 -- the split of the amount on a DETAIL line
 abbrev pub split_for : Lists → ℕ → Option ℕ

@@ -6,7 +6,7 @@ use Rattle.chart_rules.specs.declared.card.CardFault.{CardFault}
 use Rattle.chart_rules.specs.declared.card.CardFault.TheVariants as invalid
 use Rattle.charts.specs.Chart.{Chart}
 use Rattle.check_calls.specs.DeckChecks.BadLines.{IsBadLine, not_amount, not_text}
-use Rattle.faults.specs.Told.{of_card, run_told}
+use Rattle.faults.specs.ToldFaults.{of_card, run_told}
 use Rattle.line_rules.specs.FieldRules.Fields.{fields_of}
 
 pub invalid_is_bad : (chart : Chart) (number : ℕ) (line card : List ℕ) (fault : CardFault) → IsCardOf line card

@@ -15,7 +15,7 @@ use Rattle.check_calls.specs.DeckChecks.Endings.{CutsOff, EndsCheck, IsCutOff, I
 use Rattle.check_calls.specs.DeckChecks.HelperLines.{IsKeptOf, ReadsLine}
 use Rattle.check_calls.specs.DeckChecks.HelperStanding.{AreEdges, BreaksOff, HasEnded, IsAt, Stands, Takes, bad, good}
 use Rattle.check_calls.specs.DeckChecks.HelperTold.{first_with}
-use Rattle.check_calls.specs.DeckChecks.Listings.{HasListed, IsListing, Lists, lines_told, totals_told, with_card}
+use Rattle.check_calls.specs.DeckChecks.Listings.{HasListedLines, IsListing, Lists, lines_told, totals_told, with_card}
 use Rattle.check_calls.specs.DeckChecks.Listings as listings
 use Rattle.check_calls.specs.declared.deck_checks.standing.Standing.{Standing}
 use Rattle.faults.specs.declared.fault.Fault.{Fault}
@@ -108,7 +108,7 @@ module _ {chart : Chart} {deck was left holds : Option (List ℕ)} {standing : S
 
   -- what was listed so far
   listed_so_far : (text : List ℕ) (rest : List ℕ) → lines_of text ≡ stands.lines ++ lines_of rest
-      → HasListed chart text standing.count rest stands.told
+      → HasListedLines chart text standing.count rest stands.told
   listed_so_far text rest cut =
       record { lines = stands.lines; cut = cut; counted = sym stands.counted; so_far = stands.so_far; lists = stands.lists }
 

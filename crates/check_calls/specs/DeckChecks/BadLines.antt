@@ -5,7 +5,7 @@ use Rattle.card_code.specs.declared.deck.DeckFault.{DeckFault}
 use Rattle.chart_rules.specs.ValidCard.{IsFirstInvalid, IsValidCard}
 use Rattle.chart_rules.specs.declared.card.CardFault.TheVariants as invalid
 use Rattle.charts.specs.Chart.{Chart}
-use Rattle.faults.specs.Told.{deck_told, run_told}
+use Rattle.faults.specs.ToldFaults.{deck_told, run_told}
 use Rattle.faults.specs.declared.deck.RunFault.TheVariants as deck
 use Rattle.faults.specs.declared.fault.Fault.{Fault}
 use Rattle.line_rules.specs.FieldRules.Fields.{fields_of}

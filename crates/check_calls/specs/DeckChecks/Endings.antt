@@ -8,7 +8,7 @@ use Rattle.chart_rules.specs.ValidCard.{IsValidCard}
 use Rattle.charts.specs.Chart.{Chart}
 use Rattle.card_code.specs.Deck.{Deck}
 use Rattle.check_calls.specs.DeckChecks.Fine.{fine_told}
-use Rattle.check_calls.specs.DeckChecks.Listings.{HasListed, IsListing, lines_told}
+use Rattle.check_calls.specs.DeckChecks.Listings.{HasListedLines, IsListing, lines_told}
 use Rattle.faults.specs.declared.fault.Fault.{Fault}
 use Rattle.faults.specs.declared.fault.Fault.TheVariants as fault
 use Rattle.report.specs.Totals.{Fits}
@@ -23,7 +23,7 @@ pub data CutsOff (count : ℕ) (rest : List ℕ) (told : Fault) : Type 0 where
 pub record IsCutOff (chart : Chart) (text : List ℕ) (listed : List Fault) (told : Fault) : Type 0 where
   pub count : ℕ
   pub rest : List ℕ
-  pub has_listed : HasListed chart text count rest listed
+  pub has_listed : HasListedLines chart text count rest listed
   pub cuts : CutsOff count rest told
 
 -- Nothing is told of a deck, and these are its cards. All are valid for the chart, and all totals fit.
@@ -36,7 +36,7 @@ pub record IsFine (chart : Chart) (text : List ℕ) (cards : List (List ℕ)) : 
 -- What a check had to write: lines of the listing, up to some line of the deck or to its end, or, where nothing is told of it, `ok` and
 -- which cards there are.
 pub data IsToWrite (chart : Chart) (text answer : List ℕ) : Type 0 where
-  front : (count : ℕ) (rest : List ℕ) (told : List Fault) → HasListed chart text count rest told → answer ≡ lines_told told
+  front : (count : ℕ) (rest : List ℕ) (told : List Fault) → HasListedLines chart text count rest told → answer ≡ lines_told told
       → IsToWrite chart text answer
   whole : (told : List Fault) → IsListing chart text told → answer ≡ lines_told told → IsToWrite chart text answer
   fine : (cards : List (List ℕ)) → IsFine chart text cards → answer ≡ fine_told cards → IsToWrite chart text answer

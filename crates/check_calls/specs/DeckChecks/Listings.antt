@@ -8,7 +8,7 @@ use Rattle.charts.specs.Chart.{Chart}
 use Rattle.check_calls.specs.DeckChecks.BadLines.{IsBadLine, IsGoodLine}
 use Rattle.report.specs.FollowedDecks.FitSoFar.{misfits_of_last}
 use Rattle.faults.specs.Lines.{fault_line}
-use Rattle.faults.specs.Told.{run_told}
+use Rattle.faults.specs.ToldFaults.{run_told}
 use Rattle.faults.specs.declared.deck.RunFault.TheVariants as deck
 use Rattle.faults.specs.declared.fault.Fault.{Fault}
 use Rattle.report.specs.Misfits.{Misfit, first_of}
@@ -49,7 +49,7 @@ pub record IsListing (chart : Chart) (text : List ℕ) (told : List Fault) : Typ
   pub all : told ≡ before ++ totals_told chart so_far None
 
 -- What was told of the first lines of a deck, so many, and what of its text is still to come.
-pub record HasListed (chart : Chart) (text : List ℕ) (count : ℕ) (rest : List ℕ) (told : List Fault) : Type 0 where
+pub record HasListedLines (chart : Chart) (text : List ℕ) (count : ℕ) (rest : List ℕ) (told : List Fault) : Type 0 where
   pub lines : List (List ℕ)
   pub cut : lines_of text ≡ lines ++ lines_of rest
   pub counted : length lines ≡ count

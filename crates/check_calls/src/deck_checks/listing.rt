@@ -11,7 +11,7 @@ use std::alloc::Global;
 use std::io::Write;
 
 // Writes bytes, from where a short write stopped, and all that the writer holds back. A write that takes none of some bytes has failed, an
-// interrupted one too.
+// interrupted one too. If it fails, the writer has taken a front of the bytes, which may be none or all of them.
 pub(crate) fn put<'a, W: Write>(out: &mut W, bytes: &[u8]) -> Result<(), Fault<'a>>
     ensures written { OnOk result (Appends (W.contents out.old) (W.contents out.new) bytes.now) }
     ensures broken { IfErr result (λ told. BreaksOff bytes.now (W.contents out.old) (W.contents out.new) told) }

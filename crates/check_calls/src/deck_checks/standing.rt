@@ -5,7 +5,7 @@ ghost use Rattle.card_code.specs.MostCards.{most_cards};
 ghost use Rattle.check_calls.specs.DeckChecks.Listings.{misfit_told, totals_told, with_card};
 ghost use Rattle.check_calls.specs.DeckChecks.Fine.{fine_words};
 ghost use Rattle.check_calls.specs.DeckChecks.HelperStanding.{AreBeforeLast, IsAt, Takes, first_card};
-ghost use Rattle.misfits.specs.Told.{told};
+ghost use Rattle.misfits.specs.ToldMisfits.{told};
 
 use crate::deck_checks::card::judge;
 use crate::deck_checks::fine::write_fine;

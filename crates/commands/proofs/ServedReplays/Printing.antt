@@ -2,7 +2,7 @@
 use Rattle.std.proofs.Common.{◌≡◌, ◌≢◌, ℕ, List, [], Option, unwrap_or}
 use Rattle.commands.proofs.ServedReplays.Refusing.{refusal_status}
 use Rattle.commands.specs.ServedReplays.Refusals.{RefusesByOrders}
-use Rattle.commands.specs.ServedReplays.Served.{IsRefusedByOrders}
+use Rattle.commands.specs.ServedReplays.OrderedEnds.{IsRefusedByOrders}
 use Rattle.faults.specs.Status.{status_of}
 use Rattle.faults.specs.declared.fault.Fault.{Fault}
 use Rattle.faults.specs.declared.fault.Fault.TheVariants as fault

@@ -4,7 +4,7 @@ use Rattle.std.specs.Prelude.{IfErr}
 use Rattle.card_code.specs.Lines.{lines_of}
 use Rattle.faults.proofs.Statuses.{wiring_status}
 use Rattle.faults.specs.Status.{status_of}
-use Rattle.faults.specs.Told.{wiring_told}
+use Rattle.faults.specs.ToldFaults.{wiring_told}
 use Rattle.faults.specs.declared.fault.Fault.{Fault}
 use Rattle.faults.specs.declared.fault.Fault.TheVariants as fault
 use Rattle.commands.specs.UnitOrders.OrdersText.{HasOrdersFault, SayOrders}

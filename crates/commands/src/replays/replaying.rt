@@ -97,6 +97,7 @@ pub fn replay<S: Sink + Drop>(alloc: Global, setup: &Setup, deck: &[u8], sink: S
     ensures failed { IfErr result.written (λ fault. fault.cause ≡ cause.Write → S.has_failed result.sink ≡ true) }
     ensures same { S.borrow result.sink ≡ S.borrow sink }
 {
+    // What is known of every setup is told with it: that saves a check of its form.
     let _form = setup.known();
     let mut pages = PageWriter::new(sink, u32::from(setup.tape().lines()));
     let written = write_deck(alloc, setup, deck, &mut pages);

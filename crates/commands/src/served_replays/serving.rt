@@ -8,7 +8,7 @@ ghost use Rattle.program_io.specs.Stops.{Stops};
 ghost use Rattle.commands.specs.ServedReplays.Answers.{HasOrders};
 ghost use Rattle.commands.specs.ServedReplays.Counted.{EndsCounted, counts_line};
 ghost use Rattle.commands.specs.ServedReplays.Refusals.{RefusesByOrders};
-ghost use Rattle.commands.specs.ServedReplays.Served.{IsRefusedByOrders, PrintsByOrders, PrintsServed};
+ghost use Rattle.commands.specs.ServedReplays.OrderedEnds.{IsRefusedByOrders, PrintsByOrders, PrintsServed};
 
 use crate::served_replays::answers::{ServedPages, replayed_by_orders};
 use crate::served_replays::counted::tell_counts;

@@ -3,7 +3,7 @@ use Rattle.std.proofs.Common.{◌≡◌, ◌∙◌, sym, subst, ap, ℕ, ◌+◌
 use Rattle.differences.specs.Differences.{HasSize, IsDifference}
 use Rattle.differences.specs.PanelProgress.ExtraLines.{AreToldLines, IsExtra, alone, is_all_extra}
 use Rattle.differences.specs.PanelProgress.ExtraLines.AreToldLines.{next, none}
-use Rattle.differences.specs.PanelProgress.ExtraLines.IsToldLine.{is_asked_for, is_too_much, says_nothing}
+use Rattle.differences.specs.PanelProgress.ExtraLines.IsToldLine.{is_asked_for, is_extra, says_nothing}
 use Rattle.differences.specs.PanelProgress.Helper.{GainsTold, GoesOn, SaysAlone}
 use Rattle.setups.specs.Wiring.{Wiring}
 use Rattle.wire_chart.specs.Parts.{GainsParts}
@@ -36,12 +36,12 @@ module _ (version : Version) (extra : Wiring) (number : ℕ) (line : List ℕ) w
     gained = sym (append-nil text);
   }
 
-  pub too_much : (one : Wiring) (is : Bool) (old headed new : List ℕ) → ReadsAs (alone version line) one → IsExtra one extra is → is ≡ true
+  pub told_extra : (one : Wiring) (is : Bool) (old headed new : List ℕ) → ReadsAs (alone version line) one → IsExtra one extra is → is ≡ true
       → headed ≡ old ++ (codes "line " ++ decimal number ++ codes ": ") → GainsParts version one headed new
       → GainsTold version extra number line old new
-  too_much one is old headed new reads extra_is so begun gains = record {
+  told_extra one is old headed new reads extra_is so begun gains = record {
     told = codes "line " ++ decimal number ++ codes ": " ++ gains.parts;
-    is_told = is_too_much one reads (subst (IsExtra one extra) so extra_is) gains.parts gains.are;
+    is_told = is_extra one reads (subst (IsExtra one extra) so extra_is) gains.parts gains.are;
     gained = gains.gained
         ∙ ap (λ (front : List ℕ). front ++ gains.parts) begun
         ∙ append_assoc old (codes "line " ++ decimal number ++ codes ": ") gains.parts;

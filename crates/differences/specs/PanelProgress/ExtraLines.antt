@@ -29,7 +29,7 @@ pub record IsExtra (one extra : Wiring) (is : Bool) : Type 0 where
 pub data IsToldLine (version : Version) (extra : Wiring) (number : ℕ) (line : List ℕ) : (told : List ℕ) → Type 0 where
   says_nothing : ((one : Wiring) → ¬ ReadsAs (alone version line) one) → IsToldLine version extra number line []
   is_asked_for : (one : Wiring) → ReadsAs (alone version line) one → IsExtra one extra false → IsToldLine version extra number line []
-  is_too_much : (one : Wiring) → ReadsAs (alone version line) one → IsExtra one extra true → (parts : List ℕ) → ArePartsOf version one parts
+  is_extra : (one : Wiring) → ReadsAs (alone version line) one → IsExtra one extra true → (parts : List ℕ) → ArePartsOf version one parts
       → IsToldLine version extra number line (codes "line " ++ decimal number ++ codes ": " ++ parts)
 
 -- what is told of some lines, the first of which has a number

@@ -67,7 +67,7 @@ fn is_extra(alloc: Global, one: &Setup, extra: &Setup) -> Result<bool, AllocErro
     Ok(is_all_extra(size(one), size(&left)))
 }
 
-#[tactic(auto, using(crate::proofs::PanelProgress::Telling::nothing_said, crate::proofs::PanelProgress::Telling::asked_for, crate::proofs::PanelProgress::Telling::too_much))]
+#[tactic(auto, using(crate::proofs::PanelProgress::Telling::nothing_said, crate::proofs::PanelProgress::Telling::asked_for, crate::proofs::PanelProgress::Telling::told_extra))]
 // Writes the line with a number, if what it says is extra.
 fn write_if_extra(
     alloc: Global,

@@ -1,5 +1,5 @@
 -- What a text gains of holes and characters.
-use Rattle.std.proofs.Common.{suc, ◌≡◌, ◌∙◌, sym, ap, refl, Bool, true, false, ℕ, ◌+◌, ◌<◌, ◌≤◌, ◌==◌, List, [], ◌∷◌, ◌++◌, append_assoc, append-nil, arith, flat_map, get_or, length, take}
+use Rattle.std.proofs.Common.{suc, ◌≡◌, ◌∙◌, sym, ap, refl, Bool, true, false, ℕ, ◌+◌, ◌<◌, List, [], ◌∷◌, ◌++◌, append_assoc, append-nil, flat_map, get_or, length, take}
 use Rattle.std.specs.Prelude.{if◌then◌else◌, map}
 use Rattle.std.proofs.lemmas.List.{map-append, take_more}
 use Rattle.std.proofs.lemmas.List.Concat.{flat_map-append}
@@ -7,7 +7,6 @@ use Rattle.card_code.specs.CardCode.{has_row, print_character}
 use Rattle.card_code.specs.Rows.{row_number}
 use Rattle.card_code.specs.declared.row.Row.{Row}
 use Rattle.markup.specs.Pieces.{numbered_words}
-use Rattle.page_text.specs.Pages.{onto_cut, without_trailing_blanks}
 use Rattle.drawings.specs.CardDrawing.Drawings.{characters_of, hole_text}
 use Rattle.drawings.specs.CardDrawing.Helper.{column_text, row_text}
 use Rattle.drawings.specs.CardDrawing.Holes.{hole_in, holes_from, rows_down}
@@ -53,18 +52,3 @@ characters_more columns place d old mid new less before pushed =
 pub characters_long : (columns : List ℕ) → length (characters_of columns) ≡ length columns
 characters_long [] = refl
 characters_long (column ∷ others) = ap suc (characters_long others)
-
--- no text is longer without the blanks at its end
-one_at_most : (is_blank : Bool) (character many : ℕ) → length (if is_blank then [] else character ∷ []) ≤ many + 1
-one_at_most true character many = omega arith
-one_at_most false character many = omega arith
-
-one_more_at_most : (character : ℕ) (cut : List ℕ) (many : ℕ) → length cut ≤ many → length (onto_cut character cut) ≤ many + 1
-one_more_at_most character [] many few = one_at_most (character == 32) character many
-one_more_at_most character (next ∷ rest) many few = omega (arith, few)
-
-pub cut_shorter : (text : List ℕ) → length (without_trailing_blanks text) ≤ length text
-cut_shorter [] = omega arith
-cut_shorter (character ∷ others) =
-    let short = one_more_at_most character (without_trailing_blanks others) (length others) (cut_shorter others) in
-    omega (arith, short)

@@ -12,7 +12,7 @@ use Rattle.hubs.specs.declared.hub.Hub.{Hub}
 use Rattle.hubs.proofs.HubLemmas.{in_range, number_of-entry, number_of-exit, number_of-injective, number_of-range}
 use Rattle.drawings.specs.PanelDrawing.Blocks.{height, lower_edge, middle, place_at, place_numbered, place_of, right_edge, width, are_apart, are_blocks, block_in, blocks, has_room, is_block, is_dotted, is_drawn, is_of_kind, is_on_its_side, place_in}
 use Rattle.drawings.specs.declared.panel_drawing.blocks.Block.{Block}
-use Rattle.drawings.specs.declared.panel_drawing.blocks.Place.{Place}
+use Rattle.drawings.specs.declared.panel_drawing.blocks.Coordinates.{Coordinates}
 
 pub all_blocks : are_blocks 0 blocks ≡ true
 unfolding blocks
@@ -51,7 +51,7 @@ in_block test before (first ∷ others) number are all less most =
         rw later (next (grind (arith, nat_tests, e, at)))
 
 -- a place stands in a block
-pub record StandsIn (block : Block) (place : Place) : Type 0 where
+pub record StandsIn (block : Block) (place : Coordinates) : Type 0 where
   pub from_left : block.left ≤ place.x
   pub to_right : place.x < right_edge block
   pub from_top : block.top ≤ place.y
@@ -117,7 +117,7 @@ stands_in block number of =
     }
 
 -- no place stands in two blocks that are apart
-pub stands_in_one : (one other : Block) (place : Place) → are_apart one other ≡ true → StandsIn one place → StandsIn other place → ⊥
+pub stands_in_one : (one other : Block) (place : Coordinates) → are_apart one other ≡ true → StandsIn one place → StandsIn other place → ⊥
 stands_in_one one other place apart here there =
     let right = nat_le (right_edge one) other.left in
     let left = nat_le (right_edge other) one.left in
@@ -153,9 +153,9 @@ one_in_block block m n spaced behind too same =
     let first : ℕ = m - block.before - 1 in
     let second : ℕ = n - block.before - 1 in
     let aside : first % block.columns ≡ second % block.columns =
-    same_steps block.left block.across (first % block.columns) (second % block.columns) spaced (ap (λ (p : Place). p.x) same) in
+    same_steps block.left block.across (first % block.columns) (second % block.columns) spaced (ap (λ (p : Coordinates). p.x) same) in
     let down : first / block.columns ≡ second / block.columns =
-    same_steps block.top 14 (first / block.columns) (second / block.columns) (omega arith) (ap (λ (p : Place). p.y) same) in
+    same_steps block.top 14 (first / block.columns) (second / block.columns) (omega arith) (ap (λ (p : Coordinates). p.y) same) in
     let one : first ≡ second =
     sym (div-add-mod first block.columns) ∙ ap (λ (q : ℕ). block.columns * q + first % block.columns) down
     ∙ ap (λ (q : ℕ). block.columns * (second / block.columns) + q) aside ∙ div-add-mod second block.columns in
@@ -259,7 +259,7 @@ places_of_their_own one other is too same =
     number_of-injective one other second.0 (first.1 ∙ ap (λ (n : ℕ). Some n) numbers) second.1
 
 -- the place of a hub stands in its block
-pub record IsPlaced (hub : Hub) (number : ℕ) (place : Place) : Type 0 where
+pub record IsPlaced (hub : Hub) (number : ℕ) (place : Coordinates) : Type 0 where
   pub numbered : number_of hub ≡ Some number
   pub right : IsRight (block_in blocks number)
   pub of : IsOf (block_in blocks number) number

@@ -9,7 +9,7 @@ use Rattle.hub_table.specs.declared.letters.Letters.TheVariants as kind
 use Rattle.hubs.specs.Hubs.{number_of}
 use Rattle.hubs.specs.declared.hub.Hub.{Hub}
 use Rattle.drawings.specs.declared.panel_drawing.blocks.Block.{Block}
-use Rattle.drawings.specs.declared.panel_drawing.blocks.Place.{Place}
+use Rattle.drawings.specs.declared.panel_drawing.blocks.Coordinates.{Coordinates}
 
 -- a block
 abbrev pub block : Letters → (width before count left top columns rows across run : ℕ) → Block
@@ -112,22 +112,22 @@ block_in [] number = no_block
 block_in (first ∷ others) number = if nat_le number (first.before + first.count) then first else block_in others number
 
 -- the place of a hub's number in its block, row by row
-abbrev pub place_in : Block → ℕ → Place
+abbrev pub place_in : Block → ℕ → Coordinates
 place_in block number = record {
   x = block.left + block.across * ((number - block.before - 1) % block.columns);
   y = block.top + 14 * ((number - block.before - 1) / block.columns);
 }
 
 -- the place of a hub's number
-abbrev pub place_at : ℕ → Place
+abbrev pub place_at : ℕ → Coordinates
 place_at number = place_in (block_in blocks number) number
 
 -- the place of a hub; the left upper corner for one that the panel doesn't have
-abbrev pub place_numbered : Option ℕ → Place
+abbrev pub place_numbered : Option ℕ → Coordinates
 place_numbered None = record { x = 0; y = 0 }
 place_numbered (Some number) = place_at number
 
-abbrev pub place_of : Hub → Place
+abbrev pub place_of : Hub → Coordinates
 place_of hub = place_numbered (number_of hub)
 
 -- how wide and how high the drawing is

@@ -12,7 +12,7 @@ use Rattle.hubs.specs.declared.hub.Hub.{Hub}
 use Rattle.markup.specs.Pieces.{numbered_words}
 use Rattle.drawings.specs.PanelDrawing.Blocks.{block_in, blocks, place_of}
 use Rattle.drawings.specs.declared.panel_drawing.blocks.Block.{Block}
-use Rattle.drawings.specs.declared.panel_drawing.blocks.Place.{Place}
+use Rattle.drawings.specs.declared.panel_drawing.blocks.Coordinates.{Coordinates}
 use Rattle.drawings.specs.declared.panel_drawing.drawing.PanelWire.{PanelWire}
 
 -- what a kind of hub is called
@@ -127,7 +127,7 @@ abbrev pub block_text : Block → List ℕ
 block_text block = label_text block ++ dots_text block
 
 -- the centre and the size of a larger dot
-abbrev pub centre_text : Place → List ℕ
+abbrev pub centre_text : Coordinates → List ℕ
 centre_text place = codes " cx=\"" ++ decimal place.x ++ codes "\" cy=\"" ++ decimal place.y ++ codes "\" r=\"5\">"
 
 -- a larger dot, and the name of its hub
@@ -157,16 +157,16 @@ abbrev pub hub_dot : List PanelWire → ℕ → Hub → List ℕ
 hub_dot wires number hub = if has_wire_at number wires then linked_dot number hub else []
 
 -- a pen set down at a place
-abbrev pub pen_at : Place → List ℕ
+abbrev pub pen_at : Coordinates → List ℕ
 pen_at place = codes "M" ++ decimal place.x ++ codes " " ++ decimal place.y
 
 -- a curve from one place to another: it leaves the first and arrives at the second straight up or down, through the middle
-abbrev pub curve_between : Place → Place → List ℕ
+abbrev pub curve_between : Coordinates → Coordinates → List ℕ
 curve_between from to =
     codes "C" ++ decimal from.x ++ codes " 470 " ++ decimal to.x ++ codes " 470 " ++ decimal to.x ++ codes " " ++ decimal to.y
 
 -- a line to a place
-abbrev pub line_to : Place → List ℕ
+abbrev pub line_to : Coordinates → List ℕ
 line_to place = codes "L" ++ decimal place.x ++ codes " " ++ decimal place.y
 
 -- the name of a wire

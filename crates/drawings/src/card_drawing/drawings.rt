@@ -71,7 +71,7 @@ fn write_print(text: &mut String, words: &[u8]) -> Result<(), AllocError>
     text.push_str("</text>")
 }
 
-#[tactic(auto, using(crate::proofs::CardDrawing::Written::cut_shorter))]
+#[tactic(auto, using(page_text::proofs::CutTexts::no_longer))]
 // The print on a card, by its columns.
 fn write_print_of(alloc: Global, text: &mut String, card: &Card) -> Result<(), AllocError>
     ensures { OnOk result (string_bytes text.new ≡ string_bytes text.old ++ print_text (print_of card.now)) }

@@ -9,7 +9,7 @@ use hubs::Hub;
 
 /// A place of the drawing, in units from its left upper corner.
 #[derive(Clone, Copy, Debug, PartialEq, Eq)]
-pub struct Place {
+pub struct Coordinates {
     /// How far to the right.
     pub x: u32,
     /// How far down.
@@ -142,7 +142,7 @@ fn block_in(table: &[Block], number: u32) -> Block
 }
 
 // The place of a hub's number in its block.
-fn place_in(block: Block, number: u32) -> Place
+fn place_in(block: Block, number: u32) -> Coordinates
     requires behind { block.before < number }
     requires wide { 0 < block.columns }
     requires small { (block.left ≤ 2000) × (block.top ≤ 2000) × (block.across ≤ 2000) }
@@ -150,7 +150,7 @@ fn place_in(block: Block, number: u32) -> Place
     ensures { result ≡ place_in block number }
 {
     let passed = number - block.before - 1;
-    Place {
+    Coordinates {
         x: block.left + block.across * (passed % block.columns),
         y: block.top + 14 * (passed / block.columns),
     }
@@ -165,7 +165,7 @@ pub(crate) fn block_at(number: u32) -> Block
 }
 
 // The place of a hub's number.
-fn place_at(number: u32) -> Place
+fn place_at(number: u32) -> Coordinates
     requires from { 1 ≤ number }
     requires to { number ≤ 1936 }
     ensures { result ≡ place_at number }
@@ -174,11 +174,11 @@ fn place_at(number: u32) -> Place
 }
 
 /// The place of a hub on the drawing; the left upper corner for a hub that the panel doesn't have.
-pub fn hub_place(hub: Hub) -> Place
+pub fn hub_place(hub: Hub) -> Coordinates
     ensures { result ≡ place_of hub }
 {
     match hub.number() {
         Some(number) => place_at(number),
-        None => Place { x: 0, y: 0 },
+        None => Coordinates { x: 0, y: 0 },
     }
 }

@@ -8,7 +8,7 @@ ghost use Rattle.markup.specs.Pieces.{numbered_words};
 ghost use Rattle.drawings.specs.PanelDrawing.Drawing.{block_name, block_text, block_words, called_text, centre_text, colour_text, counters_front, counters_label, counters_place, counters_words, counts_wheels, curve_between, dot_text, dots_open, dots_text, drawing_behind, drawing_between, drawing_close, drawing_open, ends_at, has_number, has_wire_at, hub_dot, kind_words, label_left, label_open, label_place, label_text, label_top, label_words, line_to, link_text, linked_dot, next_row, next_rows, pen_at, picture_open, plate_open, side_words, step_text, steps_text, way_curve, width_text, wire_name, wire_path, wire_text};
 ghost use Rattle.drawings.specs.PanelDrawing.Helper.{GainsDrawing, GainsHubs};
 
-use crate::panel_drawing::blocks::{BLOCKS, Block, Place, block_at, hub_place};
+use crate::panel_drawing::blocks::{BLOCKS, Block, Coordinates, block_at, hub_place};
 use hub_table::Letters;
 use hubs::{Hub, write_hub};
 use numerals::{push_between, push_number, push_numbered};
@@ -262,7 +262,7 @@ fn write_blocks(text: &mut String, table: &[Block]) -> Result<(), AllocError>
 }
 
 // The centre and the size of a larger dot.
-fn write_centre(text: &mut String, place: Place) -> Result<(), AllocError>
+fn write_centre(text: &mut String, place: Coordinates) -> Result<(), AllocError>
     ensures { OnOk result (string_bytes text.new ≡ string_bytes text.old ++ centre_text place) }
 {
     push_numbered(text, " cx=\"", place.x)?;
@@ -350,7 +350,7 @@ fn write_hubs(text: &mut String, wires: &[PanelWire]) -> Result<(), AllocError>
 }
 
 // The pen at a place.
-fn write_pen(text: &mut String, place: Place) -> Result<(), AllocError>
+fn write_pen(text: &mut String, place: Coordinates) -> Result<(), AllocError>
     ensures { OnOk result (string_bytes text.new ≡ string_bytes text.old ++ pen_at place) }
 {
     push_numbered(text, "M", place.x)?;
@@ -358,7 +358,7 @@ fn write_pen(text: &mut String, place: Place) -> Result<(), AllocError>
 }
 
 // A curve between two places.
-fn write_curve(text: &mut String, from: Place, to: Place) -> Result<(), AllocError>
+fn write_curve(text: &mut String, from: Coordinates, to: Coordinates) -> Result<(), AllocError>
     ensures { OnOk result (string_bytes text.new ≡ string_bytes text.old ++ curve_between from to) }
 {
     push_numbered(text, "C", from.x)?;
@@ -368,7 +368,7 @@ fn write_curve(text: &mut String, from: Place, to: Place) -> Result<(), AllocErr
 }
 
 // A line to a place.
-fn write_line(text: &mut String, place: Place) -> Result<(), AllocError>
+fn write_line(text: &mut String, place: Coordinates) -> Result<(), AllocError>
     ensures { OnOk result (string_bytes text.new ≡ string_bytes text.old ++ line_to place) }
 {
     push_numbered(text, "L", place.x)?;

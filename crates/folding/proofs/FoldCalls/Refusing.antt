@@ -9,7 +9,7 @@ use Rattle.card_code.specs.MostCards.{most_cards}
 use Rattle.card_code.specs.declared.deck.DeckFault.{DeckFault}
 use Rattle.card_code.specs.declared.deck.DeckFault.TheVariants as deck
 use Rattle.folding.specs.FoldCalls.LongCards.{long_cards}
-use Rattle.folding.specs.FoldCalls.Served.{IsRefused, is_too_long, long_lines}
+use Rattle.folding.specs.FoldCalls.FoldEnds.{IsRefused, is_too_long, long_lines}
 
 module _ {X E : Type 0} (told : Result X E) (status : ℕ) (is_told : Bool)
     (ends : MatchResult told (λ _. (status ≡ 3) × (is_told ≡ true)) (λ _. ((status ≡ 4) ⊎ (status ≡ 5)) × (is_told ≡ false))) where

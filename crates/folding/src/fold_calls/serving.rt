@@ -5,9 +5,9 @@ ghost use Rattle.std.specs.Io.KnownBytes.{Appends};
 ghost use Rattle.card_code.specs.CardCode.{rows_of};
 ghost use Rattle.card_code.specs.Deck.{HasDeckFault};
 ghost use Rattle.card_code.specs.Lines.{lines_of};
-ghost use Rattle.folding.specs.FoldCalls.Served.{IsRefused, WritesDeck, is_too_long};
+ghost use Rattle.folding.specs.FoldCalls.FoldEnds.{IsRefused, WritesDeck, is_too_long};
 ghost use Rattle.folding.specs.Folded.{folded_text};
-ghost use Rattle.folding.specs.Told.{changes_text};
+ghost use Rattle.folding.specs.ToldChanges.{changes_text};
 
 use crate::fold_calls::long_cards::write_long_cards;
 use crate::{Changes, Folded, fold, write_changes};

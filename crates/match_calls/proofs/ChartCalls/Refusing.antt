@@ -2,7 +2,7 @@
 use Rattle.std.proofs.Common.{◌≡◌, ◌≢◌, ◌∙◌, ap, List, ℕ}
 use Rattle.faults.proofs.Statuses.{wiring_status}
 use Rattle.faults.specs.Status.{status_of}
-use Rattle.faults.specs.Told.{chart_told, wiring_told}
+use Rattle.faults.specs.ToldFaults.{chart_told, wiring_told}
 use Rattle.faults.specs.declared.chart.ChartFault.{ChartFault}
 use Rattle.faults.specs.declared.chart.ChartFault.TheVariants as chart
 use Rattle.faults.specs.declared.fault.Fault.{Fault}

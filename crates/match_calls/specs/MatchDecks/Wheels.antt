@@ -2,17 +2,17 @@
 use Rattle.std.specs.Prelude.{◌≡◌, ◌≢◌, ℕ, ◌+◌, ◌-◌, ◌<◌, ◌≤◌, ◌==◌, ◌&&◌, Bool, List, [], ◌∷◌, Option, Some, None, IfNone, IfSome, replicate, slice_index, if◌then◌else◌}
 use Rattle.machine.specs.Runs.{MachineLines}
 use Rattle.match_calls.specs.MatchDecks.Differing.{IsFirstDifference}
-use Rattle.match_calls.specs.declared.match_decks.lines.Place.{Place}
+use Rattle.match_calls.specs.declared.match_decks.lines.LinePlace.{LinePlace}
 use Rattle.match_calls.specs.declared.match_decks.wheels.Difference.{Difference}
 use Rattle.page_text.specs.declared.placed_lines.placed_line.PlacedLine.{PlacedLine}
 use Rattle.setups.specs.Wiring.{Wiring}
 
 -- whether a line stands at a place
-abbrev pub is_at : Place → PlacedLine → Bool
+abbrev pub is_at : LinePlace → PlacedLine → Bool
 is_at place placed = (placed.page == place.page) && (placed.line == place.line)
 
 -- the characters at a place of a report: those of its first line there, and blanks where no line is printed
-abbrev pub text_at : List PlacedLine → Place → List ℕ
+abbrev pub text_at : List PlacedLine → LinePlace → List ℕ
 text_at [] place = replicate 120 32
 text_at (placed ∷ lines) place = if is_at place placed then placed.text else text_at lines place
 

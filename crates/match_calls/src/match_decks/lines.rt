@@ -7,7 +7,7 @@ use page_text::placed_lines::PlacedLine;
 
 /// A place of a report.
 #[derive(Clone, Copy, Debug, PartialEq, Eq)]
-pub struct Place {
+pub struct LinePlace {
     /// The page, from 1.
     pub page: u64,
     /// The line on the page, from 1.
@@ -15,17 +15,17 @@ pub struct Place {
 }
 
 // The place of a line.
-fn place_of(placed: &PlacedLine) -> Place
+fn place_of(placed: &PlacedLine) -> LinePlace
     ensures { result ≡ place_of placed.now }
 {
-    Place {
+    LinePlace {
         page: placed.page,
         line: placed.line,
     }
 }
 
 // The lower of the places of two lines: by page, then by line.
-fn lower_place(one: &PlacedLine, other: &PlacedLine) -> Place
+fn lower_place(one: &PlacedLine, other: &PlacedLine) -> LinePlace
     ensures { result ≡ lower_place one.now other.now }
 {
     if one.page < other.page || one.page == other.page && one.line <= other.line {
@@ -44,7 +44,7 @@ fn is_same(one: &PlacedLine, other: &PlacedLine) -> bool
 
 // The place of the first line in which two lists of printed lines differ: up to it they are the same. Where there they have two
 // lines, it is the lower one of their places, and where one list ends, the place of the other's line. None where the lists are the same.
-pub(crate) fn first_difference(one: &[PlacedLine], other: &[PlacedLine]) -> Option<Place>
+pub(crate) fn first_difference(one: &[PlacedLine], other: &[PlacedLine]) -> Option<LinePlace>
     ensures same { IfNone result (one.now ≡ other.now) }
     ensures first { IfSome result (IsFirstDifference one.now other.now) }
 {

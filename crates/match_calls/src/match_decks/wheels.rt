@@ -4,27 +4,27 @@ ghost use Rattle.std.specs.Prelude.{◌≡◌, ◌≤◌, IfNone, IfSome, IsTrue
 ghost use Rattle.match_calls.specs.MatchDecks.Differing.{IsFirstDifference};
 ghost use Rattle.match_calls.specs.MatchDecks.Wheels.{AreAlike, IsDifferenceOf, IsFirstApart, IsToldWheel, is_at, text_at};
 
-use crate::match_decks::lines::{Place, first_difference};
+use crate::match_decks::lines::{LinePlace, first_difference};
 use page_text::placed_lines::{LINE_WHEELS, PlacedLine};
 
 /// Where two reports differ first.
 #[derive(Clone, Copy, Debug, PartialEq, Eq)]
 pub struct Difference {
     /// The place of the line.
-    pub place: Place,
+    pub place: LinePlace,
     /// The wheel, 1 to 120: the first on which what is printed there differs. 1 where a blank line stands in only one of them.
     pub wheel: u8,
 }
 
 // Whether a line stands at a place.
-fn is_at(place: Place, placed: &PlacedLine) -> bool
+fn is_at(place: LinePlace, placed: &PlacedLine) -> bool
     ensures { result ≡ is_at place placed.now }
 {
     placed.page == place.page && placed.line == place.line
 }
 
 // The characters at a place: blanks where no line is printed.
-fn text_at(lines: &[PlacedLine], place: Place) -> [u8; LINE_WHEELS]
+fn text_at(lines: &[PlacedLine], place: LinePlace) -> [u8; LINE_WHEELS]
     ensures { result ≡ text_at lines.now place }
 {
     for placed in lines {

@@ -11,7 +11,7 @@ use chart_rules::Chart;
 use charts::{Line, Statement};
 use differences::difference;
 use differences::panel_progress::is_same_form;
-use legend::Row;
+use legend::LegendRow;
 use numerals::push_numbered;
 use plans::Plan;
 use setups::{Setup, Tape};
@@ -77,7 +77,7 @@ fn write_heading(text: &mut String, chart: &Chart, line: &Line) -> Result<(), Al
 {
     push_numbered(text, "line ", line.number)?;
     text.push_str(": ")?;
-    text.push_str(Row::of(chart, &line.statement).sentence())?;
+    text.push_str(LegendRow::of(chart, &line.statement).sentence())?;
     text.push_str("\n")
 }
 

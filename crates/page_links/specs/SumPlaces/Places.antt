@@ -6,7 +6,7 @@ use Rattle.hubs.specs.declared.hub.Group.{Group}
 use Rattle.ledgers.specs.declared.account.Account.{Account}
 use Rattle.ledgers.specs.declared.account.Account.TheVariants.{One, Coupled}
 use Rattle.wheel_ledgers.specs.Printed.{place_printed}
-use Rattle.wheel_ledgers.specs.Told.{account_told}
+use Rattle.wheel_ledgers.specs.ToldLedgers.{account_told}
 use Rattle.wheel_ledgers.specs.Totals.{find_total}
 use Rattle.wheel_ledgers.specs.declared.chart_totals.TitledAccount.{TitledAccount}
 use Rattle.page_links.specs.declared.sum_places.places.SumPlace.{SumPlace}

@@ -11,13 +11,13 @@ use Rattle.page_text.specs.declared.placed_lines.placed_line.PlacedLine.{PlacedL
 use Rattle.setups.specs.Wiring.{Wiring}
 use Rattle.explanations.specs.Explanations.{ExplainsBy, character_on}
 use Rattle.explanations.specs.declared.explanation.Explanation.{Explanation}
-use Rattle.explanation_text.specs.Told.{IsTextOf, text_of}
+use Rattle.explanation_text.specs.ExplanationTexts.{IsTextOf, text_of}
 use Rattle.explanations.specs.declared.found.FoundLine.{FoundLine}
 use Rattle.explanations.specs.Pages.{AreFoundLines, IsFoundLine}
 use Rattle.machine.specs.declared.kept.KeptPoint.{KeptPoint}
 use Rattle.markup.proofs.Pieces.{numbers_more}
 use Rattle.page_sections.specs.WheelSections.Helper.{GainsTold, IsToldOf}
-use Rattle.page_sections.specs.WheelSections.Told.{AreTold, IsTold, WheelPlace, place_of, printed_by, printed_on, printed_places}
+use Rattle.page_sections.specs.WheelSections.ToldWheels.{AreTold, IsTold, WheelPlace, place_of, printed_by, printed_on, printed_places}
 use Rattle.page_sections.specs.declared.wheel_sections.told.ToldWheel.{ToldWheel}
 
 flat_map_last : {A B : Type 0} (word : A → List B) (things : List A) (thing : A)

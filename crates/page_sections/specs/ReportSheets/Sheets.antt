@@ -68,8 +68,8 @@ written_row shown found page line [] = []
 written_row shown found page line (first ∷ others) =
     word_text shown found page line ++ characters_text page line (without_trailing_blanks (first ∷ others)) ++ codes "</span>"
 
-unfoldable pub row_text : Shown → List PlacedLine → List FoundLine → (page line : ℕ) → List ℕ
-row_text shown lines found page line = written_row shown found page line (text_at lines page line) ++ codes "\n"
+unfoldable pub sheet_row : Shown → List PlacedLine → List FoundLine → (page line : ℕ) → List ℕ
+sheet_row shown lines found page line = written_row shown found page line (text_at lines page line) ++ codes "\n"
 
 -- the front of a sheet; a reader of HTML drops an end of a line that stands directly behind a `pre`'s tag, which a blank row 1 would be, so
 -- an empty element stands between them
@@ -79,7 +79,7 @@ sheet_open page = codes "<pre id=\"page" ++ decimal page ++ codes "\"><span></sp
 -- a sheet of so many rows
 unfoldable pub sheet_text : Shown → List PlacedLine → List FoundLine → (long page : ℕ) → List ℕ
 sheet_text shown lines found long page =
-    sheet_open page ++ flat_map (row_text shown lines found page) (range_with_len 1 long) ++ codes "</pre>\n"
+    sheet_open page ++ flat_map (sheet_row shown lines found page) (range_with_len 1 long) ++ codes "</pre>\n"
 
 -- the sheets from a page to the last one with a line
 unfoldable pub sheets_text : Shown → List PlacedLine → List FoundLine → (long first : ℕ) → List ℕ

@@ -7,8 +7,8 @@ use Rattle.setups.specs.Wiring.{Wiring}
 use Rattle.explanations.specs.PlacedInRun.{IsFound}
 use Rattle.explanations.specs.Rows.{AreRowWays}
 use Rattle.explanations.specs.declared.explanation.LineWays.{LineWays}
-use Rattle.explanation_text.specs.Told.{IsTextOf}
-use Rattle.page_sections.specs.WheelSections.Told.{AreTold, WheelPlace}
+use Rattle.explanation_text.specs.ExplanationTexts.{IsTextOf}
+use Rattle.page_sections.specs.WheelSections.ToldWheels.{AreTold, WheelPlace}
 use Rattle.page_sections.specs.declared.wheel_sections.told.ToldWheel.{ToldWheel}
 
 -- the ways are those of the printed line, in the run over the deck

@@ -54,7 +54,7 @@ part_text told sums place hub = characters_text (through_links place told) ++ he
 
 -- the same, or else that there is nothing
 unfoldable pub none_text : List ℕ
-none_text = codes "<p>None of the ways on this page leads through it.</p>\n"
+none_text = codes "<p>No way to a character shown leads through it.</p>\n"
 
 abbrev pub said_or_none : List ℕ → List ℕ
 said_or_none [] = none_text

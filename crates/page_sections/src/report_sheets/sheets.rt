@@ -4,7 +4,7 @@ ghost use Rattle.std.specs.Prelude.{◌≡◌, ◌<◌, ◌≤◌, ◌++◌, cod
 ghost use Rattle.std.specs.List.{flat_map, range_with_len};
 ghost use Rattle.std.specs.String.{string_bytes};
 ghost use Rattle.page_text.specs.Pages.{text_at};
-ghost use Rattle.page_sections.specs.ReportSheets.Sheets.{characters_text, cycle_word, link_text, printed_text, row_name, row_open, row_text, sheet_open, sheet_text, sheets_text, total_word, wheel_name, wheel_text, widest, word_at, word_text, written_row};
+ghost use Rattle.page_sections.specs.ReportSheets.Sheets.{characters_text, cycle_word, link_text, printed_text, row_name, row_open, sheet_open, sheet_row, sheet_text, sheets_text, total_word, wheel_name, wheel_text, widest, word_at, word_text, written_row};
 
 use explanations::FoundLine;
 use markup::push_escaped;
@@ -173,7 +173,7 @@ fn write_word(
     text.push_str("</b>")
 }
 
-#[tactic(auto, using(crate::proofs::ReportSheets::no_longer))]
+#[tactic(auto, using(page_text::proofs::CutTexts::no_longer))]
 // The word and the characters of a row, as an element of its own where a line stands there.
 fn write_printed_row(
     text: &mut String,
@@ -207,7 +207,7 @@ fn text_at(lines: &[PlacedLine], page: u64, line: u32) -> &[u8]
     &[]
 }
 
-#[tactic(auto, unfolding(crate::specs::ReportSheets::Sheets::row_text))]
+#[tactic(auto, unfolding(crate::specs::ReportSheets::Sheets::sheet_row))]
 // A row.
 fn write_row(
     text: &mut String,
@@ -217,7 +217,7 @@ fn write_row(
     page: u64,
     line: u32,
 ) -> Result<(), AllocError>
-    ensures { OnOk result (string_bytes text.new ≡ string_bytes text.old ++ row_text shown lines.now found.now page line) }
+    ensures { OnOk result (string_bytes text.new ≡ string_bytes text.old ++ sheet_row shown lines.now found.now page line) }
 {
     write_printed_row(text, shown, found, page, line, text_at(lines, page, line))?;
     text.push_str("\n")
@@ -234,7 +234,7 @@ fn write_rows(
     page: u64,
 ) -> Result<(), AllocError>
     requires { long ≤ 144 }
-    ensures { OnOk result (string_bytes text.new ≡ string_bytes text.old ++ flat_map (row_text shown lines.now found.now page) (range_with_len 1 long)) }
+    ensures { OnOk result (string_bytes text.new ≡ string_bytes text.old ++ flat_map (sheet_row shown lines.now found.now page) (range_with_len 1 long)) }
 {
     for passed in 0..long {
         write_row(text, shown, lines, found, page, passed + 1)?;

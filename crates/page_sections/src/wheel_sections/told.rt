@@ -4,7 +4,7 @@ ghost use Rattle.std.specs.Prelude.{◌≡◌, ◌≤◌, ◌<◌, ◌+◌, [], 
 ghost use Rattle.std.specs.List.{flat_map, range_with_len};
 ghost use Rattle.explanations.specs.Pages.{AreFoundLines, IsFoundLine};
 ghost use Rattle.page_sections.specs.WheelSections.Helper.{AreWaysOfLine, GainsTold, IsToldOf};
-ghost use Rattle.page_sections.specs.WheelSections.Told.{AreTold, printed_by, printed_on, printed_places};
+ghost use Rattle.page_sections.specs.WheelSections.ToldWheels.{AreTold, printed_by, printed_on, printed_places};
 
 use card_code::Card;
 use explanation_text::wheel_text;
@@ -36,6 +36,7 @@ fn tell_wheel(
     requires range { (1 ≤ wheel) × (wheel ≤ 120) }
     ensures { IfOk result (λ told. IsToldOf setup.now asked.now cards.now placed.now wheel told) }
 {
+    // Only the contract speaks of the deck and of the line: named here, they save it a clause for all decks and lines.
     let _cards = cards;
     let _placed = placed;
     let why = line.wheel(alloc, setup, wheel)?;

@@ -121,7 +121,7 @@ fn write_part(
 fn write_none(text: &mut String) -> Result<(), AllocError>
     ensures { OnOk result (string_bytes text.new ≡ string_bytes text.old ++ none_text) }
 {
-    text.push_str("<p>None of the ways on this page leads through it.</p>\n")
+    text.push_str("<p>No way to a character shown leads through it.</p>\n")
 }
 
 // What is said, or that there is nothing.

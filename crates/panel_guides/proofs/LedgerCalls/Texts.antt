@@ -6,7 +6,7 @@ use Rattle.panel_guides.specs.Panels.{IsRunOf}
 use Rattle.panel_guides.specs.declared.place.Place.{Place}
 use Rattle.wheel_ledgers.specs.declared.scope.Scope.{Scope}
 use Rattle.panel_guides.specs.LedgerCalls.Ledgers.{AreTotals, IsLedgerText, TellsPlace}
-use Rattle.panel_guides.specs.LedgerCalls.Served.{PrintsTelling}
+use Rattle.panel_guides.specs.LedgerCalls.LedgerEnds.{PrintsTelling}
 use Rattle.panel_guides.specs.declared.ledger_calls.telling.Question.{Question}
 use Rattle.wheel_ledgers.specs.declared.chart_totals.TitledAccount.{TitledAccount}
 

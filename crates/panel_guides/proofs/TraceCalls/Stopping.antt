@@ -12,7 +12,7 @@ use Rattle.program_io.proofs.Refusing.{is_known}
 use Rattle.program_io.proofs.StoppingWith.{outcome_stops_again, texts_stop_with}
 use Rattle.setups.specs.Wiring.{Wiring}
 use Rattle.traces.specs.Tracing.{WritesTrace}
-use Rattle.panel_guides.specs.TraceCalls.Served.{LeavesUntraced, PrintsTrace, StopsTrace}
+use Rattle.panel_guides.specs.TraceCalls.TraceEnds.{LeavesUntraced, PrintsTrace, StopsTrace}
 
 -- the trace of the cards on the panel is that of the text and the deck
 pub traced : {X E : Type 0} (result : Result X E) (text deck : List ℕ) (slice cards : List (List ℕ)) (wiring : Wiring)

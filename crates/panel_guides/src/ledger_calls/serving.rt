@@ -2,9 +2,9 @@
 
 ghost use Rattle.std.specs.Prelude.{◌≡◌, ◌≢◌, ◌≤◌, ◌⊎◌, IfErr, OnOk, Some};
 ghost use Rattle.faults.specs.Lines.{IsTold};
-ghost use Rattle.panel_guides.specs.LedgerCalls.Served.{PrintsTelling};
+ghost use Rattle.panel_guides.specs.LedgerCalls.LedgerEnds.{PrintsTelling};
 ghost use Rattle.panel_guides.specs.Panels.{HasPanel};
-ghost use Rattle.panel_guides.specs.Served.{LeavesUnexplained, StopsExplanation};
+ghost use Rattle.panel_guides.specs.ExplainEnds.{LeavesUnexplained, StopsExplanation};
 ghost use Rattle.panel_guides.specs.Unexplained.{IsToldUnexplained};
 
 use crate::ledger_calls::telling::{Question, told_wheel};

@@ -6,7 +6,7 @@ ghost use Rattle.card_code.specs.MostCards.{most_cards};
 ghost use Rattle.faults.specs.Lines.{IsTold};
 ghost use Rattle.panel_guides.specs.Panels.{HasPanel, is_wiring_text};
 ghost use Rattle.std.specs.Prelude.{Some, false, length, true};
-ghost use Rattle.panel_guides.specs.TraceCalls.Served.{LeavesUntraced, PrintsTrace, StopsTrace};
+ghost use Rattle.panel_guides.specs.TraceCalls.TraceEnds.{LeavesUntraced, PrintsTrace, StopsTrace};
 ghost use Rattle.traces.specs.Tracing.{WritesTrace};
 
 use crate::{check_panel, is_wiring_text, planned_run, wired_run};

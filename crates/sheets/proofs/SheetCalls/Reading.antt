@@ -11,7 +11,7 @@ use Rattle.chart_text.specs.declared.fault.TextFault.{TextFault}
 use Rattle.chart_text.specs.declared.fault.TextFault.TheVariants as text
 use Rattle.charts.specs.Chart.{Chart}
 use Rattle.faults.specs.ChartCauses.{of_rule, of_text}
-use Rattle.faults.specs.Told.{chart_told}
+use Rattle.faults.specs.ToldFaults.{chart_told}
 use Rattle.faults.specs.declared.fault.Fault.{Fault}
 use Rattle.faults.specs.declared.fault.Fault.TheVariants as fault
 use Rattle.sheets.specs.SheetCalls.Charts.{BreaksRules, ReadsLawful, RefusesLines, no_chart, unlawful}

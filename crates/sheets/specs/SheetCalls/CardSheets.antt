@@ -13,7 +13,7 @@ use Rattle.chart_rules.specs.declared.card.CardFault.{CardFault}
 use Rattle.chart_rules.specs.declared.card.CardFault.TheVariants as invalid_as
 use Rattle.charts.specs.Chart.{Chart}
 use Rattle.faults.specs.Lines.{fault_line}
-use Rattle.faults.specs.Told.{deck_told, of_card, run_told}
+use Rattle.faults.specs.ToldFaults.{deck_told, of_card, run_told}
 use Rattle.faults.specs.declared.fault.Fault.{Fault}
 use Rattle.faults.specs.declared.fault.Fault.TheVariants as fault
 use Rattle.chart_rules.specs.Below.line_rules.FieldRules.Fields.{fields_of}

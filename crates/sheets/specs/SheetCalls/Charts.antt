@@ -8,7 +8,7 @@ use Rattle.chart_text.specs.TextFaults.{HasTextFault}
 use Rattle.chart_text.specs.declared.fault.TextFault.{TextFault}
 use Rattle.charts.specs.Chart.{Chart}
 use Rattle.faults.specs.ChartCauses.{of_rule, of_text}
-use Rattle.faults.specs.Told.{chart_told}
+use Rattle.faults.specs.ToldFaults.{chart_told}
 use Rattle.faults.specs.declared.fault.Fault.{Fault}
 
 -- the text reads as this chart, which breaks no rule

@@ -3,7 +3,7 @@
 ghost use Rattle.std.specs.Prelude.{◌≡◌, ◌⊎◌, IfErr, IfOk, OnOk};
 ghost use Rattle.chart_rules.specs.Rules.{IsLawful};
 ghost use Rattle.faults.specs.ChartCauses.{of_rule, of_text};
-ghost use Rattle.faults.specs.Told.{chart_told};
+ghost use Rattle.faults.specs.ToldFaults.{chart_told};
 ghost use Rattle.sheets.specs.SheetCalls.Charts.{BreaksRules, ReadsLawful, RefusesLines};
 
 use chart_rules::{Chart, RuleFault, check};

@@ -5,7 +5,7 @@ ghost use Rattle.card_code.specs.Deck.{IsCardOf};
 ghost use Rattle.chart_rules.specs.Below.line_rules.FieldRules.Fields.{fields_of};
 ghost use Rattle.faults.specs.Lines.{IsTold, fault_line};
 ghost use Rattle.faults.specs.Status.{status_of};
-ghost use Rattle.faults.specs.Told.{deck_told, of_card, run_told};
+ghost use Rattle.faults.specs.ToldFaults.{deck_told, of_card, run_told};
 ghost use Rattle.sheets.specs.SheetCalls.CardSheets as sheet;
 
 use crate::marks::write_column_mark;

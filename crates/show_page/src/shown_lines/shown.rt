@@ -33,8 +33,7 @@ pub fn all_lines(alloc: Global, setup: &Setup, cards: &[Card]) -> Result<ShownLi
     Ok(ShownLines { lines, found })
 }
 
-// Adds a cycle, of which these are the points. So many cards were fed before. (The points are passed for their type alone: the prover has to
-// meet it here to know what the cycles of a list are made of.)
+// Adds a cycle, of which these are the points. So many cards were fed before.
 fn push_found(
     cards: u32,
     kept: &KeptCycle,
@@ -43,6 +42,7 @@ fn push_found(
 ) -> Result<(), AllocError>
     ensures { OnOk result (found.new.items ≡ found.old.items ++ found_by cards kept.now ∷ []) }
 {
+    // Passed for their type alone, which the prover has to meet to know what the cycles of a list are made of: that saves a copy of the list.
     let _points = points;
     found.push(FoundLine { cards, kept: *kept })?;
     Ok(())

@@ -56,7 +56,7 @@ spells-same name one other pictures same spells = λ row low high position from 
     spells row low high position from to ∙ ap (λ d. d == row_number row) (same position from to)
 
 -- what the entries of both spell is given to both
-both-given : (upper lower : Group) (n : ℕ) (pictures : Point → Hub → Bool) → n < 10 ^ (upper.width + lower.width)
+pub both-given : (upper lower : Group) (n : ℕ) (pictures : Point → Hub → Bool) → n < 10 ^ (upper.width + lower.width)
     → SpellInBoth upper lower (digit_of n) pictures
     → number_of_both (digits_given upper pictures) (digits_given lower pictures) ≡ n
 both-given upper lower n pictures small spell =

@@ -21,13 +21,13 @@ abbrev pub row_of : ℕ → Row
 row_of digit = row_passing (9 - digit)
 
 -- what a line of a row begins with
-abbrev pub row_text : Row → List ℕ
-row_text row = codes "    row " ++ decimal (row_number row) ++ codes ":"
+abbrev pub digit_label : Row → List ℕ
+digit_label row = codes "    row " ++ decimal (row_number row) ++ codes ":"
 
 -- the line of a row that came in at a position by a hole, and the wire from its brush
 abbrev pub hole_line : (card : ℕ) → Position → Row → Hole → List ℕ
 hole_line card at_position row hole =
-    row_text row ++ codes " " ++ led_text (Some hole) card (entry_text at_position) ++ codes "\n"
+    digit_label row ++ codes " " ++ led_text (Some hole) card (entry_text at_position) ++ codes "\n"
 
 -- A hole in a row from which a wire leads to an entry in a cycle in which so many cards were read. It is told of card cycles alone: then the
 -- card is read that the entry of the ledger names.
@@ -43,7 +43,7 @@ abbrev pub IsLineBy : {wiring : Wiring} {deck : List (List ℕ)} {passed : ℕ} 
     → (digit : ℕ) → Option Hole → List ℕ → Type 0
 IsLineBy has card at_position digit (Some hole) answer = answer ≡ hole_line card at_position (row_of digit) hole
 IsLineBy has card at_position digit None answer =
-    IsWayLine has (10 - digit) (entry_at at_position) (row_text (row_of digit)) answer
+    IsWayLine has (10 - digit) (entry_at at_position) (digit_label (row_of digit)) answer
 
 -- The line of a digit that came in at a position in a cycle in which so many cards were read; no row of a 0 comes in.
 pub data IsDigitLine {wiring : Wiring} {deck : List (List ℕ)} {passed : ℕ} (has : HasCycle wiring deck passed) (cycle : Cycle) (card : ℕ)

@@ -6,7 +6,7 @@ ghost use Rattle.explanations.specs.Explanations.{row_passing};
 ghost use Rattle.ledgers.specs.Accounts.{IsAccount};
 ghost use Rattle.wheel_ledgers.specs.LedgerHoles.Positions.{entry_at};
 ghost use Rattle.wheel_ledgers.specs.LedgerHoles.Ways.{IsWayLine};
-ghost use Rattle.wheel_ledgers.specs.LedgerHoles.Digits.{AreDigitLines, IsDigitLine, IsLineBy, hole_for, hole_line, row_of, row_text};
+ghost use Rattle.wheel_ledgers.specs.LedgerHoles.Digits.{AreDigitLines, IsDigitLine, IsLineBy, digit_label, hole_for, hole_line, row_of};
 
 use crate::ledger_holes::positions::{Position, entry_at, position_in, write_entry};
 use crate::ledger_holes::way_lines::way_told;
@@ -40,7 +40,7 @@ fn row_of(digit: u8) -> Row
 
 // What a line of a row begins with.
 fn write_row(text: &mut Vec<u8>, row: Row) -> io::Result<()>
-    ensures { OnOk result (text.new.items ≡ text.old.items ++ row_text row) }
+    ensures { OnOk result (text.new.items ≡ text.old.items ++ digit_label row) }
 {
     let number = row.number();
     write!(text, "    row {number}:")
@@ -84,7 +84,7 @@ fn hole_line(
 
 // What a line of a row begins with, alone.
 fn row_front(alloc: Global, row: Row) -> Result<Vec<u8>, AllocError>
-    ensures { IfOk result (λ front. front.items ≡ row_text row) }
+    ensures { IfOk result (λ front. front.items ≡ digit_label row) }
 {
     let mut front = Vec::new(alloc);
     match write_row(&mut front, row) {
@@ -120,7 +120,7 @@ fn row_line(
 ) -> Result<Vec<u8>, AllocError>
     requires { digit ≤ 9 }
     ensures { (deck : List (List ℕ)) (passed : ℕ) (is : ArePointsOf setup.now deck passed points.now)
-        → IfOk result (λ line. IsWayLine is.has (10 - digit) (entry_at at_position) (row_text (row_of digit)) line.items) }
+        → IfOk result (λ line. IsWayLine is.has (10 - digit) (entry_at at_position) (digit_label (row_of digit)) line.items) }
 {
     let front = row_front(alloc, row_of(digit))?;
     let entry = entry_at(at_position);

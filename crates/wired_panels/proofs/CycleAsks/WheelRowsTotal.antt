@@ -45,7 +45,7 @@ use Rattle.wired_panels.specs.Below.plans.declared.counter.TotalCounter.{TotalCo
 use Rattle.wired_panels.specs.Below.whole_cycles.Units.{IsGroup, group_at}
 use Rattle.printed_lines.specs.Below.wiring_table.Figures.{IsAmount, IsText, HasPunchAt, digit_wheel, mark_wheel, mark_text}
 use Rattle.printed_lines.specs.Below.wiring_table.Parts.{IsPlaceOf, ServesPosition, ServesTotal, counter_for, top_for, top_group, unit_for}
-use Rattle.wired_panels.specs.Sources.{EmitsAtControl, digit_at}
+use Rattle.wired_panels.specs.Sources.{EmitsAtControl, digit_from_units}
 use Rattle.wired_panels.specs.Sources.EmitsAtControl.{card as emits_card, prog as emits_prog, head as emits_head}
 use Rattle.wired_panels.specs.CycleRows.{CycleRow, is_closed}
 use Rattle.wired_panels.specs.CycleAsks.PrintedRows.{CounterHoldsTotal, IsTotalRow}
@@ -183,7 +183,7 @@ module _ (wiring : Wiring) (its : ProgramLevel) (held : List ℕ → Printed) (c
   pub held-digit : (number : ℕ) (counter : TotalCounter) (name : List ℕ) (position : ℕ) (group : Group) (place : ℕ)
       → counter_for at.chart.lines at.plan number ≡ Some counter → IsPlaceOf counter position group place → IsGroup group
       → CounterHoldsTotal at counter (held name) → place ≤ length (group_at at.old group).digits
-      → digit_at (group_at at.old group).digits place ≡ digit_of (held name).figure position
+      → digit_from_units (group_at at.old group).digits place ≡ digit_of (held name).figure position
   held-digit line counter name position group place there stands is holds to =
       digit-of at.old row.on_panel.between group place is stands.from to
       ∙ sym (counter_digit at.chart at.plan wiring at.old at.cycle at.pictures row.on_panel line counter there position group place stands) ∙ ap (λ n. digit_of n position) holds.figure
@@ -198,7 +198,7 @@ module _ (wiring : Wiring) (its : ProgramLevel) (held : List ℕ → Printed) (c
       → ServesPosition at.chart.lines at.plan line.number position counter.name its_place → IsAmount at.chart.lines total.name field
       → 1 ≤ position → position ≤ total.digits
       → Contains at.old.groups counter → at.pictures C (RO counter.name) ≡ true → its_place ≤ length counter.digits
-      → digit_at counter.digits its_place ≡ row_number at.row
+      → digit_from_units counter.digits its_place ≡ row_number at.row
       → Sends (says.TotalAmount total) (digit_wheel total.wheel total.digits (decimals_of field.kind) position)
   digit-sends line place total field counter position its_place listed there says_it serves is from to among out long shows =
       let served = groups.position-serves at.chart.lines at.plan line.number position counter.name its_place serves in
@@ -206,8 +206,8 @@ module _ (wiring : Wiring) (its : ProgramLevel) (held : List ℕ → Printed) (c
       let named = group-named at.chart.lines at.plan line.number counter.name row.on_panel.panel.planned served in
       let holds = row.totals line total serves.counter there says_it same serves.there in
       let own : counter ≡ group_at at.old counter.name = group-own at.old row.on_panel.between counter among in
-      let digit_is : digit_at counter.digits its_place ≡ digit_of (held total.name).figure position
-      = ap (λ c. digit_at c.digits its_place) own
+      let digit_is : digit_from_units counter.digits its_place ≡ digit_of (held total.name).figure position
+      = ap (λ c. digit_from_units c.digits its_place) own
       ∙ held-digit line.number serves.counter total.name position counter.name its_place serves.there serves.at named holds
       (subst (λ c. its_place ≤ length c.digits) own long) in
       let e : digit_of (held total.name).figure position ≡ row_number at.row = sym digit_is ∙ shows in

@@ -55,7 +55,7 @@ use Rattle.wired_panels.specs.Groups.{IsGroupOf}
 use Rattle.wired_panels.specs.CycleAsks.PrintedRows.{IsTotalRow}
 use Rattle.wired_panels.specs.Sources.EmitsAtControl.{prog as emits_prog}
 use Rattle.wired_panels.specs.Sources.EmitsAtRow.{digit, column, emitter}
-use Rattle.wired_panels.specs.Sources.{EmitsAtControl, digit_at}
+use Rattle.wired_panels.specs.Sources.{EmitsAtControl, digit_from_units}
 use Rattle.wired_panels.proofs.ReadingOut.{reads-total, reads-text}
 use Rattle.wired_panels.proofs.ToCounters.{with_group}
 use Rattle.wired_panels.proofs.ToWheels.{ArrivesThere, Emits, along, along_contact}
@@ -173,7 +173,7 @@ module _ (wiring : Wiring) (its : ProgramLevel) (held : List ℕ → Printed) (c
       let out : at.pictures C (RO group) ≡ true = reads-total wiring at row.on_panel row.rises its row.cycle total.name group own in
       let test : (digit_of (held total.name).figure position == row_number at.row) ≡ true
       = sym (digit-shown wiring its held card at row total.digits total.name position (row_number at.row) from to) ∙ on in
-      let shows : digit_at (group_at at.old group).digits its_place ≡ row_number at.row
+      let shows : digit_from_units (group_at at.old group).digits its_place ≡ row_number at.row
       = held-digit wiring its held card at row line.number serves.counter total.name position group its_place serves.there serves.at named holds long
       ∙ equal (digit_of (held total.name).figure position) (row_number at.row) test in
       along wiring at row.on_panel row.rises line there says_it

@@ -23,7 +23,7 @@ use Rattle.wired_panels.proofs.Below.whole_cycles.Units.{units-by_name}
 use Rattle.wired_panels.specs.Below.whole_cycles.Between.{IsBetween}
 use Rattle.wired_panels.specs.Below.whole_cycles.Units.{IsGroup, group_at, storage_at}
 use Rattle.printed_lines.specs.Below.wiring_table.Parts.{ServesTotal}
-use Rattle.wired_panels.specs.Sources.{digit_at}
+use Rattle.wired_panels.specs.Sources.{digit_from_units}
 use Rattle.wired_panels.proofs.Contacts.{is_set}
 use Rattle.printed_lines.proofs.Below.wiring_table.Groups.{serves-there}
 
@@ -60,7 +60,7 @@ module _ (machine : MachineState) (between : IsBetween machine) where
 
   -- the digit of a group at a position
   pub digit-of : (name : Group) (position : ℕ) → IsGroup name → 1 ≤ position → position ≤ length (group_at machine name).digits
-      → digit_at (group_at machine name).digits position ≡ digit_of (number (group_at machine name).digits) position
+      → digit_from_units (group_at machine name).digits position ≡ digit_of (number (group_at machine name).digits) position
   digit-of name position is from to = digits-tell.of_list (group_at machine name).digits position (counter-is name is).digits from to
 
   -- a latch by the name of its group

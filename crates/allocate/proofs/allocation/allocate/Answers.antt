@@ -1,6 +1,5 @@
 use Rattle.std.proofs.Common.{◌∙◌, ap, sym}
 use Rattle.allocate.proofs.Fitting.{HasGroupsFor-fits, IsWithinMachine-fits, Serves-fits}
-use Rattle.plans.specs.PartNumbers.{in_order}
 use Rattle.allocate.proofs.allocation.allocate.Goals as goal
 
 pub assign-requires-clause-enough : goal.assign-requires-clause-enough
@@ -16,6 +15,6 @@ returns-clause-is_for c = record {
       rw (← c.in_ok-wanted.ensures)
       (Serves-fits c.in_ok-wanted.wanted c.args.profile.now c.in_ok-in_order.field-0 c.in_default.ensures.none c.pilots-pilots.ensures.standard
       (rw c.in_ok-in_order.ensures.counters (rw c.totals.ensures.value at c.in_ok-counters.ensures.own))
-      (c.in_ok-in_order.ensures.parts ∙ c.into_parts.ensures) (c.in_ok-in_order.ensures.numbers ∙ ap in_order c.into_parts.ensures));
-  numbers = c.in_ok-in_order.ensures.numbers ∙ ap in_order (sym c.in_ok-in_order.ensures.parts);
+      (c.in_ok-in_order.ensures.parts ∙ c.into_parts.ensures) (rw (← c.into_parts.ensures) c.in_ok-in_order.ensures.numbers));
+  numbers = rw c.in_ok-in_order.ensures.parts c.in_ok-in_order.ensures.numbers;
 }

@@ -29,7 +29,7 @@ returns-then-bits-eq0-clause-none c never = passed-none c.args.closed.now c.args
 
 pub returns-clause-gains : goal.returns-clause-gains
 returns-clause-gains c =
-    GainsPassed-run c.args.rows.now c.args.closed.now c.args.words.now c.put_run.new.words c.join_run.new.words c.args.contacts _ c.known.ensures.short
+    GainsPassed-run c.args.rows.now c.args.closed.now c.args.words.now c.put_run.new.words c.join_run.new.words c.args.contacts _ c.told-closed
     (λ place. run_passes c.args.contacts c.args.closed.now c.args.words.now c.run.result c.first_bits.result c.run-2.result c.run-3.result place
     c.requires c.run.ensures c.first_bits.ensures c.run-2.ensures c.run-3.ensures c.run-3.type_inv)
     c.put_run.ensures c.join_run.ensures

@@ -4,7 +4,7 @@ use Rattle.bit_sets.proofs.search.reach.Goals as goal
 pub loop-has_new-init : goal.loop-has_new-init
 loop-has_new-init c =
     IsSearching-start c.args.rows.now c.args.runs.now c.args.words.now c.args.closed.now c.args.commons.now c.join_own.new.words
-    c.meet-has_new.result c.known.ensures.short c.known.ensures.onward c.join_own.array_long c.join_own.ensures c.requires.commons
+    c.meet-has_new.result c.join_own.array_long c.join_own.ensures.gains c.requires.commons
     c.meet-has_new.ensures.apart
 
 pub loop-has_new-smaller : goal.loop-has_new-smaller

@@ -1,6 +1,6 @@
 use Rattle.std.proofs.Common.{subst, ℕ}
 use Rattle.std.specs.String.{string_bytes}
-use Rattle.explanation_text.specs.Told.{Explains}
+use Rattle.explanation_text.specs.ExplanationTexts.{Explains}
 use Rattle.explanations.proofs.PageLines.{line-found, line-has-ways, none-there}
 use Rattle.explanation_text.proofs.page.page_wheel_text.Goals as goal
 

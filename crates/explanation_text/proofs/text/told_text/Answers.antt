@@ -3,7 +3,7 @@ use Rattle.std.specs.Prelude.{String}
 use Rattle.std.specs.String.{string_bytes}
 use Rattle.std.specs.declared.alloc.Global.{Global}
 use Rattle.machine.specs.declared.kept.KeptPoint.{KeptPoint}
-use Rattle.explanation_text.specs.Told.{Explains, text_of}
+use Rattle.explanation_text.specs.ExplanationTexts.{Explains, text_of}
 use Rattle.explanation_text.proofs.Gains.{if_ok}
 use Rattle.explanation_text.proofs.text.told_text.Goals as goal
 

@@ -1,7 +1,7 @@
 use Rattle.std.proofs.Common.{◌≡◌, ◌∙◌, ap, sym, arith, ℕ, List, ◌++◌}
 use Rattle.std.specs.List.{flat_map, range_with_len}
 use Rattle.std.specs.String.{string_bytes}
-use Rattle.explanation_text.specs.Told.{lines_at}
+use Rattle.explanation_text.specs.ExplanationTexts.{lines_at}
 use Rattle.explanation_text.proofs.Gains.{number_more}
 use Rattle.explanation_text.proofs.Rows.{lines_whole}
 use Rattle.explanation_text.proofs.text.write_rows.Goals as goal

@@ -1,7 +1,7 @@
 use Rattle.std.specs.Prelude.{◌≡◌, ◌++◌}
 use Rattle.std.specs.List.{flat_map, range_with_len}
 use Rattle.std.specs.String.{string_bytes}
-use Rattle.explanation_text.specs.Told.{lines_at}
+use Rattle.explanation_text.specs.ExplanationTexts.{lines_at}
 use Rattle.explanation_text.proofs.text.write_rows.Given as goal
 
 -- the lines of the rows so far are written

@@ -9,6 +9,6 @@ returns g c =
     then_writes c.write_all-4.result _ _ _ _ _
     (Appends-trans _ _ _ _ _ c.in_ok-write_all.ensures.bytes
     (Appends-trans _ _ _ _ _
-    (Appends-trans _ _ _ _ _ c.in_ok-write_all-2.ensures.bytes (rw c.line_numbered.ensures at c.in_ok-write_shown_bytes.ensures))
+    (Appends-trans _ _ _ _ _ c.in_ok-write_all-2.ensures.bytes (rw c.line_numbered.ensures at c.in_ok-write_printable.ensures))
     c.in_ok-write_all-3.ensures.bytes))
     c.write_all-4.ensures.bytes

@@ -1,5 +1,5 @@
 use Rattle.std.proofs.Common.{◌∙◌, sym, ap, option_map}
-use Rattle.misfits.specs.Told.{told}
+use Rattle.misfits.specs.ToldMisfits.{told}
 use Rattle.misfits.proofs.Deck.{kept_first, kept_more, told_first_of_deck}
 use Rattle.misfits.proofs.misfit.first_misfit.Goals as goal
 

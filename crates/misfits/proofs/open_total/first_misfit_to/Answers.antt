@@ -1,5 +1,5 @@
 use Rattle.std.proofs.Common.{◌∙◌, sym, ap, arith, option_map}
-use Rattle.misfits.specs.Told.{told}
+use Rattle.misfits.specs.ToldMisfits.{told}
 use Rattle.misfits.proofs.InPlace.{first_at_level}
 use Rattle.misfits.proofs.open_total.first_misfit_to.Goals as goal
 

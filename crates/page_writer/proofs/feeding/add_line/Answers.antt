@@ -2,12 +2,13 @@ use Rattle.std.proofs.Common.{◌-◌, ◌++◌, ◌∷◌, [], length, ap, arit
 use Rattle.std.proofs.lemmas.Result.{err_from_is_err_and}
 use Rattle.page_text.specs.Pages.{without_trailing_blanks}
 use Rattle.page_writer.specs.Added.{feeds}
-use Rattle.page_writer.proofs.Lengths.{cut_long, line_long}
+use Rattle.page_text.proofs.CutTexts.{no_longer}
+use Rattle.page_writer.proofs.Lengths.{line_long}
 use Rattle.page_writer.proofs.Sending.{breaks_after, breaks_before, breaks_in, takes_as, takes_then, total_after}
 use Rattle.page_writer.proofs.feeding.add_line.Goals as goal
 
 pub take-requires-clause-few : goal.take-requires-clause-few
-take-requires-clause-few g c = omega (arith, ap length c.without_trailing_blanks.ensures, cut_long c.args.placed.now.text)
+take-requires-clause-few g c = omega (arith, ap length c.without_trailing_blanks.ensures, no_longer c.args.placed.now.text)
 
 pub take-requires-clause-fits : goal.take-requires-clause-fits
 take-requires-clause-fits g c =

@@ -11,7 +11,7 @@ pub loop-place-preserved : goal.loop-place-preserved
 loop-place-preserved c =
     none-more {P = λ p. ¬ CarriesTo c.args.setup.now c.args.lower (group_with p)} c.loop-place.invariant
     (λ carries. true≢false (sym (c.if-carries_to.ensures.1
-    (subst (CarriesTo c.args.setup.now c.args.lower) (sym c.group_at-upper.ensures.value) carries))))
+    (subst (CarriesTo c.args.setup.now c.args.lower) (sym c.standard_group-upper.ensures.value) carries))))
 
 pub returns-clause-none : goal.returns-clause-none
 returns-clause-none c = no-upper c.loop-place-test.false c.loop-place.invariant

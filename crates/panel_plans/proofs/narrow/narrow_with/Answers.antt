@@ -15,7 +15,7 @@ loop-place-preserved c =
     none-more {P = λ p. ¬ IsNarrow c.args.setup.now c.args.units.level c.args.units.wheel c.args.units.need (group_with p)} c.loop-place.invariant
     (λ is. false≢true (sym c.if-is_narrow.false ∙ c.is_narrow.ensures.1
     (subst (λ (g : CounterGroup). IsNarrow c.args.setup.now c.args.units.level c.args.units.wheel c.args.units.need g)
-    (sym c.group_at-group.ensures.value) is)))
+    (sym c.standard_group-group.ensures.value) is)))
 
 pub returns-clause-none : goal.returns-clause-none
 returns-clause-none c =

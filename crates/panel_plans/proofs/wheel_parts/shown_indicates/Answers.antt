@@ -8,12 +8,12 @@ use Rattle.panel_plans.proofs.Alike.{are-led, back}
 use Rattle.panel_plans.proofs.Steps.{if-ok}
 use Rattle.panel_plans.proofs.Told.{none-by, shown-by}
 use Rattle.panel_plans.proofs.WheelParts.{indicates-led}
-use Rattle.plans.specs.PartNumbers.{numbers_at}
+use Rattle.plans.specs.PartNumbers.{numbers_of}
 use Rattle.plans.specs.Plans.{Lists}
 use Rattle.plans.specs.declared.part_numbers.PartKind.TheVariants as kind
 use Rattle.panel_plans.proofs.wheel_parts.shown_indicates.Goals as goal
 
-still : (its : Lists) (level : ControlLevel) → with_kind its (kind.Indicate level) (numbers_at its.numbers level) ≡ its
+still : (its : Lists) (level : ControlLevel) → with_kind its (kind.Indicate level) (numbers_of its.numbers (kind.Indicate level)) ≡ its
 still its control.Minor = refl
 still its control.Intermediate = refl
 still its control.Major = refl
@@ -22,11 +22,11 @@ pub returns-clause-shown : goal.returns-clause-shown
 returns-clause-shown c =
     if-ok c.led_numbers.result _ _
     (λ shown found.
-    shown-by c.args.chart.now.lines c.args.setup.now (kind.Indicate c.args.level) (λ list. list.items) (λ (its : Lists). (numbers_at its.numbers c.args.level)) shown (λ its. still its c.args.level)
+    shown-by c.args.chart.now.lines c.args.setup.now (kind.Indicate c.args.level) (λ list. list.items) (λ (its : Lists). numbers_of its.numbers (kind.Indicate c.args.level)) shown (λ its. still its c.args.level)
     (λ other its shows.
-    found (numbers_at its.numbers c.args.level)
-    (subst (λ wheels. AreLed c.args.setup.now (by_wheel.Indicated c.args.level) 30 wheels (numbers_at its.numbers c.args.level)) (sym (c.as_slice.ensures.value ∙ c.in_ok-wheels.ensures))
-    (are-led (back shows.alike) (by_wheel.Indicated c.args.level) 30 (indicated_wheels c.args.chart.now.lines c.args.level) (numbers_at its.numbers c.args.level)
+    found (numbers_of its.numbers (kind.Indicate c.args.level))
+    (subst (λ wheels. AreLed c.args.setup.now (by_wheel.Indicated c.args.level) 30 wheels (numbers_of its.numbers (kind.Indicate c.args.level))) (sym (c.as_slice.ensures.value ∙ c.in_ok-wheels.ensures))
+    (are-led (back shows.alike) (by_wheel.Indicated c.args.level) 30 (indicated_wheels c.args.chart.now.lines c.args.level) (numbers_of its.numbers (kind.Indicate c.args.level))
     (indicates-led c.args.chart.now other c.lines-lines.ensures.lawful c.lines-lines.ensures.rising its shows.wired c.args.level)))))
     c.led_numbers.ensures.found
 
@@ -34,10 +34,10 @@ pub returns-clause-none : goal.returns-clause-none
 returns-clause-none c =
     if-ok c.led_numbers.result _ _
     (λ shown found.
-    none-by c.args.chart.now.lines c.args.setup.now (kind.Indicate c.args.level) (λ list. list.items) (λ (its : Lists). (numbers_at its.numbers c.args.level)) shown
+    none-by c.args.chart.now.lines c.args.setup.now (kind.Indicate c.args.level) (λ list. list.items) (λ (its : Lists). numbers_of its.numbers (kind.Indicate c.args.level)) shown
     (λ other its shows.
-    found (numbers_at its.numbers c.args.level)
-    (subst (λ wheels. AreLed c.args.setup.now (by_wheel.Indicated c.args.level) 30 wheels (numbers_at its.numbers c.args.level)) (sym (c.as_slice.ensures.value ∙ c.in_ok-wheels.ensures))
-    (are-led (back shows.alike) (by_wheel.Indicated c.args.level) 30 (indicated_wheels c.args.chart.now.lines c.args.level) (numbers_at its.numbers c.args.level)
+    found (numbers_of its.numbers (kind.Indicate c.args.level))
+    (subst (λ wheels. AreLed c.args.setup.now (by_wheel.Indicated c.args.level) 30 wheels (numbers_of its.numbers (kind.Indicate c.args.level))) (sym (c.as_slice.ensures.value ∙ c.in_ok-wheels.ensures))
+    (are-led (back shows.alike) (by_wheel.Indicated c.args.level) 30 (indicated_wheels c.args.chart.now.lines c.args.level) (numbers_of its.numbers (kind.Indicate c.args.level))
     (indicates-led c.args.chart.now other c.lines-lines.ensures.lawful c.lines-lines.ensures.rising its shows.wired c.args.level)))))
     c.led_numbers.ensures.found

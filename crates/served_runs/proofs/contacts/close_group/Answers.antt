@@ -1,11 +1,10 @@
-use Rattle.std.proofs.Common.{◌≡◌, ◌∙◌, ◌||◌, ◌&&◌, ap, sym, Bool, refl, false, true}
-use Rattle.counters.specs.Counters.{counter_closes}
+use Rattle.std.proofs.Common.{◌≡◌, ◌∙◌, ◌||◌, ◌&&◌, ap, Bool, refl, false, true}
 use Rattle.hubs.specs.declared.hub.Hub.TheVariants.{CO}
 use Rattle.net.specs.Cycles.{is_closing}
 use Rattle.net.specs.HubSets.{has_hub, is_hub}
 use Rattle.net.specs.Panel.{unit_of}
 use Rattle.served_runs.specs.Contacts.{balances_to}
-use Rattle.served_runs.proofs.GroupContacts.{closes-all, closes-balances, unit_of-named}
+use Rattle.served_runs.proofs.GroupContacts.{closes-all, unit_of-named}
 use Rattle.served_runs.proofs.contacts.close_group.Goals as goal
 
 joined : (a b c : Bool) → ((a || b) || c) ≡ (a || (b || c))

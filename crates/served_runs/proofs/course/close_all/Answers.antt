@@ -1,4 +1,4 @@
-use Rattle.std.proofs.Common.{◌≡◌, ◌∙◌, ap, sym, arith, ℕ, zero, suc, ◌+◌, ◌-◌, ◌≤◌, ◌||◌, Bool, true, false, refl, subst}
+use Rattle.std.proofs.Common.{◌≡◌, ◌∙◌, ap, sym, arith, ℕ, zero, suc, ◌+◌, ◌-◌, ◌≤◌, ◌||◌, Bool, true, false, refl}
 use Rattle.hubs.specs.declared.hub.Hub.{Hub}
 use Rattle.net.specs.Cycles.{point_at}
 use Rattle.net.specs.HubSets.{has_hub}
@@ -43,7 +43,7 @@ pub loop-unit-preserved : goal.loop-unit-preserved
 unfolding closes
 loop-unit-preserved c hub =
     one_more (closes (unit_at c.args.units.now) c.args.cycle hub) c.loop-unit.unit (has_hub c.args.contacts.now hub) _ _ c.loop-unit.auto.unit
-    (c.loop-unit.invariant hub) (c.close.ensures hub)
+    (c.loop-unit.invariant hub) (c.close_unit.ensures hub)
 
 pub returns : goal.returns
 returns c hub =

@@ -1,7 +1,8 @@
-use Rattle.std.proofs.Common.{◌≡◌, ◌∙◌, ◌<◌, ◌+◌, ap, sym, refl, subst, arith, true, false}
+use Rattle.std.proofs.Common.{◌∙◌, sym, refl, subst, arith}
 use Rattle.std.proofs.lemmas.Bool.{false≢true}
-use Rattle.machine.specs.Machine.{MachineState, ended}
+use Rattle.machine.specs.Machine.{MachineState}
 use Rattle.served.specs.Steps.{AreOver}
+use Rattle.served_units.proofs.Listed.{units_in_order}
 use Rattle.served_units.specs.AnyUnit.{unit_at}
 use Rattle.served_runs.specs.Course.{served_in}
 use Rattle.served_runs.specs.Runs.{CycleInRounds}
@@ -63,9 +64,9 @@ loop-course-smaller c =
 pub returns-clause-ran : goal.returns-clause-ran
 returns-clause-ran c wiring is_panel =
     subst (λ (m : MachineState). CycleInRounds wiring c.args.service.now c.args.cycle c.args.units m c.args.before c.loop-course.counts)
-    (sym c.end_cycle.ensures)
+    (sym c.end_cycle.ensures.ended)
     (serving_end wiring c.args.cycle c.args.service.now c.args.before (unit_at c.args.units) c.args.units c.loop-course.course.units
-    (served_in c.loop-course.course) c.loop-course.counts refl refl c.known.ensures.ordered
+    (served_in c.loop-course.course) c.loop-course.counts refl refl (units_in_order c.loop-course.course.units c.end_cycle.ensures.ordered)
     (c.loop-course.invariant.goes wiring is_panel) (c.is_over.ensures.0 c.loop-course-test.false))
 
 pub returns-clause-few_seen : goal.returns-clause-few_seen

@@ -1,4 +1,4 @@
-use Rattle.std.proofs.Common.{◌≤◌, ◌+◌, ◌*◌, ◌-◌, ◌≡◌}
+use Rattle.std.proofs.Common.{◌≤◌, ◌+◌, ◌*◌, ◌-◌}
 use Rattle.setups.specs.Wiring.{Wiring}
 use Rattle.served.specs.Orders.{unit_count}
 use Rattle.served_units.specs.AnyUnit.{unit_at}

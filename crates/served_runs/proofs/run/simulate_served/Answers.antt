@@ -1,19 +1,21 @@
-use Rattle.std.proofs.Common.{◌≡◌, ◌∙◌, ◌++◌, ap, sym, refl, subst, arith, List, [], option_to_list}
+use Rattle.std.proofs.Common.{◌≡◌, ◌∙◌, ap, sym, refl, subst, arith, List, []}
 use Rattle.machine.proofs.FewCycles.{IsSupplied, ahead}
 use Rattle.machine.proofs.Order.{MachineLines-in_order}
+use Rattle.machine.specs.Cycles.{line_of}
 use Rattle.machine.specs.Machine.{MachineState}
 use Rattle.machine.specs.Runs.{InRun, cards_moved, run_at_start}
 use Rattle.page_text.specs.declared.placed_lines.placed_line.PlacedLine.{PlacedLine}
 use Rattle.served_runs.specs.Course.{IsPanelOf}
 use Rattle.served_runs.specs.Runs.{no_counts}
-use Rattle.served_runs.proofs.Running.{RunSoFar, goes_on, run_all, run_none, run_step, served_lines, start_ahead, start_supplied}
+use Rattle.served_runs.proofs.Running.{RunSoFar, goes_on, run_all, run_none, run_step, served_lines, start_ahead, start_ordered, start_supplied}
+use Rattle.served_units.specs.AnyUnit.{AreInOrder}
 use Rattle.served_runs.proofs.run.simulate_served.Goals as goal
 
 pub loop-cycle-init : goal.loop-cycle-init
 loop-cycle-init c =
     let wiring = c.args.setup.now in
     let cards = c.args.cards.now in
-    let now : InRun = record { machine = c.move_cards-hopper.new.self; hopper = c.move_cards-hopper.result.now } in
+    let now : InRun = record { machine = c.move_cards-hopper.new.units; hopper = c.move_cards-hopper.result.now } in
     let is : run_at_start wiring cards ≡ now =
     ap (λ (m : MachineState). cards_moved m cards) (sym c.new-units.ensures) ∙ c.move_cards-hopper.ensures in
     let few = start_ahead wiring cards in
@@ -23,6 +25,7 @@ loop-cycle-init c =
           (subst (λ (run : InRun). RunSoFar wiring c.args.service.now cards run no_counts []) is
           (run_none wiring c.args.service.now cards));
       supplied = subst (λ (run : InRun). IsSupplied run.machine) is (start_supplied wiring cards);
+      ordered = subst (λ (run : InRun). AreInOrder run.machine) is (start_ordered wiring cards);
       rounds = omega (arith, few, same);
       seen = omega (arith, few, same);
     }
@@ -45,9 +48,9 @@ loop-cycle-smaller c =
     let is_panel : IsPanelOf wiring (record { net = c.in_ok-net.net; waits = c.all_waits-waits.result }) =
     record { net = c.in_ok-net.ensures; waits = c.all_waits-waits.ensures wiring c.in_ok-net.ensures } in
     let now : InRun = record { machine = c.loop-cycle.units; hopper = c.loop-cycle.hopper.now } in
-    let ready : InRun = record { machine = c.make_ready-hopper.new.self; hopper = c.make_ready-hopper.result.now } in
+    let ready : InRun = record { machine = c.make_ready-hopper.new.units; hopper = c.make_ready-hopper.result.now } in
     (goes_on wiring c.args.service.now c.in-Some.cycle now ready c.serve_cycle.result.0 c.loop-cycle.counts c.serve_cycle.result.1
-    c.make_ready-hopper.ensures c.loop-cycle.invariant.supplied (sym c.cycle_due.ensures ∙ c.in-Some.is) c.known.ensures.ordered
+    c.make_ready-hopper.ensures c.loop-cycle.invariant.supplied (sym c.cycle_due.ensures ∙ c.in-Some.is) c.loop-cycle.invariant.ordered
     (c.serve_cycle.ensures.ran wiring is_panel)).falls
 
 pub loop-cycle-preserved : goal.loop-cycle-preserved
@@ -56,11 +59,11 @@ loop-cycle-preserved c =
     let is_panel : IsPanelOf wiring (record { net = c.in_ok-net.net; waits = c.all_waits-waits.result }) =
     record { net = c.in_ok-net.ensures; waits = c.all_waits-waits.ensures wiring c.in_ok-net.ensures } in
     let now : InRun = record { machine = c.loop-cycle.units; hopper = c.loop-cycle.hopper.now } in
-    let ready : InRun = record { machine = c.make_ready-hopper.new.self; hopper = c.make_ready-hopper.result.now } in
+    let ready : InRun = record { machine = c.make_ready-hopper.new.units; hopper = c.make_ready-hopper.result.now } in
     let due = sym c.cycle_due.ensures ∙ c.in-Some.is in
     let on =
     goes_on wiring c.args.service.now c.in-Some.cycle now ready c.serve_cycle.result.0 c.loop-cycle.counts c.serve_cycle.result.1
-    c.make_ready-hopper.ensures c.loop-cycle.invariant.supplied due c.known.ensures.ordered (c.serve_cycle.ensures.ran wiring is_panel) in
+    c.make_ready-hopper.ensures c.loop-cycle.invariant.supplied due c.loop-cycle.invariant.ordered (c.serve_cycle.ensures.ran wiring is_panel) in
     record {
       goes = subst
           (λ (lines : List PlacedLine).
@@ -68,9 +71,10 @@ loop-cycle-preserved c =
           (record { machine = c.serve_cycle.result.0; hopper = c.make_ready-hopper.result.now }) c.serve_cycle.result.1 lines)
           (sym c.in_ok-append_line.ensures.appended)
           (run_step wiring c.args.service.now c.args.cards.now now ready c.loop-cycle.counts c.serve_cycle.result.1 c.loop-cycle.lines.items
-          (option_to_list c.placed_line.result) c.in-Some.cycle c.serve_cycle.result.0 c.make_ready-hopper.ensures due
-          (c.serve_cycle.ensures.ran wiring is_panel) c.placed_line.ensures c.loop-cycle.invariant.goes);
+          (line_of c.serve_cycle.result.0) c.in-Some.cycle c.serve_cycle.result.0 c.make_ready-hopper.ensures due
+          (c.serve_cycle.ensures.ran wiring is_panel) refl c.loop-cycle.invariant.goes);
       supplied = on.supplied;
+      ordered = on.ordered;
       rounds = omega (arith, c.loop-cycle.invariant.rounds, on.falls, c.serve_cycle.ensures.few_rounds);
       seen = omega (arith, c.loop-cycle.invariant.seen, on.falls, c.serve_cycle.ensures.few_seen);
     }

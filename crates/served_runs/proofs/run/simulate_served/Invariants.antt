@@ -1,7 +1,8 @@
-use Rattle.std.proofs.Common.{◌≡◌, ◌≤◌, ◌+◌, ◌*◌, length}
+use Rattle.std.proofs.Common.{◌≤◌, ◌+◌, ◌*◌, length}
 use Rattle.machine.proofs.FewCycles.{IsSupplied, ahead}
 use Rattle.served_runs.specs.Runs.{most_rounds, most_seen}
 use Rattle.served_runs.proofs.Running.{RunSoFar}
+use Rattle.served_units.specs.AnyUnit.{AreInOrder}
 use Rattle.served_runs.proofs.run.simulate_served.Given as goal
 
 -- the cycles so far have run, their lines stand, and what was counted leaves room for the others
@@ -9,6 +10,7 @@ abbrev pub invariant-loop-cycle : goal.invariant-loop-cycle
 invariant-loop-cycle l = record {
   goes : RunSoFar l.setup l.service l.cards (record { machine = l.units; hopper = l.hopper }) l.counts l.lines.items;
   supplied : IsSupplied l.units;
+  ordered : AreInOrder l.units;
   rounds : l.counts.rounds + most_rounds * ahead (record { machine = l.units; hopper = l.hopper }) ≤ most_rounds * (28 * length l.cards + 1);
   seen : l.counts.seen + most_seen * ahead (record { machine = l.units; hopper = l.hopper }) ≤ most_seen * (28 * length l.cards + 1);
 }

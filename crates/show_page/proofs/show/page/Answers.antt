@@ -5,7 +5,7 @@ use Rattle.explanations.specs.declared.found.FoundLine.{FoundLine}
 use Rattle.page_links.specs.declared.shown.ShownRun.{ShownRun}
 use Rattle.page_text.specs.declared.placed_lines.placed_line.PlacedLine.{PlacedLine}
 use Rattle.setups.specs.Tapes.{CarriageTape}
-use Rattle.page_sections.specs.WheelSections.Told.{AreTold, printed_places}
+use Rattle.page_sections.specs.WheelSections.ToldWheels.{AreTold, printed_places}
 use Rattle.page_sections.specs.declared.wheel_sections.told.ToldWheel.{ToldWheel}
 use Rattle.page_links.specs.declared.sum_places.places.SumPlace.{SumPlace}
 use Rattle.sum_sections.specs.Sums.{AreSums, IsExplained, place_of}

@@ -4,7 +4,7 @@ use Rattle.ledgers.specs.LedgerText.Entries.{gap_line}
 use Rattle.markup.specs.Escapes.{escaped}
 use Rattle.markup.proofs.Pieces.{pushed, where_ok}
 use Rattle.sum_sections.proofs.Framed.{three}
-use Rattle.wheel_ledgers.specs.Told.{words_told}
+use Rattle.wheel_ledgers.specs.ToldLedgers.{words_told}
 use Rattle.sum_sections.specs.Rows.{gap_row}
 use Rattle.sum_sections.proofs.rows.write_gap_row.Goals as goal
 

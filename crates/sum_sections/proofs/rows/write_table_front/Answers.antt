@@ -3,7 +3,7 @@ use Rattle.std.specs.List.{flat_map}
 use Rattle.std.specs.String.{string_bytes}
 use Rattle.ledgers.specs.declared.entry.Entry.{Entry}
 use Rattle.markup.proofs.Pieces.{and_more, where_ok}
-use Rattle.sum_sections.specs.Rows.{row_text, table_front}
+use Rattle.sum_sections.specs.Rows.{entry_row, table_front}
 use Rattle.sum_sections.proofs.rows.write_table_front.Goals as goal
 
 pub returns : goal.returns
@@ -12,7 +12,7 @@ returns c =
     let old = string_bytes c.args.text.now in
     let one = string_bytes c.push_str.new.self in
     let new = string_bytes c.write_rows.new.text in
-    let word = row_text c.args.shown c.args.sums.now c.args.sum.now in
+    let word = entry_row c.args.shown c.args.sums.now c.args.sum.now in
     where_ok (new ≡ one ++ flat_map word c.first.result.now) (new ≡ old ++ table_front c.args.shown c.args.sums.now c.args.sum.now)
     c.write_rows.result
     (λ written. and_more old one new (codes "<table class=\"sum\">\n") (flat_map word c.args.sum.now.ledger.first)

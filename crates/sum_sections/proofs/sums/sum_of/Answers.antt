@@ -1,7 +1,7 @@
 use Rattle.std.proofs.Common.{◌∙◌, sym, ap, refl, Option}
 use Rattle.ledgers.specs.declared.kept.AskedLedger.{AskedLedger}
 use Rattle.wheel_ledgers.proofs.Accounts.{is_account_told}
-use Rattle.wheel_ledgers.specs.Told.{account_told}
+use Rattle.wheel_ledgers.specs.ToldLedgers.{account_told}
 use Rattle.wheel_ledgers.specs.declared.chart_totals.TitledAccount.{TitledAccount}
 use Rattle.sum_sections.proofs.FoundSums.{sum-for}
 use Rattle.sum_sections.proofs.sums.sum_of.Goals as goal

@@ -1,5 +1,5 @@
 use Rattle.std.proofs.Common.{◌≡◌, ◌++◌, drop, reverse}
-use Rattle.traces.specs.Told.{digits_text}
+use Rattle.traces.specs.TracedUnits.{digits_text}
 use Rattle.traces.proofs.groups.write_digits.Given as goal
 
 -- the digits from the top down to here are written

@@ -3,7 +3,7 @@ use Rattle.std.proofs.lemmas.List.{take_all}
 use Rattle.std.specs.List.{flat_map}
 use Rattle.counters.specs.Counters.{Counter}
 use Rattle.counters.specs.Counters.{counter_ended}
-use Rattle.traces.specs.Told.{group_told}
+use Rattle.traces.specs.TracedUnits.{group_told}
 use Rattle.traces.proofs.Pieces.{piece_more}
 use Rattle.traces.proofs.groups.write_groups.Goals as goal
 

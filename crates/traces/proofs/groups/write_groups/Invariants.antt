@@ -1,7 +1,7 @@
 use Rattle.std.proofs.Common.{◌≡◌, ◌++◌, take}
 use Rattle.std.specs.List.{flat_map}
 use Rattle.counters.specs.Counters.{counter_ended}
-use Rattle.traces.specs.Told.{group_told}
+use Rattle.traces.specs.TracedUnits.{group_told}
 use Rattle.traces.proofs.groups.write_groups.Given as goal
 
 -- the groups so far are told

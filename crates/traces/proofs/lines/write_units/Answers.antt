@@ -4,7 +4,7 @@ use Rattle.counters.specs.Counters.{Counter}
 use Rattle.selectors.specs.Pilots.{PilotStates}
 use Rattle.storage_units.specs.Storage.{StorageState}
 use Rattle.traces.specs.Lines.{groups_told, reading_told, storages_told}
-use Rattle.traces.specs.Told.{pilots_told}
+use Rattle.traces.specs.TracedUnits.{pilots_told}
 use Rattle.traces.proofs.Pieces.{four_pieces}
 use Rattle.traces.proofs.lines.write_units.Goals as goal
 

@@ -7,7 +7,7 @@ pub loop-cycle-init : goal.loop-cycle-init
 loop-cycle-init c =
     Parted-none c.args.setup.now c.args.cards.now c.args.choice c.in_ok-machine.machine c.move_on-hopper.new.machine
     c.move_on-hopper.result.now c.no_cycles-part.result c.in_ok-machine.ensures c.move_on-hopper.ensures.moved c.move_on-hopper.ensures.net
-    c.no_cycles-part.ensures.part c.no_cycles-part.ensures.lines
+    (c.no_cycles-part.ensures.part c.args.choice) c.no_cycles-part.ensures.lines
 
 pub card_in-card-requires : goal.card_in-card-requires
 card_in-card-requires c =

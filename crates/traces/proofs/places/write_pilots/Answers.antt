@@ -1,6 +1,6 @@
 use Rattle.std.proofs.Common.{◌≡◌, ◌∙◌, ◌-◌, ◌++◌, ap, sym, append-nil, arith, ℕ}
 use Rattle.std.specs.List.{flat_map, range_with_len}
-use Rattle.traces.specs.Told.{pilot_told}
+use Rattle.traces.specs.TracedUnits.{pilot_told}
 use Rattle.traces.proofs.Pieces.{number_more}
 use Rattle.traces.proofs.places.write_pilots.Goals as goal
 

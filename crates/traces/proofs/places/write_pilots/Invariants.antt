@@ -1,6 +1,6 @@
 use Rattle.std.proofs.Common.{◌≡◌, ◌-◌, ◌++◌}
 use Rattle.std.specs.List.{flat_map, range_with_len}
-use Rattle.traces.specs.Told.{pilot_told}
+use Rattle.traces.specs.TracedUnits.{pilot_told}
 use Rattle.traces.proofs.places.write_pilots.Given as goal
 
 -- the pilots so far are told

@@ -1,5 +1,5 @@
 use Rattle.std.proofs.Common.{arith}
-use Rattle.traces.specs.Told.{column_character}
+use Rattle.traces.specs.TracedUnits.{column_character}
 use Rattle.traces.proofs.Pieces.{character_more, characters_all, characters_long}
 use Rattle.traces.proofs.storage.characters_held.Goals as goal
 

@@ -1,6 +1,6 @@
 use Rattle.std.proofs.Common.{◌≡◌, length, map, take}
 use Rattle.std.specs.List.{range_with_len}
-use Rattle.traces.specs.Told.{column_character}
+use Rattle.traces.specs.TracedUnits.{column_character}
 use Rattle.traces.proofs.storage.characters_held.Given as goal
 
 -- the columns so far are read

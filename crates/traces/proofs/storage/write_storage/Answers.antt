@@ -1,5 +1,5 @@
 use Rattle.std.proofs.Common.{◌++◌, codes, decimal}
-use Rattle.traces.specs.Told.{bracketed, storage_text}
+use Rattle.traces.specs.TracedUnits.{bracketed, storage_text}
 use Rattle.traces.proofs.Pieces.{kept_none, other_told}
 use Rattle.traces.proofs.storage.write_storage.Goals as goal
 

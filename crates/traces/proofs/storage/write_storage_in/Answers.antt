@@ -1,7 +1,7 @@
 use Rattle.std.proofs.Common.{◌≡◌, ◌++◌, subst}
 use Rattle.std.specs.Prelude.{OnOk}
 use Rattle.storage_units.specs.Storage.{StorageState}
-use Rattle.traces.specs.Told.{storage_told}
+use Rattle.traces.specs.TracedUnits.{storage_told}
 use Rattle.traces.proofs.storage.write_storage_in.Goals as goal
 
 pub returns : goal.returns

@@ -3,7 +3,7 @@ use Rattle.std.proofs.lemmas.List.{take_all}
 use Rattle.std.specs.List.{flat_map}
 use Rattle.storage_units.specs.Storage.{StorageState}
 use Rattle.storage_units.specs.Storage.{storage_ended}
-use Rattle.traces.specs.Told.{storage_told}
+use Rattle.traces.specs.TracedUnits.{storage_told}
 use Rattle.traces.proofs.Pieces.{piece_more}
 use Rattle.traces.proofs.storage.write_storages.Goals as goal
 

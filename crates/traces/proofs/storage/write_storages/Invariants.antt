@@ -1,7 +1,7 @@
 use Rattle.std.proofs.Common.{◌≡◌, ◌++◌, take}
 use Rattle.std.specs.List.{flat_map}
 use Rattle.storage_units.specs.Storage.{storage_ended}
-use Rattle.traces.specs.Told.{storage_told}
+use Rattle.traces.specs.TracedUnits.{storage_told}
 use Rattle.traces.proofs.storage.write_storages.Given as goal
 
 -- the storage units so far are told

@@ -4,7 +4,6 @@ use Rattle.wire_chart.proofs.parts.write_parts.Goals as goal
 
 pub returns : goal.returns
 returns c =
-    rw (← c.known-setup.ensures.value)
-    (parts-written c.args.version c.known-setup.result.now c.tape.result.now (string_bytes c.args.text.now)
+    parts-written c.args.version c.args.setup.now c.tape.result.now (string_bytes c.args.text.now)
     (string_bytes c.write_stops.new.text) (string_bytes c.write_jacks.new.text) (string_bytes c.write_all_wires.new.text)
-    c.tape.ensures.value c.in_ok-write_stops.ensures c.in_ok-write_jacks.ensures c.in_ok-write_all_wires.ensures)
+    c.tape.ensures.value c.in_ok-write_stops.ensures c.in_ok-write_jacks.ensures c.in_ok-write_all_wires.ensures

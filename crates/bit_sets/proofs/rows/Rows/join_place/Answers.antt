@@ -3,6 +3,7 @@ use Rattle.std.proofs.lemmas.List.{get_or_read_under}
 use Rattle.bit_sets.specs.Bundles.{AreRows}
 use Rattle.bit_sets.specs.Shorts.{IsShort}
 use Rattle.bit_sets.specs.declared.shorts.Short.{Short}
+use Rattle.bit_sets.proofs.LedLemmas.{leads-once}
 use Rattle.bit_sets.proofs.ShortLemmas.{GainsLed-short}
 use Rattle.bit_sets.proofs.rows.Rows.join_place.Goals as goal
 
@@ -17,4 +18,4 @@ returns-then-index c =
     GainsLed-short c.args.self.now c.args.from c.index-short.result.now c.args.words.now c.told-words
     (subst (λ (s : Short). IsShort (slice_index_or c.args.self.now c.args.from []) s) (sym c.index.ensures ∙ sym same)
     (are_rows.shortened c.args.from c.index.result.now inside))
-    (ap (λ (s : Short). s.is_whole) same ∙ c.if-index.true) _ _ refl refl
+    (ap (λ (s : Short). s.is_whole) same ∙ c.if-index.true) (leads-once c.args.self.now are_rows.short are_rows.onward c.args.from) _ _ refl refl

@@ -1,6 +1,6 @@
 use Rattle.std.proofs.Common.{◌≤◌, [], sym, length, rules}
 use Rattle.std.proofs.lemmas.List.{get_or_read_under}
-use Rattle.bit_sets.proofs.LedLemmas.{GainsLed-row, GainsLed-past}
+use Rattle.bit_sets.proofs.LedLemmas.{GainsLed-row, GainsLed-past, leads-once}
 use Rattle.bit_sets.proofs.rows.Rows.join_row.Goals as goal
 
 pub returns-then-from-len : goal.returns-then-from-len
@@ -9,6 +9,7 @@ returns-then-from-len c =
     (GainsLed-row c.self.inside.rows.items c.args.from c.index.result.now _ _
     (sym (get_or_read_under c.self.inside.rows.items c.args.from c.len.result c.index.result.now [] c.index.ensures
     c.if-from-len.true (search rules)))
+    (leads-once c.self.inside.rows.items c.self.invariant.short c.self.invariant.onward c.args.from)
     c.join.ensures)
 
 pub returns-else-from-len : goal.returns-else-from-len

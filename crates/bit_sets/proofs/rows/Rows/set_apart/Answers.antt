@@ -1,3 +1,4 @@
+use Rattle.std.proofs.Common.{rules}
 use Rattle.bit_sets.proofs.BundleLemmas.{AreCovered-more, AreCovered-all}
 use Rattle.bit_sets.proofs.rows.Rows.set_apart.Goals as goal
 
@@ -8,5 +9,4 @@ loop-from-preserved c =
 
 pub returns : goal.returns
 returns c =
-    AreCovered-all c.args.self.now c.args.runs.now c.loop-from.from _ c.known.ensures.short c.loop-from-test.false
-    c.loop-from.invariant
+    AreCovered-all c.args.self.now c.args.runs.now c.loop-from.from _ (search rules) c.loop-from.invariant

@@ -1,6 +1,6 @@
 use Rattle.std.proofs.Common.{◌∙◌, List, refl, subst, sym, ℕ}
 use Rattle.card_code.specs.Deck.{HasDeckFault}
-use Rattle.folding.specs.FoldCalls.Served.{IsRefused}
+use Rattle.folding.specs.FoldCalls.FoldEnds.{IsRefused}
 use Rattle.folding.proofs.fold_calls.serving.fold_to_end.Goals as goal
 
 pub refuse-requires : goal.refuse-requires

@@ -2,7 +2,7 @@ use Rattle.std.proofs.Common.{◌∙◌, sym, subst}
 use Rattle.faults.specs.Lines.{IsTold}
 use Rattle.faults.specs.declared.fault.Fault.{Fault}
 use Rattle.folding.proofs.FoldCalls.Refusing.{long_is_refused}
-use Rattle.folding.specs.FoldCalls.Served.{no_deck}
+use Rattle.folding.specs.FoldCalls.FoldEnds.{no_deck}
 use Rattle.folding.proofs.fold_calls.serving.refuse.Goals as goal
 
 pub returns-then-is_too_long-clause-refused : goal.returns-then-is_too_long-clause-refused

@@ -1,36 +1,44 @@
-use Rattle.std.proofs.Common.{subst, sym}
+use Rattle.std.proofs.Common.{List, ap, subst, sym, ◌∙◌}
+use Rattle.counters.specs.Counters.{Counter}
+use Rattle.machine.specs.Fields.{machine_in}
+use Rattle.machine.specs.Machine.{MachineState, ended}
+use Rattle.machine.specs.Noted.{IsNoted}
 use Rattle.machine.specs.Rest.{AreBusy}
+use Rattle.machine.specs.Steady.{balance_latches}
 use Rattle.machine.proofs.KeptLatches.{ended-kept}
 use Rattle.machine.proofs.Rest.{ended-busy}
 use Rattle.machine.proofs.UnitOrder.{ended-in_order}
 use Rattle.machine.proofs.units.Units.end_cycle.Goals as goal
 
+pub end_groups-requires : goal.end_groups-requires
+end_groups-requires c = (subst IsNoted (sym c.self-inside.view_is) c.self.invariant).busy
+
 pub keep_latches-requires : goal.keep_latches-requires
 keep_latches-requires c =
-    ended-kept c.self.inside.busy c.self.inside.groups c.end_groups.new.groups c.self.inside.latches c.args.cycle c.end_groups.ensures
-    c.self.invariant.busy c.self.invariant.latches
+    let noted = subst IsNoted (sym c.self-inside.view_is) c.self.invariant in
+    ended-kept c.self-inside.inside.0.1.0 c.self-inside.inside.0.0.groups c.end_groups.new.groups c.self-inside.inside.0.1.1.0 c.args.cycle
+    c.end_groups.ensures noted.busy noted.latches
+
+pub invariant_of-self-inside : goal.invariant_of-self-inside
+invariant_of-self-inside c = record {
+  groups =
+      ended-in_order c.self-inside.inside.0.0.groups c.end_groups.new.groups c.args.cycle c.end_groups.ensures c.self-inside.invariant.groups;
+  storage = c.self-inside.invariant.storage;
+}
 
 pub invariant_of-self : goal.invariant_of-self
-invariant_of-self c = record {
-  ordered = ended-in_order c.self.inside.groups c.end_groups.new.groups c.args.cycle c.end_groups.ensures c.self.invariant.ordered;
-  busy = subst (AreBusy c.none-self-inside.result) (sym c.end_groups.ensures)
-      (ended-busy c.self.inside.groups c.args.cycle c.self.inside.busy c.none-self-inside.result c.self.invariant.busy);
-  latches = c.keep_latches.ensures;
-}
+invariant_of-self c =
+    let noted = subst IsNoted (sym c.self-inside.view_is) c.self.invariant in
+    let groups = ap (λ (m : MachineState). m.groups) c.end_all_but_groups.ensures in
+    record {
+      busy = subst (AreBusy c.none-self-inside-inside.result) (sym (groups ∙ c.end_groups.ensures))
+          (ended-busy c.self-inside.inside.0.0.groups c.args.cycle c.self-inside.inside.0.1.0 c.none-self-inside-inside.result noted.busy);
+      latches = c.keep_latches.ensures ∙ ap balance_latches (sym groups);
+    }
 
 pub returns : goal.returns
 returns c =
-    rw (← c.self.view_is)
-    (λ i. record {
-      stations = c.self.inside.stations;
-      comparing = c.end_cycle.ensures i;
-      groups = c.end_groups.ensures i;
-      storage = c.end_all.ensures i;
-      pilots = c.end_cycle-2.ensures i;
-      indicate = c.end_cycle-3.ensures i;
-      splits = c.self.inside.splits;
-      emitters = c.self.inside.emitters;
-      wheels = c.end_cycle-4.ensures i;
-      carriage = c.end_cycle-5.ensures i;
-      program = c.end_cycle-6.ensures i;
-    })
+    rw (← c.self.view_is, ← c.self-inside.view_is)
+    (c.end_all_but_groups.ensures
+    ∙ ap (λ (groups : List Counter). record (ended (machine_in c.self-inside.inside.0.0) c.args.cycle) { groups = groups })
+    c.end_groups.ensures)

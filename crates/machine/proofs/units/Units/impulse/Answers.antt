@@ -10,6 +10,7 @@ use Rattle.machine.specs.Fields.{AreInUnitOrder}
 use Rattle.machine.specs.Machine.{MachineState, closes}
 use Rattle.machine.specs.Rest.{ComeToNoNines}
 use Rattle.machine.specs.Steady.{closed_at, nines_of}
+use Rattle.machine.specs.declared.units.Units.TheInside.{Inside}
 use Rattle.machine.proofs.ClosedContacts.{closes-all, closes-others}
 use Rattle.machine.proofs.Pictures.{IsPicture-same, picture-idle}
 use Rattle.machine.proofs.units.Units.impulse.Goals as goal
@@ -23,7 +24,8 @@ returns-in-C c = λ wiring is_net.
     let machine = c.args.self.now in
     let cycle = c.args.cycle in
     let point = c.args.point in
-    let ordered = subst (λ (m : MachineState). AreInUnitOrder m.groups) c.self.view_is c.self.invariant.ordered in
+    let view_is = ap (λ (units : Inside). units.all) c.self-inside.view_is ∙ c.self.view_is in
+    let ordered = subst (λ (m : MachineState). AreInUnitOrder m.groups) view_is c.self-inside.invariant.groups in
     IsPicture-same wiring (has_hub c.args.exits.now) (has_hub c.args.exits.now) (has_hub c.at.result.now) (closes machine cycle point)
     (has_hub c.picture.new.out) (λ hub. refl)
     (λ hub.
@@ -36,8 +38,9 @@ returns-then-comes_to_nines c = λ wiring is_net.
     let machine = c.args.self.now in
     let cycle = c.args.cycle in
     let point = c.args.point in
-    let ordered = subst (λ (m : MachineState). AreInUnitOrder m.groups) c.self.view_is c.self.invariant.ordered in
-    let nines = c.nines.ensures ∙ ap (λ (m : MachineState). nines_of m.groups) c.self.view_is in
+    let view_is = ap (λ (units : Inside). units.all) c.self-inside.view_is ∙ c.self.view_is in
+    let ordered = subst (λ (m : MachineState). AreInUnitOrder m.groups) view_is c.self-inside.invariant.groups in
+    let nines = c.nines.ensures ∙ ap (λ (m : MachineState). nines_of m.groups) view_is in
     IsPicture-same wiring (has_hub c.args.exits.now) (has_hub c.args.exits.now) (has_hub c.with_carries-contacts.result)
     (closes machine cycle point) (has_hub c.picture-then-comes_to_nines.new.out) (λ hub. refl)
     (λ hub.
@@ -50,9 +53,10 @@ returns-then-comes_to_nines c = λ wiring is_net.
 pub returns-else-comes_to_nines : goal.returns-else-comes_to_nines
 returns-else-comes_to_nines c = λ wiring is_net.
     let machine = c.args.self.now in
-    let ordered = subst (λ (m : MachineState). AreInUnitOrder m.groups) c.self.view_is c.self.invariant.ordered in
+    let view_is = ap (λ (units : Inside). units.all) c.self-inside.view_is ∙ c.self.view_is in
+    let ordered = subst (λ (m : MachineState). AreInUnitOrder m.groups) view_is c.self-inside.invariant.groups in
     let idle =
-    subst (λ (m : MachineState). ComeToNoNines (has_hub c.picture.new.out) (nines_of m.groups)) c.self.view_is
+    subst (λ (m : MachineState). ComeToNoNines (has_hub c.picture.new.out) (nines_of m.groups)) view_is
     (c.comes_to_nines.ensures c.if-comes_to_nines.false) in
     picture-idle wiring c.args.cycle c.args.closed.now machine c.args.point (has_hub c.args.exits.now) (has_hub c.picture.new.out) ordered
     c.requires idle

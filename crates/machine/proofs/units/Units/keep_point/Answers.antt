@@ -4,6 +4,7 @@ use Rattle.selectors.specs.Contacts.{carry_closes}
 use Rattle.machine.specs.Fields.{AreInUnitOrder}
 use Rattle.machine.specs.Machine.{MachineState, emits}
 use Rattle.machine.specs.Steady.{closed_at, nines_of}
+use Rattle.machine.specs.declared.units.Units.TheInside.{Inside}
 use Rattle.machine.proofs.ClosedContacts.{closes-all}
 use Rattle.machine.proofs.units.Units.keep_point.Goals as goal
 
@@ -12,8 +13,9 @@ returns c =
     let machine = c.args.self.now in
     let cycle = c.args.cycle in
     let point = c.args.point in
-    let ordered = subst (λ (m : MachineState). AreInUnitOrder m.groups) c.self.view_is c.self.invariant.ordered in
-    let nines = c.nines.ensures ∙ ap (λ (m : MachineState). nines_of m.groups) c.self.view_is in
+    let view_is = ap (λ (units : Inside). units.all) c.self-inside.view_is ∙ c.self.view_is in
+    let ordered = subst (λ (m : MachineState). AreInUnitOrder m.groups) view_is c.self-inside.invariant.groups in
+    let nines = c.nines.ensures ∙ ap (λ (m : MachineState). nines_of m.groups) view_is in
     record {
       exits = λ hub. c.emit.ensures hub ∙ ap (λ (b : Bool). b || emits machine cycle point hub) (c.new-exits.ensures hub);
       contacts = λ hub.

@@ -1,7 +1,7 @@
 use Rattle.std.proofs.Common.{◌≡◌, arith, subst, ℕ}
 use Rattle.std.specs.List.{flat_map, range_with_len}
 use Rattle.page_sections.specs.WheelSections.Helper.{GainsTold}
-use Rattle.page_sections.specs.WheelSections.Told.{printed_by}
+use Rattle.page_sections.specs.WheelSections.ToldWheels.{printed_by}
 use Rattle.page_sections.proofs.WheelSections.Gains.{told_none, wheels_more}
 use Rattle.page_sections.proofs.wheel_sections.told.push_wheels.Goals as goal
 

@@ -1,6 +1,6 @@
 use Rattle.std.specs.List.{flat_map, range_with_len}
 use Rattle.page_sections.specs.WheelSections.Helper.{GainsTold}
-use Rattle.page_sections.specs.WheelSections.Told.{printed_by}
+use Rattle.page_sections.specs.WheelSections.ToldWheels.{printed_by}
 use Rattle.page_sections.proofs.wheel_sections.told.push_wheels.Given as goal
 
 -- the wheels so far are told of

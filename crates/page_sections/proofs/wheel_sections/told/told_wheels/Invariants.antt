@@ -1,6 +1,6 @@
 use Rattle.std.specs.Prelude.{[], take}
 use Rattle.page_sections.specs.WheelSections.Helper.{GainsTold}
-use Rattle.page_sections.specs.WheelSections.Told.{printed_places}
+use Rattle.page_sections.specs.WheelSections.ToldWheels.{printed_places}
 use Rattle.page_sections.proofs.wheel_sections.told.told_wheels.Given as goal
 
 -- the lines so far are told of

@@ -4,7 +4,7 @@ use Rattle.panel_guides.specs.Panels.{reported}
 use Rattle.faults.specs.Status.{status_of}
 use Rattle.program_io.proofs.StoppingWith.{outcome_output_stops}
 use Rattle.panel_guides.proofs.TraceCalls.Stopping.{texts_stop, traced}
-use Rattle.panel_guides.specs.TraceCalls.Served.{LeavesUntraced}
+use Rattle.panel_guides.specs.TraceCalls.TraceEnds.{LeavesUntraced}
 use Rattle.panel_guides.proofs.trace_calls.serving.print_planned.Goals as goal
 
 pub returns-in_err-planned-clause-stopped : goal.returns-in_err-planned-clause-stopped

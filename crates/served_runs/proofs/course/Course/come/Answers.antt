@@ -17,8 +17,8 @@ returns-then-place-lt14-clause-own c hub low =
     let unit = unit_at old.units c.args.unit in
     let place = slice_index_or old.places c.args.unit 0 in
     let long : length old.closed ≡ 14 = search rules in
-    ap (λ (set : HubSet). has_hub set hub) (get_or-set_same old.closed place c.close.new.contacts no_set (omega (arith, long, low)))
-    ∙ c.close.ensures hub
+    ap (λ (set : HubSet). has_hub set hub) (get_or-set_same old.closed place c.close_unit.new.contacts no_set (omega (arith, long, low)))
+    ∙ c.close_unit.ensures hub
     ∙ either
     (ap (λ (set : HubSet). has_hub set hub)
     (get_or_default old.closed place c.index-self-place.result no_set (omega (arith, long, low))))
@@ -28,5 +28,5 @@ pub returns-then-place-lt14-clause-others : goal.returns-then-place-lt14-clause-
 returns-then-place-lt14-clause-others c place hub low apart =
     let old = c.args.self.now in
     ap (λ (set : HubSet). has_hub set hub)
-    (get_or-set_other old.closed (slice_index_or old.places c.args.unit 0) place c.close.new.contacts no_set
+    (get_or-set_other old.closed (slice_index_or old.places c.args.unit 0) place c.close_unit.new.contacts no_set
     (λ same. apart (omega (arith, same))))

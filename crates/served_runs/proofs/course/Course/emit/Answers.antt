@@ -27,14 +27,14 @@ returns c =
       other_emitted = λ other apart. get_or-set_other old.emitted number other true false (λ same. apart (omega (arith, same)));
       own_exits = λ hub.
           ap (λ (set : HubSet). has_hub set hub)
-          (get_or-set_same old.exits place c.emit.new.exits no_set (omega (arith, exits_long, c.requires.may.within)))
-          ∙ c.emit.ensures hub
+          (get_or-set_same old.exits place c.emit_unit.new.exits no_set (omega (arith, exits_long, c.requires.may.within)))
+          ∙ c.emit_unit.ensures hub
           ∙ either
           (ap (λ (set : HubSet). has_hub set hub)
           (get_or_default old.exits place c.index-self-place.result no_set (omega (arith, exits_long, c.requires.may.within))))
           (ap (λ (point : Point). any_emits unit c.args.cycle point hub) (get_or_default points place C K c.requires.may.within));
       other_exits = λ other hub low apart.
           ap (λ (set : HubSet). has_hub set hub)
-          (get_or-set_other old.exits place other c.emit.new.exits no_set (λ same. apart (omega (arith, same))));
+          (get_or-set_other old.exits place other c.emit_unit.new.exits no_set (λ same. apart (omega (arith, same))));
       closed = λ other hub low. refl;
     }

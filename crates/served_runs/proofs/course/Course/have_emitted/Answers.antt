@@ -1,4 +1,4 @@
-use Rattle.std.proofs.Common.{◌≡◌, ◌∙◌, ◌-◌, ap, sym, subst, arith, inl, inr, refl, true, false, ℕ}
+use Rattle.std.proofs.Common.{◌∙◌, ◌-◌, ap, sym, subst, arith, inl, inr, refl, ℕ}
 use Rattle.std.proofs.lemmas.Bool.{cases_eq, false≢true}
 use Rattle.net.specs.HubSets.{is_bit}
 use Rattle.served.specs.Steps.{HasEmitted}

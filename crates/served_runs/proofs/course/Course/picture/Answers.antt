@@ -1,6 +1,5 @@
-use Rattle.std.proofs.Common.{rules, ◌≡◌, ◌∙◌, ◌<◌, ℕ, Bool, List, length, arith, ap, subst, slice_index_or, true}
+use Rattle.std.proofs.Common.{rules, ◌<◌, length, subst, slice_index_or}
 use Rattle.std.proofs.lemmas.List.{get_or_default}
-use Rattle.hubs.specs.declared.hub.Hub.{Hub}
 use Rattle.net.specs.HubSets.{HubSet, has_hub}
 use Rattle.net.specs.Impulsed.{IsPicture}
 use Rattle.served_runs.specs.Course.{is_at, no_set}

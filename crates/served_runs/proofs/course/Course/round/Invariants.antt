@@ -1,4 +1,4 @@
-use Rattle.std.proofs.Common.{◌≡◌, ◌≤◌, ◌*◌, drop}
+use Rattle.std.proofs.Common.{◌≤◌, ◌*◌, drop}
 use Rattle.setups.specs.Wiring.{Wiring}
 use Rattle.served_runs.specs.Course.{IsPanelOf, served_in}
 use Rattle.served_runs.specs.Seen.{hub_count}

@@ -25,11 +25,11 @@ returns-clause-senses c wiring is_net may =
         allowed = may;
         picture = has_hub c.picture-picture.result;
         is_picture = c.picture-picture.ensures wiring is_net;
-        own_unit = ap (λ (m : MachineState). unit_at m unit) c.come.ensures.units ∙ c.sense.ensures.own
+        own_unit = ap (λ (m : MachineState). unit_at m unit) c.come.ensures.units ∙ c.sense_unit.ensures.own
             ∙ ap (λ (p : Point). any_sensed (unit_at old.units unit) c.args.cycle p (has_hub c.picture-picture.result))
             (get_or_default points place C K c.requires.within);
         other_units = λ other apart.
-            ap (λ (m : MachineState). unit_at m other) c.come.ensures.units ∙ c.sense.ensures.others other apart;
+            ap (λ (m : MachineState). unit_at m other) c.come.ensures.units ∙ c.sense_unit.ensures.others other apart;
         own_place = ap (λ (ps : List ℕ). slice_index_or ps unit 0) c.come.ensures.places ∙ come;
         other_places = λ other apart.
             ap (λ (ps : List ℕ). slice_index_or ps other 0) c.come.ensures.places
@@ -45,7 +45,7 @@ returns-clause-senses c wiring is_net may =
             subst
             (λ (q : ℕ). q < 14
             → is_at c.come.new.self.closed q hub
-            ≡ (is_at old.closed q hub || any_closes (unit_at c.sense.new.self unit) c.args.cycle (point_at q) hub))
+            ≡ (is_at old.closed q hub || any_closes (unit_at c.sense_unit.new.units unit) c.args.cycle (point_at q) hub))
             come (c.come.ensures.own hub) low
             ∙ ap (λ (m : MachineState). is_at old.closed (place + 1) hub || any_closes (unit_at m unit) c.args.cycle (point_at (place + 1)) hub)
             (sym c.come.ensures.units);

@@ -1,4 +1,4 @@
-use Rattle.std.proofs.Common.{◌≡◌, ◌∙◌, ◌<◌, ◌||◌, ℕ, zero, suc, Bool, true, false, List, [], ◌∷◌, arith, ap, sym, refl, replicate, get_or, length}
+use Rattle.std.proofs.Common.{◌≡◌, ◌∙◌, ◌<◌, ◌||◌, ℕ, zero, suc, false, ◌∷◌, arith, ap, refl, replicate, get_or}
 use Rattle.std.proofs.lemmas.List.{get_or-replicate}
 use Rattle.net.specs.Cycles.{point_at}
 use Rattle.net.specs.HubSets.{HubSet, has_hub}

@@ -1,4 +1,4 @@
-use Rattle.std.proofs.Common.{◌≡◌, ◌∙◌, ap, sym, refl, subst, arith, false, true, ℕ}
+use Rattle.std.proofs.Common.{◌≡◌, ◌∙◌, ap, sym, subst, arith, true}
 use Rattle.std.proofs.lemmas.Bool.{false≢true}
 use Rattle.served.specs.Steps.{MaySense}
 use Rattle.served_runs.specs.Course.{served_in}

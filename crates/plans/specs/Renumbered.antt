@@ -1,0 +1,16 @@
+-- Numbers of parts of which those of one kind are others.
+use Rattle.std.specs.Prelude.{ℕ, List}
+use Rattle.charts.specs.declared.level.ControlLevel.TheVariants as control
+use Rattle.plans.specs.PartNumbers.{PartNumbers}
+use Rattle.plans.specs.declared.part_numbers.PartKind.{PartKind}
+use Rattle.plans.specs.declared.part_numbers.PartKind.TheVariants as kind
+
+-- these numbers, but of one kind others
+abbrev pub renumbered : PartNumbers → PartKind → (others : List ℕ) → PartNumbers
+renumbered numbers kind.Pilot others = record numbers { pilots = others }
+renumbered numbers kind.Comparing others = record numbers { comparing = others }
+renumbered numbers kind.Storage others = record numbers { storage = others }
+renumbered numbers kind.Split others = record numbers { splits = others }
+renumbered numbers (kind.Indicate control.Minor) others = record numbers { minor = others }
+renumbered numbers (kind.Indicate control.Intermediate) others = record numbers { intermediate = others }
+renumbered numbers (kind.Indicate control.Major) others = record numbers { major = others }
