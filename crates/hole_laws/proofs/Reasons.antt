@@ -72,6 +72,10 @@ by-holes wiring position from called found =
     by true is false also same = absurd (none-some called same)
     by false is other also same = absurd (none-some called same)
 
+of-brushes : (wiring : Wiring) (position from called : ℕ) → called_by_holes wiring position from ≡ Some called → IsOfBrushes wiring position
+of-brushes wiring position from called found =
+    let is = by-holes wiring position from called found in record { first = is.brushes; second = is.also }
+
 -- the numbers of positions and of levels that have wires
 position-within : (position number : ℕ) → number_of (CX position) ≡ Some number → is_within position 30 ≡ true
 position-within position number numbered = grind (arith, nat_tests)
@@ -344,7 +348,7 @@ module _ (wiring : Wiring) (deck : List (List ℕ)) (card : ℕ) (level : Progra
       let taken : tells.called ≤ levels_to (called_for step.picture) =
       subst (λ (top : Option ProgramLevel). tells.called ≤ levels_to top) highest call.1.taken in (
         subst (IsReason wiring deck card (level_number level) now behind) tells.is
-            (called_from tells.position tells.called call.0 call.1 tells.lines
+            (called_from tells.position tells.called (of-brushes wiring tells.position (level_number level) tells.called tells.found) call.0 call.1 tells.lines
             (none-below-calls wiring deck card tells.position (level_number level) now behind leads reading tells.lowest)),
         runs (has_more behind) (omega (arith, call.0, taken)),
       )

@@ -78,7 +78,7 @@ OthersCallNoLevel =
     → LeadsToEntries wiring → IsReading wiring deck card 13 now → IsOfBrushes wiring position
     → has_lines wiring deck card position ≡ false → CallsLevel wiring position called now behind → ⊥
 
--- no position below this one that is wired from brushes alone calls a level or a higher one
+-- no position below this one that is wired from brushes alone calls this level or a higher one
 abbrev pub NoneBelowCalls : Wiring → (position level : ℕ) → (now behind : MachineState) → Type 0
 NoneBelowCalls wiring position level now behind =
     (lower called : ℕ) → lower < position → level ≤ called → IsOfBrushes wiring lower → CallsLevel wiring lower called now behind → ⊥
@@ -88,7 +88,8 @@ NoneBelowCalls wiring position level now behind =
 pub data IsReason (wiring : Wiring) (deck : List (List ℕ)) (card level : ℕ) (now behind : MachineState) : List ℕ → Type 0 where
   last : has_more behind ≡ false → IsReason wiring deck card level now behind (last_text level card)
   called_from :
-      (position called : ℕ) → level ≤ called → CallsLevel wiring position called now behind → has_lines wiring deck card position ≡ true
+      (position called : ℕ) → IsOfBrushes wiring position → level ≤ called → CallsLevel wiring position called now behind
+      → has_lines wiring deck card position ≡ true
       → NoneBelowCalls wiring position level now behind
       → IsReason wiring deck card level now behind (called_text level card position called (unlike_lines wiring deck card position rows))
 
