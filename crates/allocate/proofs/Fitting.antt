@@ -1,5 +1,5 @@
 -- What fits a machine can be planned.
-use Rattle.std.proofs.Common.{◌≡◌, ◌∙◌, ℕ, ◌<◌, ◌≤◌, List, [], ◌∷◌, length, refl, sym, ap, subst, arith}
+use Rattle.std.proofs.Common.{◌≡◌, ◌∙◌, ℕ, ◌<◌, ◌≤◌, List, [], ◌∷◌, length, refl, ap, arith}
 use Rattle.capacity.specs.Capacities.{Capacities, standard, IsAtMost}
 use Rattle.wanted.specs.Wanted.{Parts, Wanted}
 use Rattle.plans.specs.Assignments.{IsAssignment}

@@ -1,6 +1,6 @@
 //! The capacities of a machine in their order, and the first that a chart exceeds.
 
-ghost use Rattle.std.specs.Prelude.{◌≡◌, IfNone, IfSome, IsSome, length, true};
+ghost use Rattle.std.specs.Prelude.{◌≡◌, IfNone, IfSome, length};
 ghost use Rattle.allocate.specs.Exceeded as law;
 ghost use Rattle.plans.specs.Excess.{count_there};
 

@@ -30,7 +30,7 @@ pub(crate) fn pass_on(
 }
 
 // The same for eight runs from one on, or as many as there are. Eight at a time, so that a compiler that knows the runs makes one piece of
-// code of them, without a loop, where each shift is one by a constant.
+// code of them, without a loop, where each shift is one by a constant: a plain loop takes two to four times as many instructions.
 #[inline(always)]
 fn pass_eight(
     rows: &Rows,

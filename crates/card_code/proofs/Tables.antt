@@ -1,11 +1,13 @@
 -- The tables of the card code against its pairs.
-use Rattle.std.proofs.Common.{◌≡◌, ◌≢◌, ℕ, zero, suc, ◌+◌, ◌%◌, ◌<◌, ◌≤◌, ◌⊎◌, inl, inr, arith, refl, sym, ap, ◌∙◌, Bool, true, false, ◌&&◌, List, [], ◌∷◌, length, Option, Some, None, if◌then◌else◌, ◌==◌, slice_index}
+use Rattle.std.proofs.Common.{◌≡◌, ◌≢◌, ℕ, zero, suc, ◌+◌, ◌%◌, ◌<◌, ◌≤◌, ◌⊎◌, inl, inr, arith, refl, sym, ap, ◌∙◌, Bool, true, false, ◌&&◌, ◌||◌, List, [], ◌∷◌, length, Option, Some, None, IfSome, if◌then◌else◌, ◌==◌, slice_index}
 use Rattle.std.specs.Prelude.{nat_lt}
 use Rattle.std.specs.List.{list_all}
+use Rattle.std.specs.Option.{option_map}
 use Rattle.std.proofs.lemmas.Grind.{common_steps}
 use Rattle.std.proofs.lemmas.Bool.{false≢true}
 use Rattle.std.proofs.lemmas.Bool.Decides.{eqb_tells, nat_tests}
 use Rattle.card_code.specs.CardCode.{character_in, rows_in}
+use Rattle.card_code.specs.Columns.{column_of, set_of_column, set-again}
 use Rattle.card_code.specs.Tables.{entry, listed, matching}
 
 -- whether two optional numbers are the same
@@ -30,27 +32,34 @@ goes_on : (test : Bool) (value : ℕ) (rest : Option ℕ) → test ≡ false →
 goes_on true value rest e = absurd (false≢true (sym e))
 goes_on false value rest e = refl
 
--- whether a table lists what pairs have, from a character on
+-- whether an entry is small, or stands for none
+abbrev pub is_small : ℕ → Bool
+is_small set = set == 65535 || nat_lt set 4096
+
+-- whether a table lists sets of the columns that pairs have, from a character on
 abbrev pub lists : List (ℕ × ℕ) → ℕ → List ℕ → Bool
 lists pairs from [] = true
-lists pairs from (rows ∷ table) = same_option (entry rows) (rows_in pairs from) && lists pairs (suc from) table
+lists pairs from (set ∷ table) =
+    is_small set && (same_option (option_map column_of (entry set)) (rows_in pairs from) && lists pairs (suc from) table)
+
+-- an entry for a character
+abbrev pub IsEntry : List (ℕ × ℕ) → ℕ → ℕ → Type 0
+IsEntry pairs character set = (is_small set ≡ true) × (option_map column_of (entry set) ≡ rows_in pairs character)
 
 -- what it lists is what they have
 lists-at : (pairs : List (ℕ × ℕ)) (from k : ℕ) (table : List ℕ) → lists pairs from table ≡ true → k < length table
-    → entry (slice_index table k) ≡ rows_in pairs (from + k)
+    → IsEntry pairs (from + k) (slice_index table k)
 lists-at pairs from k [] is inside = absurd (omega (arith, inside))
-lists-at pairs from zero (rows ∷ table) is inside =
+lists-at pairs from zero (set ∷ table) is inside =
     let same : from ≡ from + 0 = omega arith in
-    same-option (entry rows) (rows_in pairs from) (both _ _ is).0 ∙ ap (λ (c : ℕ). rows_in pairs c) same
-lists-at pairs from (suc k) (rows ∷ table) is inside =
+    let first = both _ _ is in (
+      first.0,
+      same-option (option_map column_of (entry set)) (rows_in pairs from) (both _ _ first.1).0 ∙ ap (λ (c : ℕ). rows_in pairs c) same,
+    )
+lists-at pairs from (suc k) (set ∷ table) is inside =
     let same : suc from + k ≡ from + suc k = omega arith in
-    lists-at pairs (suc from) k table (both _ _ is).1 (omega (arith, inside)) ∙ ap (λ (c : ℕ). rows_in pairs c) same
-
--- a table of all bytes that lists what pairs have
-pub listed-byte : (pairs : List (ℕ × ℕ)) (table : List ℕ) (byte : ℕ) → lists pairs 0 table ≡ true → byte < length table
-    → entry (slice_index table byte) ≡ rows_in pairs byte
-listed-byte pairs table byte lists_all inside =
-    lists-at pairs 0 byte table lists_all inside ∙ ap (λ (c : ℕ). rows_in pairs c) (omega arith)
+    let later = lists-at pairs (suc from) k table (both _ _ (both _ _ is).1).1 (omega (arith, inside)) in
+    (later.0, later.1 ∙ ap (λ (c : ℕ). rows_in pairs c) same)
 
 -- pairs whose characters are all below 256 have no other
 outside : (pairs : List (ℕ × ℕ)) (character : ℕ) → list_all (λ pair. nat_lt pair.0 256) pairs ≡ true
@@ -67,62 +76,75 @@ outside (pair ∷ pairs) character within far =
 -- a table of 256 that lists what pairs have
 pub listed-right : (pairs : List (ℕ × ℕ)) (table : List ℕ) (character : ℕ)
     → list_all (λ pair. nat_lt pair.0 256) pairs ≡ true → lists pairs 0 table ≡ true → length table ≡ 256
-    → listed table character ≡ rows_in pairs character
+    → (option_map column_of (listed table character) ≡ rows_in pairs character) × IfSome (listed table character) (λ set. set < 4096)
 listed-right pairs table character within lists_all long = by (nat_lt character 256) refl
   where
-    by : (low : Bool) → nat_lt character 256 ≡ low → listed table character ≡ rows_in pairs character
+    small : (set : ℕ) → is_small set ≡ true → IfSome (entry set) (λ set. set < 4096)
+    small set is = of (set == 65535) is
+      where
+        of : (none : Bool) → (none || nat_lt set 4096) ≡ true → IfSome (if none then None else Some set) (λ set. set < 4096)
+        of true is = tt
+        of false is = grind (arith, nat_tests, is)
+
+    by : (low : Bool) → nat_lt character 256 ≡ low
+        → (option_map column_of (listed table character) ≡ rows_in pairs character) × IfSome (listed table character) (λ set. set < 4096)
     by true is =
         let inside : character < 256 = grind (arith, nat_tests, is) in
-        rw (is) (listed-byte pairs table character lists_all (omega (arith, inside, long)))
-    by false is = rw (is) (sym (outside pairs character within (grind (arith, nat_tests, is))))
+        let found = lists-at pairs 0 character table lists_all (omega (arith, inside, long)) in
+        rw (is) (found.1 ∙ ap (λ (c : ℕ). rows_in pairs c) (omega arith), small (slice_index table character) found.0)
+    by false is = rw (is) (sym (outside pairs character within (grind (arith, nat_tests, is))), tt)
 
 -- whether pairs have what two tables have beside one another
 abbrev pub has_all : List (ℕ × ℕ) → List ℕ → List ℕ → Bool
 has_all pairs [] characters = true
 has_all pairs (set ∷ sets) [] = false
 has_all pairs (set ∷ sets) (character ∷ characters) =
-    same_option (character_in pairs set) (Some character) && has_all pairs sets characters
+    same_option (character_in pairs (column_of set)) (Some character) && has_all pairs sets characters
 
 has-at : (pairs : List (ℕ × ℕ)) (sets characters : List ℕ) (k : ℕ) → has_all pairs sets characters ≡ true → k < length sets
-    → character_in pairs (slice_index sets k) ≡ Some (slice_index characters k)
+    → character_in pairs (column_of (slice_index sets k)) ≡ Some (slice_index characters k)
 has-at pairs [] characters k is inside = absurd (omega (arith, inside))
 has-at pairs (set ∷ sets) [] k is inside = absurd (false≢true is)
 has-at pairs (set ∷ sets) (character ∷ characters) zero is inside = same-option _ _ (both _ _ is).0
 has-at pairs (set ∷ sets) (character ∷ characters) (suc k) is inside =
     has-at pairs sets characters k (both _ _ is).1 (omega (arith, inside))
 
--- whether a set of rows stands at its place
+-- whether a set stands at its place
 abbrev pub is_placed : List ℕ → ℕ → Bool
-is_placed sets set = slice_index sets (set % 118) == set
+is_placed sets set = slice_index sets (set % 187) == set
 
--- what pairs have stands at its place where all of their sets do
-placed : (pairs : List (ℕ × ℕ)) (sets : List ℕ) (set character : ℕ) → list_all (λ pair. is_placed sets pair.1) pairs ≡ true
-    → character_in pairs set ≡ Some character → is_placed sets set ≡ true
-placed [] sets set character all found = cc
-placed (pair ∷ pairs) sets set character all found =
-    let parts : (is_placed sets pair.1 ≡ true) × (list_all (λ p. is_placed sets p.1) pairs ≡ true) = both _ _ all in
-    by parts.0 (λ later. placed pairs sets set character parts.1 later) (eqb_tells pair.1 set)
+-- a set whose column pairs have stands at its place if the sets of all their columns do
+placed : (pairs : List (ℕ × ℕ)) (sets : List ℕ) (set character : ℕ) → set < 4096
+    → list_all (λ pair. is_placed sets (set_of_column pair.1)) pairs ≡ true
+    → character_in pairs (column_of set) ≡ Some character → is_placed sets set ≡ true
+placed [] sets set character small all found = cc
+placed (pair ∷ pairs) sets set character small all found =
+    let parts = both (is_placed sets (set_of_column pair.1)) (list_all (λ p. is_placed sets (set_of_column p.1)) pairs) all in
+    by parts.0 (λ later. placed pairs sets set character small parts.1 later) (eqb_tells pair.1 (column_of set))
   where
-    by : is_placed sets pair.1 ≡ true → (character_in pairs set ≡ Some character → is_placed sets set ≡ true)
-        → ((pair.1 == set) ≡ true) × (pair.1 ≡ set) ⊎ ((pair.1 == set) ≡ false) × (pair.1 ≢ set) → is_placed sets set ≡ true
-    by here there (inl same) = ap (λ (s : ℕ). is_placed sets s) (sym same.1) ∙ here
-    by here there (inr other) = there (sym (goes_on (pair.1 == set) pair.0 (character_in pairs set) other.0) ∙ found)
+    by : is_placed sets (set_of_column pair.1) ≡ true → (character_in pairs (column_of set) ≡ Some character → is_placed sets set ≡ true)
+        → ((pair.1 == column_of set) ≡ true) × (pair.1 ≡ column_of set) ⊎ ((pair.1 == column_of set) ≡ false) × (pair.1 ≢ column_of set)
+        → is_placed sets set ≡ true
+    by here there (inl same) =
+        ap (λ (s : ℕ). is_placed sets s) (sym (ap (λ (c : ℕ). set_of_column c) same.1 ∙ set-again set small)) ∙ here
+    by here there (inr other) = there (sym (goes_on (pair.1 == column_of set) pair.0 (character_in pairs (column_of set)) other.0) ∙ found)
 
--- two tables in which each set of the pairs stands at its place, and nothing that they have not
-pub matching-right : (pairs : List (ℕ × ℕ)) (sets characters : List ℕ) (rows : ℕ)
-    → list_all (λ pair. is_placed sets pair.1) pairs ≡ true → has_all pairs sets characters ≡ true → length sets ≡ 118
-    → matching sets characters rows ≡ character_in pairs rows
-matching-right pairs sets characters rows all has long = by (is_placed sets rows) refl
+-- two tables in which the set of each column of the pairs stands at its place, and nothing that they have not
+pub matching-right : (pairs : List (ℕ × ℕ)) (sets characters : List ℕ) (set : ℕ) → set < 4096
+    → list_all (λ pair. is_placed sets (set_of_column pair.1)) pairs ≡ true → has_all pairs sets characters ≡ true → length sets ≡ 187
+    → matching sets characters set ≡ character_in pairs (column_of set)
+matching-right pairs sets characters set small all has long = by (is_placed sets set) refl
   where
-    none : (found : Option ℕ) → character_in pairs rows ≡ found → is_placed sets rows ≡ false → None ≡ character_in pairs rows
+    none : (found : Option ℕ) → character_in pairs (column_of set) ≡ found → is_placed sets set ≡ false
+        → None ≡ character_in pairs (column_of set)
     none None is other = sym is
-    none (Some character) is other = absurd (false≢true (sym other ∙ placed pairs sets rows character all is))
+    none (Some character) is other = absurd (false≢true (sym other ∙ placed pairs sets set character small all is))
 
-    by : (there : Bool) → is_placed sets rows ≡ there → matching sets characters rows ≡ character_in pairs rows
+    by : (there : Bool) → is_placed sets set ≡ there → matching sets characters set ≡ character_in pairs (column_of set)
     by true is =
-        let same : slice_index sets (rows % 118) ≡ rows = equal (slice_index sets (rows % 118)) rows is in
-        let inside : rows % 118 < length sets = omega (arith, long) in
-        rw (is) (sym (has-at pairs sets characters (rows % 118) has inside) ∙ ap (λ (s : ℕ). character_in pairs s) same) where
+        let same : slice_index sets (set % 187) ≡ set = equal (slice_index sets (set % 187)) set is in
+        let inside : set % 187 < length sets = omega (arith, long) in
+        rw (is) (sym (has-at pairs sets characters (set % 187) has inside) ∙ ap (λ (s : ℕ). character_in pairs (column_of s)) same) where
           equal : (m n : ℕ) → (m == n) ≡ true → m ≡ n
           equal m n e = grind (arith, nat_tests, e)
-    by false is = rw (is) (none (character_in pairs rows) refl is)
+    by false is = rw (is) (none (character_in pairs (column_of set)) refl is)

@@ -1,4 +1,6 @@
+pub mod AllSets
 pub mod CardCode
+pub mod Columns
 pub mod Deck
 pub mod Lines
 pub mod MostCards

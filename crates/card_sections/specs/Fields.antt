@@ -1,5 +1,5 @@
--- What the fields of a chart have on a card: a row of a table for each, with its name, its columns and the characters in them, and with
--- the sign column, if it has one, and the character there.
+-- The fields of a chart on a card, as a table. Each field has a row: its name, its columns and the characters in them, and its sign column, if it
+-- has one, with the character there.
 use Rattle.std.specs.Prelude.{ℕ, ◌-◌, List, [], ◌++◌, Option, Some, None, codes, decimal, drop, take}
 use Rattle.std.specs.List.{flat_map}
 use Rattle.charts.specs.Field.{columns_of, sign_column}
@@ -11,11 +11,11 @@ use Rattle.charts.specs.declared.statement.Statement.TheVariants as says
 use Rattle.drawings.specs.CardDrawing.Drawings.{characters_of}
 use Rattle.markup.specs.Escapes.{escaped}
 
--- the characters of a field, of those of a card
+-- the characters of a card that stand in the columns of a field
 abbrev pub field_characters : (characters : List ℕ) → Field → List ℕ
 field_characters characters field = take (columns_of field) (drop (field.first - 1) characters)
 
--- a field: its name, which links to the line of the chart, and its columns
+-- the front of a row: the name of the field, which links to its line of the chart, and its columns
 unfoldable pub field_open : (number : ℕ) → List ℕ
 field_open number = codes "<tr><th><a href=\"#line" ++ decimal number ++ codes "\">"
 
@@ -31,11 +31,11 @@ columns_text first last = first_text first ++ last_text last
 unfoldable pub named_open : (number : ℕ) → (name : List ℕ) → List ℕ
 named_open number name = field_open number ++ escaped (name_text name)
 
--- the character of a column, of those of a card
+-- the character of a card that stands in a column
 abbrev pub column_character : (characters : List ℕ) → ℕ → List ℕ
 column_character characters column = take 1 (drop (column - 1) characters)
 
--- a sign column, and its character
+-- a sign column, and the character in it
 unfoldable pub sign_open : ℕ → List ℕ
 sign_open column = codes ", sign in column " ++ decimal column ++ codes ": <code>"
 
@@ -45,7 +45,7 @@ characters_close = codes "</code>"
 unfoldable pub column_sign : (characters : List ℕ) → ℕ → List ℕ
 column_sign characters column = sign_open column ++ escaped (column_character characters column) ++ characters_close
 
--- that of a field, if it has one
+-- the sign column of a field, if it has one, and the character in it
 abbrev pub sign_text : (characters : List ℕ) → Option ℕ → List ℕ
 sign_text characters (Some column) = column_sign characters column
 sign_text characters None = []
@@ -58,7 +58,7 @@ field_text characters number field =
     named_open number field.name ++ columns_text field.first field.last
     ++ escaped (field_characters characters field) ++ characters_close ++ sign_text characters (sign_column field.kind) ++ field_close
 
--- the field that a line of the chart names
+-- the row of the field that a line of the chart gives; another line has none
 abbrev pub field_of : (characters : List ℕ) → (number : ℕ) → Statement → List ℕ
 field_of characters number (says.Field field) = field_text characters number field
 field_of characters number other = []
@@ -66,7 +66,7 @@ field_of characters number other = []
 abbrev pub line_field : (characters : List ℕ) → Line → List ℕ
 line_field characters line = field_of characters line.number line.statement
 
--- all fields of a chart, on a card
+-- the table of all fields of a chart, with the characters of a card
 unfoldable pub fields_text : List Line → (characters : List ℕ) → List ℕ
 fields_text lines characters = codes "<table>\n" ++ flat_map (line_field characters) lines ++ codes "</table>"
 

@@ -1,10 +1,9 @@
 //! What the fields of a chart have on a card.
 
-ghost use Rattle.std.specs.Prelude.{◌≡◌, ◌-◌, ◌++◌, codes, drop, take, OnOk};
+ghost use Rattle.std.specs.Prelude.{◌≡◌, ◌-◌, ◌++◌, drop, take, OnOk};
 ghost use Rattle.std.specs.List.{flat_map};
 ghost use Rattle.std.specs.String.{string_bytes};
-ghost use Rattle.charts.specs.Field.{columns_of, sign_column};
-ghost use Rattle.card_sections.specs.Fields.{card_fields, characters_close, column_character, column_sign, columns_text, field_characters, field_close, field_of, field_open, field_text, fields_text, first_text, last_text, line_field, named_open, sign_open, sign_text};
+ghost use Rattle.card_sections.specs.Fields.{card_fields, characters_close, column_character, column_sign, columns_text, field_characters, field_close, field_open, field_text, fields_text, first_text, last_text, line_field, named_open, sign_open, sign_text};
 
 use card_code::Card;
 use charts::{Field, Line, Name, Statement};

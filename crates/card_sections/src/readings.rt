@@ -1,6 +1,6 @@
 //! What became of a card in the run: in which cycles it stood at the reading stations, and into which sums it went.
 
-ghost use Rattle.std.specs.Prelude.{◌≡◌, ◌≤◌, ◌<◌, ◌+◌, ◌^◌, ◌++◌, codes, length, OnOk};
+ghost use Rattle.std.specs.Prelude.{◌≡◌, ◌≤◌, ◌<◌, ◌+◌, ◌^◌, ◌++◌, OnOk};
 ghost use Rattle.std.specs.String.{string_bytes};
 ghost use Rattle.card_code.specs.Lines.{lines_of};
 ghost use Rattle.card_sections.specs.Readings.{begins_with, card_run, card_stations, cycle_text, first_open, first_reading, first_text, left_behind, nth_line, second_open, second_reading, second_text, stations_text};

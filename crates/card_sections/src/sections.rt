@@ -1,6 +1,6 @@
 //! The elements of cards.
 
-ghost use Rattle.std.specs.Prelude.{◌≡◌, ◌≤◌, ◌<◌, ◌+◌, ◌^◌, ◌++◌, codes, length, OnOk};
+ghost use Rattle.std.specs.Prelude.{◌≡◌, ◌≤◌, ◌<◌, ◌+◌, ◌^◌, ◌++◌, length, OnOk};
 ghost use Rattle.std.specs.String.{string_bytes};
 ghost use Rattle.markup.specs.Pieces.{numbered_words};
 ghost use Rattle.card_sections.specs.Sections.{back_text, before_text, front_text, links_text, next_text, picture_open, picture_text, section_front, section_open, section_text, sections_text};

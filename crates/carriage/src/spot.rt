@@ -21,7 +21,7 @@ pub struct Spot {
 
 impl Spot {
     ghost use Rattle.std.specs.Prelude.{◌≡◌};
-    ghost use Rattle.carriage.specs.Moves.{at_first_line, come_to, down, down_by, latched, restored, skipped_to, next_stop};
+    ghost use Rattle.carriage.specs.Moves.{at_first_line, come_to, down, down_by, restored, skipped_to, next_stop};
 
     /// Begins a page: the form's first line, with the latch reset.
     pub fn begin_page(&mut self, tape: &Tape)

@@ -5,8 +5,8 @@ ghost use Rattle.card_code.specs.CardCode.{rows_of};
 
 use anyhow::Result;
 use browser_pages::show_to_end;
-use check_calls::{check_deck_to_end, check_groups_to_end, show_deck_to_end};
-use commands::{replay_by_orders, serve};
+use check_calls::{print_check, print_grouped, print_shown};
+use commands::{Fault, replay_by_orders, serve, tell};
 use decks_in_row::DecksInRow;
 use devices::limited::LimitedReader;
 use fault_guide::guides::fault_to_end;
@@ -152,32 +152,26 @@ impl Served {
         served
     }
 
+    // The same after a check, with its fault told if it has one.
+    fn after(mut self, fault: Option<Fault>) -> Served {
+        if let Some(fault) = fault {
+            self.status = tell(&fault, &mut self.told).status;
+        }
+        self
+    }
+
     /// The check of a deck.
     pub fn check_deck<R: Read + Drop>(alloc: Global, chart: &[u8], deck: R) -> Served {
         let mut served = Served::new(alloc);
-        served.status = check_deck_to_end(
-            alloc,
-            chart,
-            deck,
-            &mut served.output,
-            &mut served.told,
-        ).status;
-        served
+        let checked = print_check(alloc, chart, deck, &mut served.output);
+        served.after(checked.err())
     }
 
     /// The check of a chart and a deck, and the control keys that come back.
     pub fn check_groups<R: Read + Drop>(alloc: Global, chart: &[u8], deck: R) -> Served {
         let mut served = Served::new(alloc);
-        served.status = check_groups_to_end(
-            alloc,
-            chart,
-            "my.deck",
-            deck,
-            &mut served.output,
-            &mut served.told,
-        )
-        .status;
-        served
+        let checked = print_grouped(alloc, chart, "my.deck", deck, &mut served.output);
+        served.after(checked.err())
     }
 
     /// Every fault of a chart, or, if it has none, the bad cards of a deck, each shown.
@@ -187,16 +181,8 @@ impl Served {
             return listed;
         }
         let mut served = Served::new(alloc);
-        served.status = show_deck_to_end(
-            alloc,
-            chart,
-            "my.deck",
-            deck,
-            &mut served.output,
-            &mut served.told,
-        )
-        .status;
-        served
+        let checked = print_shown(alloc, chart, "my.deck", deck, &mut served.output);
+        served.after(checked.err())
     }
 
     /// Pages of a run that are printed once the whole deck has run.

@@ -1,5 +1,5 @@
 -- What is left out follows from what is listed, and the lowest rule that is broken is listed.
-use Rattle.std.proofs.Common.{◌≡◌, ℕ, ◌<◌, ◌≤◌, Bool, true, false, not, ◌&&◌, ◌||◌, nat_le, nat_lt, List, [], ◌∷◌, ◌++◌, refl, sym, ap, ◌∙◌, arith, true≢false, ◌⊎◌, inl, inr, Contains, subst}
+use Rattle.std.proofs.Common.{◌≡◌, ℕ, ◌<◌, ◌≤◌, Bool, true, false, not, ◌&&◌, ◌||◌, nat_le, nat_lt, List, [], ◌∷◌, ◌++◌, refl, sym, ap, ◌∙◌, arith, true≢false, ◌⊎◌, inl, inr, subst}
 use Rattle.std.proofs.lemmas.Bool.{cases_lt}
 use Rattle.std.proofs.lemmas.Bool.Decides.{nat_tests}
 use Rattle.std.specs.List.{list_any}
@@ -18,7 +18,7 @@ use Rattle.chart_rules.specs.declared.rule.Rule.TheVariants as rule
 use Rattle.chart_rules.specs.Rules as law
 use Rattle.chart_rules.specs.Rules.{breaks_at, Broken, IsKept, IsFirstBroken, rule_number}
 use Rattle.chart_faults.specs.declared.listing.BrokenRule.{BrokenRule}
-use Rattle.chart_faults.specs.Listed.{has_no_columns, lacks_good_form, misnames, only_follows, is_at_fault, Listed, by_line, by_end, HasAllListed, IsFirstByRule, BeginsAsChecked, IsListedOrFollows, LeavesOutWhatFollows}
+use Rattle.chart_faults.specs.Listed.{has_no_columns, lacks_good_form, misnames, only_follows, Listed, by_line, by_end, HasAllListed, BeginsAsChecked, IsListedOrFollows, LeavesOutWhatFollows}
 
 -- a test and another that fails
 both : (one other : Bool) → one ≡ true → other ≡ false → (one && not other) ≡ true

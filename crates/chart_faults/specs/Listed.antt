@@ -1,6 +1,6 @@
 -- Which faults of a chart are listed, and in which order: each line with each rule that it breaks, but for a rule that it breaks only
 -- since something else is wrong.
-use Rattle.std.specs.Prelude.{◌≡◌, ℕ, ◌<◌, ◌≤◌, Bool, true, false, List, [], ◌∷◌, ◌++◌, ◌||◌, ◌&&◌, not, nat_lt, ◌⊎◌, Contains}
+use Rattle.std.specs.Prelude.{◌≡◌, ℕ, ◌<◌, ◌≤◌, Bool, true, false, List, ◌∷◌, ◌++◌, ◌||◌, ◌&&◌, not, nat_lt, ◌⊎◌, Contains}
 use Rattle.std.specs.List.{list_any}
 use Rattle.charts.specs.Chart.{Chart}
 use Rattle.charts.specs.declared.chart.Line.{Line}

@@ -1,6 +1,6 @@
 //! The list of all faults of a chart.
 
-ghost use Rattle.std.specs.Prelude.{◌≡◌, ◌++◌, [], ◌∷◌, List, length, map, filter, OnOk, IfOk, AllPairs};
+ghost use Rattle.std.specs.Prelude.{◌≡◌, ◌++◌, ◌∷◌, List, OnOk, IfOk, AllPairs};
 ghost use Rattle.charts.specs.Chart.{NumbersRise};
 ghost use Rattle.charts.specs.declared.statement.Field.{Field};
 ghost use Rattle.line_rules.specs.FieldRules.Fields.{fields_of};

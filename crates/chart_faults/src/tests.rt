@@ -5,7 +5,6 @@ ghost use Rattle.std.specs.List.{list_any};
 ghost use Rattle.charts.specs.declared.statement.Field.{Field};
 ghost use Rattle.line_rules.specs.FieldRules.Fields.{fields_of};
 ghost use Rattle.line_rules.specs.PrintRules.Forms.{breaks_form};
-ghost use Rattle.line_rules.specs.PrintRules.Tapes.{is_good_tape};
 ghost use Rattle.chart_rules.specs.Rules as law;
 ghost use Rattle.chart_faults.specs.Listed.{has_no_columns, is_at_fault, lacks_good_form, misnames, only_follows};
 

@@ -6,6 +6,8 @@ use Rattle.std.proofs.lemmas.List.{get_or-set_same, get_or-set_other, length-set
 use Rattle.std.proofs.lemmas.Nat.{and_le_r}
 use Rattle.std.proofs.lemmas.Option.{same_Some, slice_get_read}
 use Rattle.card_code.specs.CardCode.{has_row}
+use Rattle.card_code.specs.Columns.{column_of as column_of_set}
+use Rattle.card_code.specs.declared.row.Row.TheVariants.{Eleven}
 use Rattle.charts.specs.Field.{columns_of, decimals_of, is_amount, sign_column}
 use Rattle.charts.specs.declared.statement.Field.{Field}
 use Rattle.chart_rules.specs.HelperAmounts.{AreAmountsMarked, ArePlain, AreSized, IsAmountMarked, Keeps}
@@ -97,19 +99,19 @@ unmasked masks k place found small same marked none =
     all_bits found small (sym (ap (λ m. bit_and m found) whole) ∙ none)
 
 -- one column more that is looked at
-pub plain-more : (columns : AmountColumns) (card : List ℕ) (place joined before rows crowding lacks lacked next : ℕ)
+pub plain-more : (columns : AmountColumns) (card : List ℕ) (place joined before set crowding lacks lacked next : ℕ)
     → (joined ≡ 0 → ArePlain columns place card)
     → next ≡ bit_or joined (bit_or (bit_or (bit_or (bit_and (slice_index columns.amounts place) crowding)
-    (bit_and (slice_index columns.unsigned place) (bit_and rows 2048)))
+    (bit_and (slice_index columns.unsigned place) (bit_and set 1024)))
     (bit_and (slice_index columns.inner place) lacks))
     (bit_and (slice_index columns.needed place) lacked))
-    → rows ≡ slice_index card place → (1 ≤ place → before ≡ slice_index card (place - 1))
+    → column_of_set set ≡ slice_index card place → (1 ≤ place → column_of_set before ≡ slice_index card (place - 1))
     → crowding < 2 ^ 16 → lacks < 2 ^ 16 → lacked < 2 ^ 16
-    → (crowding ≡ 0 → digit_count rows ≤ 1) → (crowding ≡ 0 → has_row rows 12 ≡ false)
-    → (lacks ≡ 0 → digit_count rows ≡ 0 → digit_count before ≡ 0)
-    → (lacked ≡ 0 → digit_count before ≡ 0 → digit_count rows ≡ 0)
+    → (crowding ≡ 0 → digit_count (column_of_set set) ≤ 1) → (crowding ≡ 0 → has_row (column_of_set set) 12 ≡ false)
+    → (lacks ≡ 0 → digit_count (column_of_set set) ≡ 0 → digit_count (column_of_set before) ≡ 0)
+    → (lacked ≡ 0 → digit_count (column_of_set before) ≡ 0 → digit_count (column_of_set set) ≡ 0)
     → next ≡ 0 → ArePlain columns (place + 1) card
-plain-more columns card place joined before rows crowding lacks lacked next so_far is here there few less least single low inner needed none = record {
+plain-more columns card place joined before set crowding lacks lacked next so_far is here there few less least single low inner needed none = record {
   single = λ k within marked. elim (cases_eq k place) [
     | inl same ↦
         subst (λ (n : ℕ). digit_count (slice_index card n) ≤ 1) (sym same)
@@ -126,9 +128,8 @@ plain-more columns card place joined before rows crowding lacks lacked next so_f
     | inl same ↦
         subst (λ (n : ℕ). has_row (slice_index card n) 11 ≡ false) (sym same)
         (subst (λ (n : ℕ). has_row n 11 ≡ false) here
-        (unpunched rows 2048 11
-        (unmasked columns.unsigned k place (bit_and rows 2048) (let most = and_le_r rows 2048 in omega (arith, most)) same marked one.1)
-        refl refl))
+        (unpunched set Eleven
+        (unmasked columns.unsigned k place (bit_and set 1024) (let most = and_le_r set 1024 in omega (arith, most)) same marked one.1)))
     | inr apart ↦ earlier.unsigned k (omega (arith, within, apart)) marked
   ];
   inner = λ k within marked blank. elim (cases_eq (k + 1) place) [
@@ -151,7 +152,7 @@ plain-more columns card place joined before rows crowding lacks lacked next so_f
     of_amounts = bit_and (slice_index columns.amounts place) crowding
 
     of_unsigned : ℕ
-    of_unsigned = bit_and (slice_index columns.unsigned place) (bit_and rows 2048)
+    of_unsigned = bit_and (slice_index columns.unsigned place) (bit_and set 1024)
 
     of_inner : ℕ
     of_inner = bit_and (slice_index columns.inner place) lacks
@@ -174,7 +175,7 @@ plain-more columns card place joined before rows crowding lacks lacked next so_f
     earlier : ArePlain columns place card
     earlier = so_far all.0
 
-    behind : (k : ℕ) → k + 1 ≡ place → before ≡ slice_index card k
+    behind : (k : ℕ) → k + 1 ≡ place → column_of_set before ≡ slice_index card k
     behind k same =
         let index : place - 1 ≡ k = omega (arith, same) in
         there (omega (arith, same)) ∙ ap (slice_index card) index

@@ -2,6 +2,7 @@
 
 ghost use Rattle.std.specs.Prelude.{◌≡◌, ℕ, ◌+◌, ◌<◌, ◌≤◌, ◌==◌, IsTrue, false, length, slice_index};
 ghost use Rattle.card_code.specs.CardCode.{has_row};
+ghost use Rattle.card_code.specs.Columns.{column_of};
 ghost use Rattle.charts.specs.Field.{columns_of, decimals_of};
 ghost use Rattle.chart_rules.specs.HelperOnCard.{IsOnCard};
 ghost use Rattle.chart_rules.specs.ValidCard.{digit_count, is_sign};
@@ -85,12 +86,12 @@ impl AmountColumns {
         let mut faults = 0;
         let mut before = 0;
         for place in 0..self.end {
-            let rows = columns[place].rows();
-            faults |= self.amounts[place] & crowding_rows(rows)
-                | self.unsigned[place] & (rows & 0x800)
-                | self.inner[place] & digit_lacks(before, rows)
-                | self.needed[place] & digit_lacks(rows, before);
-            before = rows;
+            let set = columns[place].set();
+            faults |= self.amounts[place] & crowding_rows(set)
+                | self.unsigned[place] & (set & 0x400)
+                | self.inner[place] & digit_lacks(before, set)
+                | self.needed[place] & digit_lacks(set, before);
+            before = set;
         }
         faults == 0
     }
@@ -122,18 +123,21 @@ fn is_sign(sign: Option<u16>, column: u16) -> bool
     sign == Some(column)
 }
 
-// Rows that show why a set of rows is no blank and no single digit, or has row 12; where there is none, it is so.
-fn crowding_rows(rows: u16) -> u16
-    ensures digits { result ≡ 0 → digit_count rows ≤ 1 }
-    ensures zone { result ≡ 0 → has_row rows 12 ≡ false }
+// Places of rows that show why a set has several digits, or row 12; where there is none, it has not.
+fn crowding_rows(set: u16) -> u16
+    requires { set < 4096 }
+    ensures digits { result ≡ 0 → digit_count (column_of set) ≤ 1 }
+    ensures zone { result ≡ 0 → has_row (column_of set) 12 ≡ false }
 {
-    let digits = rows & 0x3ff;
-    digits & digits.wrapping_sub(1) | rows & 0x1000
+    let digits = set & 0x3ff;
+    digits & digits.wrapping_sub(1) | set & 0x800
 }
 
-// 1 where a column has a digit and another has none, and else 0.
+// 1 where a set has a digit and another has none, and else 0.
 fn digit_lacks(one: u16, other: u16) -> u16
-    ensures { result ≡ 0 → digit_count other ≡ 0 → digit_count one ≡ 0 }
+    requires one { one < 4096 }
+    requires other { other < 4096 }
+    ensures { result ≡ 0 → digit_count (column_of other) ≡ 0 → digit_count (column_of one) ≡ 0 }
 {
     if one & 0x3ff == 0 {
         return 0;

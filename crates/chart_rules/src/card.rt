@@ -152,10 +152,10 @@ fn digit_count(column: Column) -> usize
     ensures { result ≡ valid.digit_count column }
 {
     // Nearly all columns have no digit or a single one, and then no row is left without the lowest.
-    let digits = column.rows() & 0x3ff;
+    let digits = column.set() & 0x3ff;
     if digits == 0 {
         0
-    } else if digits & (digits - 1) == 0 {
+    } else if digits & digits.wrapping_sub(1) == 0 {
         1
     } else {
         punched_among(&DIGIT_ROWS, column)

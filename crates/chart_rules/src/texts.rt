@@ -2,7 +2,7 @@
 
 ghost use Rattle.std.specs.Prelude.{◌≡◌, ℕ, ◌+◌, ◌<◌, ◌≤◌, IsTrue, true, length, slice_index};
 ghost use Rattle.card_code.specs.CardCode.{deck_character};
-ghost use Rattle.card_code.specs.Rows.{is_row_set};
+ghost use Rattle.card_code.specs.Columns.{column_of};
 ghost use Rattle.chart_rules.specs.ValidCard.{is_printed};
 
 use card_code::{CARD_COLUMNS, Card};
@@ -52,7 +52,7 @@ impl TextColumns {
         let columns = card.columns();
         let mut unprinted = 0;
         for place in 0..self.end {
-            unprinted |= self.masks[place] & unprinted_rows(columns[place].rows());
+            unprinted |= self.masks[place] & unprinted_rows(columns[place].set());
         }
         unprinted == 0
     }
@@ -71,16 +71,17 @@ pub(crate) fn mark(masks: &mut [u16; CARD_COLUMNS], first: u16, last: u16)
     }
 }
 
-// Rows that show why a set of rows is no print character's and not blank; where there is none, it is one's, or blank.
+// Places of rows that show why a set is no print character's and not blank; where there is none, it is one's, or blank.
 //
 // A print character has at most one of the rows 12, 11 and 0, and at most one of the rows 1 to 9, but for the row 8, which may stand with
 // row 3, or with row 4 where row 12 is not there.
-fn unprinted_rows(rows: u16) -> u16
-    requires { is_row_set rows ≡ true }
-    ensures { result ≡ 0 → is_printed (deck_character rows) ≡ true }
+fn unprinted_rows(set: u16) -> u16
+    requires { set < 4096 }
+    ensures { result ≡ 0 → is_printed (deck_character (column_of set)) ≡ true }
 {
-    let lawful_eights = (rows << 5 | rows << 4 & !(rows >> 4)) & 0x100;
-    let digits = rows & 0x3fe & !lawful_eights;
-    let zones = rows & 0x1801;
+    // The rows 8, 4, 3 and 12 are at the places 1, 5, 6 and 11.
+    let lawful_eights = (set >> 5 | set >> 4 & !(set >> 10)) & 0x2;
+    let digits = set & 0x1ff & !lawful_eights;
+    let zones = set & 0xe00;
     digits & digits.wrapping_sub(1) | zones & zones.wrapping_sub(1)
 }

@@ -1,7 +1,6 @@
 //! The forms of a chart: what the tokens of a line say.
 
-ghost use Rattle.std.specs.Prelude.{◌≡◌, ℕ, length, IfOk, IfSome, Some, None, map, option_map, ◌++◌};
-ghost use Rattle.std.specs.Str.{bytes_eq};
+ghost use Rattle.std.specs.Prelude.{◌≡◌, length, IfOk, IfSome, option_map, ◌++◌};
 ghost use Rattle.tokens.specs.NumberReading.{numbers_of};
 ghost use Rattle.tokens.specs.Texts.{texts};
 ghost use Rattle.chart_text.specs.HelperForms.{sign_of, total_mark_of, option_of, kind_of, stops_of, field_kind_of, field_of, control_of, print_of, head_of, detail_literal_of, detail_field_of, detail_of, total_literal_of, total_amount_of, total_field_of, total_statement, coupled_of, said_coupled, said_of, spacing_of, space_of, follower_of, after_of, form_of, tape_of, said_after, statement_of};

@@ -1,6 +1,6 @@
 //! Reading a chart.
 
-ghost use Rattle.std.specs.Prelude.{◌≡◌, ◌≢◌, ◌+◌, ◌<◌, ◌≤◌, ℕ, length, IfOk, IfErr, IfSome, OnOk, None, unwrap_or, ◌⊎◌, ◌++◌, [], ◌∷◌};
+ghost use Rattle.std.specs.Prelude.{◌≡◌, ◌≢◌, ◌+◌, ◌<◌, ◌≤◌, length, IfOk, IfErr, IfSome, OnOk, None, unwrap_or, ◌⊎◌, ◌++◌, [], ◌∷◌};
 ghost use Rattle.card_code.specs.Lines.{lines_of};
 ghost use Rattle.tokens.specs.HelperLines.{tokens_content};
 ghost use Rattle.tokens.specs.Texts.{texts};
@@ -8,7 +8,7 @@ ghost use Rattle.chart_text.specs.HelperForms.{said_of};
 ghost use Rattle.charts.specs.Chart.{Chart, NumbersRise};
 ghost use Rattle.chart_text.specs.ChartText.{Reads, line_of, number_if_coupled};
 ghost use Rattle.chart_text.specs.TextFaults.{HasTextFault};
-ghost use Rattle.chart_text.specs.HelperText.{content_of, version_of, chart_from, chart_of, chart_of_lines, Answers, TakesLine, RefusesLine};
+ghost use Rattle.chart_text.specs.HelperText.{content_of, version_of, chart_from, chart_of, Answers, TakesLine, RefusesLine};
 
 use crate::fault::TextFault;
 use crate::forms::{Said, read_said};

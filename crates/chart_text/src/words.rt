@@ -1,10 +1,9 @@
 //! What single tokens are: names, the characters of literals, marks, words.
 
-ghost use Rattle.std.specs.Prelude.{◌≡◌, ◌+◌, ◌-◌, ◌*◌, ◌<◌, ◌≤◌, ℕ, length, IfSome, IfNone, IfOk, IsTrue, map, option_map, fold, ◌++◌, replicate};
+ghost use Rattle.std.specs.Prelude.{◌≡◌, ◌+◌, ◌-◌, ◌*◌, ◌<◌, ◌≤◌, length, IfSome, IfOk, IsTrue, option_map, ◌++◌, replicate};
 ghost use Rattle.std.specs.List.{list_all};
-ghost use Rattle.std.specs.Str.{bytes_eq};
 ghost use Rattle.chart_text.specs.HelperWords.{name_of, literal_of, is_literal_text, mark_of, keyword_of, level_of, control_level_of, heading_line_of, spacing_lines_of};
-ghost use Rattle.charts.specs.Name.{begins_with_letter, is_letter, is_letter_or_digit};
+ghost use Rattle.charts.specs.Name.{begins_with_letter, is_letter_or_digit};
 ghost use Rattle.charts.specs.Literal.{is_printable};
 
 use card_code::Column;

@@ -1,5 +1,5 @@
 -- What was shown, by the text of the chart.
-use Rattle.std.proofs.Common.{◌≡◌, ◌≢◌, ◌∙◌, ◌⊎◌, inl, inr, subst, ℕ, List, Option, IfSome, ◌≤◌, arith}
+use Rattle.std.proofs.Common.{◌≡◌, ◌≢◌, ◌∙◌, ◌⊎◌, inl, inr, subst, ℕ, List, Option, IfSome}
 use Rattle.std.proofs.KnownBytes.{Appends-trans}
 use Rattle.std.specs.Io.KnownBytes.{Appends}
 use Rattle.check_calls.specs.DeckChecks.Shown.{IsTooLong, ShowsFaults, ShowsNone}
@@ -11,7 +11,6 @@ use Rattle.compile407.specs.Below.charts.Chart.{Chart}
 use Rattle.compile407.specs.ChartFaults.{HasChartFault}
 use Rattle.compile407.specs.Compilation.{Compilation}
 use Rattle.faults.proofs.Statuses.{memory_or_not}
-use Rattle.faults.specs.Status.{status_of}
 use Rattle.faults.specs.ToldFaults.{chart_told}
 use Rattle.faults.specs.declared.chart.ChartFault.{ChartFault}
 use Rattle.faults.specs.declared.chart.ChartFault.TheVariants as chart
@@ -78,20 +77,3 @@ shown_ok text deck old new compiled chart read answer compiles same is_deck show
   shows = subst (λ (c : Chart). ShowsNone c read answer) same shows;
   written = written;
 }
-
--- the status of a fault
-pub some_status : (told : Fault) → (status_of told ≢ 0) × (status_of told ≢ 1) × (status_of told ≤ 5)
-some_status (fault.Whole number) = (λ is. omega (arith, is), λ is. omega (arith, is), omega arith)
-some_status (fault.Line number line) = (λ is. omega (arith, is), λ is. omega (arith, is), omega arith)
-some_status (fault.Cause number line cause) = (λ is. omega (arith, is), λ is. omega (arith, is), omega arith)
-some_status (fault.Card number card) = (λ is. omega (arith, is), λ is. omega (arith, is), omega arith)
-some_status (fault.Column number card column) = (λ is. omega (arith, is), λ is. omega (arith, is), omega arith)
-some_status (fault.Counters number width wanted there) = (λ is. omega (arith, is), λ is. omega (arith, is), omega arith)
-some_status (fault.Capacity number wanted there) = (λ is. omega (arith, is), λ is. omega (arith, is), omega arith)
-some_status (fault.Indicate number level wanted there) = (λ is. omega (arith, is), λ is. omega (arith, is), omega arith)
-some_status (fault.Total number level name card) = (λ is. omega (arith, is), λ is. omega (arith, is), omega arith)
-some_status (fault.Unknown word) = (λ is. omega (arith, is), λ is. omega (arith, is), omega arith)
-some_status (fault.File path) = (λ is. omega (arith, is), λ is. omega (arith, is), omega arith)
-some_status (fault.Unread card) = (λ is. omega (arith, is), λ is. omega (arith, is), omega arith)
-some_status fault.Write = (λ is. omega (arith, is), λ is. omega (arith, is), omega arith)
-some_status fault.Memory = (λ is. omega (arith, is), λ is. omega (arith, is), omega arith)

@@ -1,10 +1,8 @@
-//! The command that checks a deck and tells the control keys that come back in it, over any reader and writers.
+//! The command that checks a deck and tells the control keys that come back in it, over any reader and writer.
 
-ghost use Rattle.std.specs.Prelude.{◌≡◌, ◌≢◌, ◌≤◌, ◌⊎◌, List, ℕ, IfErr, IfOk, OnOk};
+ghost use Rattle.std.specs.Prelude.{◌≡◌, ◌⊎◌, List, ℕ, IfErr, IfOk, OnOk};
 ghost use Rattle.card_code.specs.Deck.{Deck, IsDeckText};
 ghost use Rattle.check_calls.specs.Grouped.{EndsGrouped, PrintsGrouped, StopsGrouped, WritesGrouped};
-ghost use Rattle.faults.specs.Lines.{IsTold};
-ghost use Rattle.faults.specs.Status.{status_of};
 ghost use Rattle.deck_notes.specs.KeyReturns.Words.{returns_told};
 
 use crate::deck_checks::{check_cards, put};
@@ -12,7 +10,7 @@ use card_code::read_deck;
 use chart_rules::Chart;
 use compile407::compile;
 use deck_notes::key_returns::{key_returns, write_returns};
-use faults::{Ending, Fault, tell, unprinted};
+use faults::{Fault, unprinted};
 use program_io::read_whole;
 use std::alloc::Global;
 use std::io::{Read, Write};
@@ -69,32 +67,4 @@ pub fn print_grouped<'a, R: Read + Drop, W: Write>(
     let compiled = compile(alloc, chart)?;
     let bytes = read_whole(alloc, deck, path)?;
     list_grouped(alloc, compiled.chart(), bytes.as_slice(), out)
-}
-
-/// Checks a deck and tells the control keys that come back, as [`print_grouped`] does, and tells on one line of `faults` why the deck is refused.
-///
-/// The statuses are 0 where it isn't, and then nothing is told, 3 where the chart or the deck is refused, 4 where the deck can't be read or the
-/// output can't be written, 5 for memory.
-pub fn check_groups_to_end<R: Read + Drop, W: Write, V: Write>(
-    alloc: Global,
-    chart: &[u8],
-    path: &str,
-    deck: R,
-    out: &mut W,
-    faults: &mut V,
-) -> Ending
-    ensures fine { result.status ≡ 0
-        → PrintsGrouped chart.now (R.remaining deck) (W.contents out.old) (W.contents out.new) × (faults.new ≡ faults.old) }
-    ensures stops { (result.status ≡ 0) ⊎ ((told : Fault) × (result.status ≡ status_of told)
-        × StopsGrouped chart.now (R.remaining deck) (W.contents out.old) (W.contents out.new) told (Fault.File path.entry) (out.new ≡ out.old)
-        × IsTold told result.is_told (V.contents faults.old) (V.contents faults.new)) }
-    ensures statuses { (result.status ≢ 1) × (result.status ≤ 5) }
-{
-    match print_grouped(alloc, chart, path, deck, out) {
-        Ok(()) => Ending {
-            status: 0,
-            is_told: true,
-        },
-        Err(fault) => tell(&fault, faults),
-    }
 }

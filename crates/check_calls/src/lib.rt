@@ -8,7 +8,7 @@ mod laws;
 mod serving;
 mod showing;
 
-pub use grouping::{check_groups_to_end, print_grouped};
+pub use grouping::print_grouped;
 pub use laws::checks_tell_first_what_stops_runs;
-pub use serving::{check_deck_to_end, print_check};
-pub use showing::{print_shown, show_deck_to_end};
+pub use serving::print_check;
+pub use showing::print_shown;

@@ -1,14 +1,12 @@
-//! The command that shows all cards of a deck that a chart can't be run with, over any reader and writers.
+//! The command that shows all cards of a deck that a chart can't be run with, over any reader and writer.
 
-ghost use Rattle.std.specs.Prelude.{◌≡◌, ◌≢◌, ◌≤◌, ◌⊎◌, IfErr, OnOk};
+ghost use Rattle.std.specs.Prelude.{◌≡◌, IfErr, OnOk};
 ghost use Rattle.check_calls.specs.Showing.{ShowsOk, StopsShowing};
-ghost use Rattle.faults.specs.Lines.{IsTold};
-ghost use Rattle.faults.specs.Status.{status_of};
 
 use crate::deck_checks::show_cards;
 use crate::large::put_large;
 use compile407::compile;
-use faults::{Ending, Fault, tell};
+use faults::Fault;
 use program_io::{put, read_whole};
 use std::alloc::Global;
 use std::io::{Read, Write};
@@ -45,34 +43,5 @@ pub fn print_shown<'a, R: Read + Drop, W: Write>(
             put_large(alloc, chart, cards, out)?;
             Err(fault)
         }
-    }
-}
-
-/// Shows all cards of a deck that a chart can't be run with, as [`print_shown`] does, and tells on one line of `faults` why the answer is not
-/// `ok`.
-///
-/// The statuses are 0 where it is, and then nothing is told, 3 where the chart or the deck is refused, 4 where the deck can't be read or the
-/// output can't be written, 5 for memory. The line on `faults` is that of the first card that is shown.
-pub fn show_deck_to_end<R: Read + Drop, W: Write, V: Write>(
-    alloc: Global,
-    chart: &[u8],
-    path: &str,
-    deck: R,
-    out: &mut W,
-    faults: &mut V,
-) -> Ending
-    ensures fine { result.status ≡ 0
-        → ShowsOk chart.now (R.remaining deck) (W.contents out.old) (W.contents out.new) × (faults.new ≡ faults.old) }
-    ensures stops { (result.status ≡ 0) ⊎ ((told : Fault) × (result.status ≡ status_of told)
-        × StopsShowing chart.now (R.remaining deck) (W.contents out.old) (W.contents out.new) told (Fault.File path.entry) (out.new ≡ out.old)
-        × IsTold told result.is_told (V.contents faults.old) (V.contents faults.new)) }
-    ensures statuses { (result.status ≢ 1) × (result.status ≤ 5) }
-{
-    match print_shown(alloc, chart, path, deck, out) {
-        Ok(()) => Ending {
-            status: 0,
-            is_told: true,
-        },
-        Err(fault) => tell(&fault, faults),
     }
 }

@@ -3,7 +3,6 @@ use Rattle.std.proofs.Common.{◌≡◌, ◌≢◌, ◌∙◌, ◌⊎◌, ◌≤
 use Rattle.std.proofs.KnownBytes.{Appends-kept}
 use Rattle.std.specs.Prelude.{IfErr, MatchResult, OnOk, ⊤}
 use Rattle.std.specs.Io.KnownBytes.{Appends, Keeps}
-use Rattle.card_lines.specs.declared.fault.ReadFault.{ReadFault}
 use Rattle.card_lines.specs.declared.fault.ReadFault.TheVariants as read
 use Rattle.commands.proofs.RunEnds.{line_of, run_device, run_ends_status, run_memory}
 use Rattle.program_io.proofs.Stopping.{stopped_status, told_of_device, told_of_memory}
@@ -11,20 +10,17 @@ use Rattle.commands.specs.Answers.{CompilesAs, HasWiring}
 use Rattle.program_io.specs.Commands.{word_of}
 use Rattle.program_io.specs.Stops.{Stops, deck_unread, memory_wanting, output_unwritten, texts_refused}
 use Rattle.commands.specs.Refusals.{RefusesChart}
-use Rattle.commands.specs.Streamed.{EndsRun, HasFailed, HasRefused, HasRunWhole, HasServed, IsToldOf, StopsInRun, chart_refused, chart_unread, read_told, run_stopped}
+use Rattle.commands.specs.Streamed.{EndsRun, HasFailed, HasRefused, HasRunWhole, HasServed, IsToldOf, StopsInRun, chart_refused, chart_unread, run_stopped}
 use Rattle.program_io.specs.declared.command.Command.{Command}
 use Rattle.program_io.specs.declared.command.Command.TheVariants as command
 use Rattle.compile407.specs.Compilation.{Compilation}
 use Rattle.faults.proofs.Statuses.{memory_or_not}
 use Rattle.faults.specs.Lines.{IsTold}
 use Rattle.faults.specs.Status.{status_of}
-use Rattle.faults.specs.ToldFaults.{deck_told, of_card, run_told}
-use Rattle.faults.specs.declared.deck.RunFault.{RunFault}
 use Rattle.faults.specs.declared.deck.RunFault.TheVariants as deck
 use Rattle.faults.specs.declared.fault.Fault.{Fault}
 use Rattle.faults.specs.declared.fault.Fault.TheVariants as fault
 use Rattle.compile407.specs.Below.streamed_runs.Runs.{HasRun, RunsToEnd, StopsShort}
-use Rattle.compile407.specs.Below.streamed_runs.declared.fault.StreamCause.{StreamCause}
 use Rattle.compile407.specs.Below.streamed_runs.declared.fault.StreamCause.TheVariants as cause
 use Rattle.compile407.specs.Below.streamed_runs.declared.fault.StreamFault.{StreamFault}
 

@@ -7,7 +7,6 @@ ghost use Rattle.misfits.specs.Below.report.Misfits.{first_of, misfits};
 ghost use Rattle.misfits.specs.Below.report.Totals.{Fits};
 ghost use Rattle.compile407.specs.RunFaults.{HasRunFault, IsInvalidDeck, IsMisfit};
 ghost use Rattle.faults.specs.declared.deck.RunFault.TheVariants as deck;
-ghost use Rattle.streamed_runs.specs.PrintPromises.Promises.{IsDeck};
 ghost use Rattle.misfits.specs.Below.report.Report.{Report};
 ghost use Rattle.compile407.specs.Runnable.{IsRunnable};
 ghost use Rattle.chart_rules.specs.ValidCard.{IsValidCard};

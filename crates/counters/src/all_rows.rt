@@ -1,7 +1,7 @@
 //! What a counter group emits and senses at the points of all rows at once. Sets of rows are numbers: the bit of a row is its place among
 //! the points, from row 9 at bit 0 to row 0 at bit 9.
 
-ghost use Rattle.std.specs.Prelude.{◌≡◌, ℕ, ◌<◌, ◌≤◌, ◌==◌, All, length, map, slice_index, slice_index_or, take};
+ghost use Rattle.std.specs.Prelude.{◌≡◌, ℕ, ◌<◌, ◌≤◌, ◌==◌, All, length, map, slice_index_or, take};
 ghost use Rattle.card_code.specs.Rows.{passing_place, row_number};
 ghost use Rattle.card_code.specs.declared.row.Row.{Row as CardRow};
 ghost use Rattle.net.specs.HubSets.{is_bit};

@@ -7,7 +7,6 @@ use Rattle.machine.specs.Kept.{kept_at}
 use Rattle.machine.specs.declared.kept.KeptPoint.{KeptPoint}
 use Rattle.markup.specs.Pieces.{EachText}
 use Rattle.page_sections.specs.ReportSheets.Sheets.{row_name}
-use Rattle.page_sections.specs.WheelSections.Sections.{section_close}
 use Rattle.drawings.specs.PanelDrawing.Drawing.{picture_open, way_curve}
 use Rattle.drawings.specs.declared.panel_drawing.drawing.PanelWire.{PanelWire}
 use Rattle.setups.specs.Wiring.{Wiring}

@@ -1,9 +1,8 @@
 //! Steps.
 
-ghost use Rattle.std.specs.Prelude.{◌≡◌, ◌≤◌, ◌++◌, ◌-◌, codes, OnOk};
+ghost use Rattle.std.specs.Prelude.{◌≡◌, ◌≤◌, ◌++◌, ◌-◌, OnOk};
 ghost use Rattle.std.specs.List.{flat_map, range_with_len};
 ghost use Rattle.std.specs.String.{string_bytes};
-ghost use Rattle.machine.specs.Kept.{kept_at};
 ghost use Rattle.markup.specs.Pieces.{GainsEach, GainsOne};
 ghost use Rattle.net.specs.Nets.{IsNetOf};
 ghost use Rattle.setups.specs.Wiring.{Wiring};

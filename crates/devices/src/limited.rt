@@ -1,6 +1,6 @@
 //! Readers and writers of std over memory, for tests: they give or take a few bytes a call, and fail at a call of their number.
 
-ghost use Rattle.std.specs.Prelude.{◌≡◌, ◌<◌, ℕ, List, Option, Some, [], length, false, true};
+ghost use Rattle.std.specs.Prelude.{◌≡◌, ◌<◌, Some, [], true};
 ghost use Rattle.devices.specs.Devices.{is_next};
 ghost use Rattle.devices.specs.Limited.{fails_to_flush};
 

@@ -1,7 +1,7 @@
 //! Whether two setups are the same.
 
 ghost use Rattle.std.specs.Prelude.{◌≡◌, ◌↔◌, ◌&&◌, IsTrue, nat_eq};
-ghost use Rattle.differences.specs.Differences.{HasSize, IsDifference};
+ghost use Rattle.differences.specs.Differences.{IsDifference};
 ghost use Rattle.setups.specs.Wiring.{IsSameSetup};
 
 use crate::panel_progress::is_same_form;

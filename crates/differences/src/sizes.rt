@@ -1,6 +1,6 @@
 //! How much a setup has.
 
-ghost use Rattle.std.specs.Prelude.{◌≡◌, ◌≤◌, ◌*◌, true};
+ghost use Rattle.std.specs.Prelude.{◌≡◌, ◌≤◌, ◌*◌};
 ghost use Rattle.differences.specs.Differences.{AreMany, HasSize};
 ghost use Rattle.differences.specs.HelperSizes.{JackAt, StopAt, StopIn, WireFrom, WireTo};
 ghost use Rattle.setups.specs.Tapes.{IsCarriageTape, IsStopOf};

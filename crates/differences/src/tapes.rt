@@ -1,6 +1,6 @@
 //! What one tape has and another has not.
 
-ghost use Rattle.std.specs.Prelude.{◌≡◌, ◌≤◌, true};
+ghost use Rattle.std.specs.Prelude.{◌≡◌, ◌≤◌};
 ghost use Rattle.differences.specs.Helper.{IsTapeDifference, LacksIn, LacksStopAt};
 ghost use Rattle.jacks_and_tape.specs.HelperJacks.{Punches};
 ghost use Rattle.setups.specs.Tapes.{HasStops, IsCarriageTape};

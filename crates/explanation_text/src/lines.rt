@@ -1,6 +1,6 @@
 //! The lines that tell the place, the cycle and the ways.
 
-ghost use Rattle.std.specs.Prelude.{◌≡◌, ◌<◌, ◌++◌, codes, decimal, OnOk};
+ghost use Rattle.std.specs.Prelude.{◌≡◌, ◌<◌, ◌++◌, codes, OnOk};
 ghost use Rattle.std.specs.String.{string_bytes};
 ghost use Rattle.explanation_text.specs.Text.{character_text, cycle_line, headed_text, heading_line, level_text, page_line, program_line, row_line, spaced_text};
 

@@ -4,8 +4,7 @@ ghost use Rattle.std.specs.Prelude.{◌≡◌, ◌<◌, ◌+◌, ◌++◌, OnOk}
 ghost use Rattle.std.specs.String.{string_bytes};
 ghost use Rattle.net.specs.HubSets.{has_hub};
 ghost use Rattle.machine.specs.Kept.{kept_at};
-ghost use Rattle.explanation_text.specs.Notes.{article, contact_note, counted, cycle_words, digit_down, digit_text, emitter_words, exit_note, exit_words, group_name, held_text, notes, note_line, ordinal_word, punch_words, read_out_words, reason_words, step_note, step_notes, stored_words, way_lines};
-ghost use Rattle.explanation_text.specs.Text.{row_at};
+ghost use Rattle.explanation_text.specs.Notes.{article, contact_note, counted, cycle_words, digit_text, emitter_words, exit_note, exit_words, group_name, held_text, notes, ordinal_word, punch_words, read_out_words, reason_words, step_note, step_notes, stored_words, way_lines};
 
 use crate::lines::write_row_line;
 use crate::names::{is_contact_exit, row_at};

@@ -1,14 +1,14 @@
 -- The cards of a deck, fed one after another, and the lines that they place on a page.
-use Rattle.std.proofs.Common.{◌≡◌, ◌∙◌, sym, ap, subst, refl, ℕ, ◌+◌, ◌≤◌, Bool, true, false, List, [], ◌∷◌, ◌++◌, Option, Some, None, length, take, map}
+use Rattle.std.proofs.Common.{◌≡◌, ◌∙◌, sym, ap, subst, refl, ℕ, ◌+◌, ◌≤◌, false, List, [], ◌∷◌, ◌++◌, Option, Some, None, length, take, map}
 use Rattle.std.specs.Prelude.{All, slice_get}
 use Rattle.std.specs.List.{filter}
 use Rattle.std.proofs.lemmas.List.{map-append, take_all}
-use Rattle.std.proofs.lemmas.List.Elements.{All-append, All-filter, All-map, All-nil, All-weaker, filter-append}
+use Rattle.std.proofs.lemmas.List.Elements.{All-append, All-map, All-nil, All-weaker, filter-append}
 use Rattle.page_text.specs.declared.placed_lines.placed_line.PlacedLine.{PlacedLine}
 use Rattle.setups.specs.Wiring.{Wiring}
-use Rattle.net.specs.Nets.{NetRows, IsNetOf}
+use Rattle.net.specs.Nets.{IsNetOf}
 use Rattle.machine.specs.Feeds.{FedLines}
-use Rattle.machine.specs.Kept.{FeedsKeeping, PlacedInFeed, is_on, line_kept}
+use Rattle.machine.specs.Kept.{PlacedInFeed, is_on, line_kept}
 use Rattle.machine.specs.Machine.{MachineState, machine_at_start}
 use Rattle.machine.specs.Running.{Running, IsStarted, fed}
 use Rattle.machine.proofs.FeedsInRuns.{feeds-in-run}

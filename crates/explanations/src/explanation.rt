@@ -1,6 +1,6 @@
 //! Why a wheel of a printed line printed its character.
 
-ghost use Rattle.std.specs.Prelude.{◌≡◌, ◌≤◌, ◌<◌, ◌⊎◌, ℕ, List, Err, IfOk, IfErr, length};
+ghost use Rattle.std.specs.Prelude.{◌≡◌, ◌≤◌, ◌<◌, ◌⊎◌, ℕ, List, Err, IfOk, length};
 ghost use Rattle.card_code.specs.MostCards.{most_cards};
 ghost use Rattle.explanations.specs.Explanations.{IsExplanation};
 ghost use Rattle.explanations.specs.PlacedInRun.{IsFound, PrintsNoneAt};

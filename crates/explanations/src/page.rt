@@ -80,7 +80,7 @@ pub struct PageWays {
 }
 
 impl PageWays {
-    ghost use Rattle.std.specs.Prelude.{◌≡◌, ◌≤◌, ◌<◌, ◌⊎◌, ℕ, List, All, Contains, None, Err, IfOk, IfSome, length, option_copied};
+    ghost use Rattle.std.specs.Prelude.{◌≡◌, ◌≤◌, ◌<◌, ◌⊎◌, ℕ, List, All, Contains, None, Err, IfOk, IfSome, length};
     ghost use Rattle.card_code.specs.MostCards.{most_cards};
     ghost use Rattle.explanations.specs.Explanations.{IsExplanation};
     ghost use Rattle.explanations.specs.PlacedInRun.{PrintsNoneAt};

@@ -1,6 +1,6 @@
 //! The rows of a cycle, and the ways to a wheel at each.
 
-ghost use Rattle.std.specs.Prelude.{IfOk, length};
+ghost use Rattle.std.specs.Prelude.{IfOk};
 ghost use Rattle.hubs.specs.declared.hub.Hub.TheVariants.{W};
 ghost use Rattle.explanations.specs.Explanations.{TellsRows};
 ghost use Rattle.explanations.specs.Rows.{AreRowWays};

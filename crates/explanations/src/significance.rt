@@ -1,6 +1,6 @@
 //! Which wheel to the left gives a wheel its significance.
 
-ghost use Rattle.std.specs.Prelude.{◌≡◌, ◌≤◌, ℕ, Bool, true, List, length};
+ghost use Rattle.std.specs.Prelude.{◌≡◌, ◌≤◌, Bool, true, List, length};
 ghost use Rattle.hubs.specs.declared.hub.Hub.{Hub};
 ghost use Rattle.setups.specs.Wiring.{Wiring};
 ghost use Rattle.net.specs.declared.cycle.Point.{Point};

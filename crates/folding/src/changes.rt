@@ -1,6 +1,6 @@
 //! What is changed in a byte of a text, how often, and where first.
 
-ghost use Rattle.std.specs.Prelude.{◌≡◌, ◌≤◌, ◌+◌, length, slice_index, option_map, IsTrue, ◌↔◌};
+ghost use Rattle.std.specs.Prelude.{◌≡◌, ◌≤◌, ◌+◌, length, ◌↔◌};
 ghost use Rattle.card_code.specs.Lines.{lines_of};
 ghost use Rattle.folding.specs.Changes.{IsTally, change_of, count_in, first_in, is_changed, place_in};
 

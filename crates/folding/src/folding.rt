@@ -1,6 +1,6 @@
 //! A text, folded.
 
-ghost use Rattle.std.specs.Prelude.{◌≡◌, ◌++◌, ℕ, IsSome, IfOk, OnOk, length};
+ghost use Rattle.std.specs.Prelude.{◌≡◌, ◌++◌, IsSome, IfOk, OnOk};
 ghost use Rattle.card_code.specs.CardCode.{rows_of};
 ghost use Rattle.card_code.specs.Lines.{lines_of};
 ghost use Rattle.folding.specs.Changes.{IsTally, change_of};

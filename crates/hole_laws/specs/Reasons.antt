@@ -78,13 +78,13 @@ OthersCallNoLevel =
     → LeadsToEntries wiring → IsReading wiring deck card 13 now → IsOfBrushes wiring position
     → has_lines wiring deck card position ≡ false → CallsLevel wiring position called now behind → ⊥
 
--- no position below this one that is wired from brushes alone calls this level or a higher one
+-- no lower position that is wired from brushes alone calls this level or a higher one
 abbrev pub NoneBelowCalls : Wiring → (position level : ℕ) → (now behind : MachineState) → Type 0
 NoneBelowCalls wiring position level now behind =
     (lower called : ℕ) → lower < position → level ≤ called → IsOfBrushes wiring lower → CallsLevel wiring lower called now behind → ⊥
 
--- A text tells why a level runs: that no card stands behind this one, or that a comparing position calls a level that isn't lower, and all of
--- its lines. It is the lowest of the positions wired from brushes alone that do.
+-- A text tells why a level runs: either that no card stands behind this one, or that a comparing position calls this level or a higher one, with
+-- all lines of that position. No lower position that is wired from brushes alone calls such a level.
 pub data IsReason (wiring : Wiring) (deck : List (List ℕ)) (card level : ℕ) (now behind : MachineState) : List ℕ → Type 0 where
   last : has_more behind ≡ false → IsReason wiring deck card level now behind (last_text level card)
   called_from :
@@ -93,7 +93,7 @@ pub data IsReason (wiring : Wiring) (deck : List (List ℕ)) (card level : ℕ) 
       → NoneBelowCalls wiring position level now behind
       → IsReason wiring deck card level now behind (called_text level card position called (unlike_lines wiring deck card position rows))
 
--- It does so in the cycle of a run that read the card, and the level is one of those that run with the card.
+-- A text tells why a level runs, in the cycle of a run that read the card; and the level is one of those that run with the card.
 pub record IsWhy (wiring : Wiring) (deck : List (List ℕ)) (card : ℕ) (level : ProgramLevel) (text : List ℕ) : Type 0 where
   pub now : MachineState
   pub reading : IsReading wiring deck card 13 now

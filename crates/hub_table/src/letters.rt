@@ -1,6 +1,6 @@
 //! The letters of hubs, and the hub table: a row for each kind of hub.
 
-ghost use Rattle.std.specs.Prelude.{◌≡◌, ◌≢◌, ◌+◌, ◌<◌, ◌≤◌, true, false, IfSome, IfNone, All};
+ghost use Rattle.std.specs.Prelude.{◌≡◌, ◌≢◌, ◌+◌, ◌<◌, ◌≤◌, IfSome, IfNone, All};
 ghost use Rattle.hub_table.specs.HelperRows.{row_as};
 ghost use Rattle.hub_table.specs.HubTable.{row_of, HasNumber};
 ghost use Rattle.hub_table.specs.HubTable as table;

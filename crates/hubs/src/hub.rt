@@ -106,7 +106,7 @@ pub enum Hub {
 }
 
 impl Hub {
-    ghost use Rattle.std.specs.Prelude.{◌≡◌, ◌≤◌, ℕ, Some, IfSome};
+    ghost use Rattle.std.specs.Prelude.{◌≡◌, ◌≤◌, Some, IfSome};
     ghost use Rattle.hubs.specs.Hubs.{number_of, is_exit_hub, is_entry_hub, letters_of, numbers_of, hub_named, is_hub_in_range};
     ghost use Rattle.std.specs.Prelude.{true};
 

@@ -1,10 +1,8 @@
 //! The jacks of a chart: which cycles print, and zero control on the wheels of amounts.
 
 ghost use Rattle.std.specs.Prelude.{◌≡◌, ◌+◌, ◌≤◌, ℕ, Some, slice_get, length, true};
-ghost use Rattle.line_rules.specs.PrintRules.Items.{figure_width};
 ghost use Rattle.hubs.specs.declared.jack.Jack.TheVariants as jack;
 ghost use Rattle.wiring_table.specs.Below.report.ChartForm as form;
-ghost use Rattle.wiring_table.specs.Figures.{mark_wheel, free_digits};
 ghost use Rattle.jacks_and_tape.specs.HelperJacks.{FigureJacks, FiguresAre, IsGoodFigure, JacksBefore, LineJacks, Plugs, Ranged, TotalsBelow, jack_of};
 ghost use Rattle.hubs.specs.Jacks.{is_jack_in_range};
 ghost use Rattle.wiring_table.specs.Jacks.{ChartJack};

@@ -1,6 +1,6 @@
 -- Examples, worked out by hand: the report of sales by department, whose cards have the department in the columns 1 and 2 and the sales in 3 to
 -- 8; a card by whose row 11 in column 9 an amount is negated; and the digits of 215.40 in a counter group of eight positions.
-use Rattle.std.specs.Prelude.{◌≡◌, ℕ, ◌^◌, ℤ, pos, neg_ℤ, false, List, [], ◌∷◌, ◌++◌, Some, None, codes}
+use Rattle.std.specs.Prelude.{◌≡◌, ℕ, ◌^◌, ◌≤◌, ℤ, pos, neg_ℤ, false, List, [], ◌∷◌, ◌++◌, Some, None, codes}
 use Rattle.charts.specs.declared.chart.Line.{Line}
 use Rattle.charts.specs.declared.level.ControlLevel.TheVariants as control
 use Rattle.charts.specs.declared.statement.Field.{Field}
@@ -9,6 +9,7 @@ use Rattle.charts.specs.declared.statement.SignRule.TheVariants as sign
 use Rattle.charts.specs.declared.statement.Statement.TheVariants as says
 use Rattle.hubs.specs.declared.hub.Group.{Group}
 use Rattle.hubs.specs.declared.hub.Hub.TheVariants.{GE}
+use Rattle.ledgers.specs.Running.{HasCycle}
 use Rattle.ledgers.specs.declared.account.Account.TheVariants.{One, Coupled}
 use Rattle.ledgers.specs.declared.entry.Change.TheVariants.{Minus}
 use Rattle.ledgers.specs.declared.entry.Entry.{Entry}
@@ -16,10 +17,13 @@ use Rattle.net.specs.declared.cycle.Cycle.{Cycle}
 use Rattle.net.specs.declared.cycle.Cycle.TheVariants.{Card, Prog}
 use Rattle.net.specs.declared.cycle.Ordinal.TheVariants.{Third}
 use Rattle.net.specs.declared.cycle.ProgramLevel.TheVariants.{Minor}
+use Rattle.setups.specs.Wiring.{Wiring}
 use Rattle.totals.specs.CounterCycles.Acts.{digit_of}
+use Rattle.wheel_ledgers.specs.LedgerHoles.Digits.{digit_label, row_of}
 use Rattle.wheel_ledgers.specs.LedgerHoles.Positions.{entry_at, position_in}
+use Rattle.wheel_ledgers.specs.declared.ledger_holes.positions.Position.{Position}
 use Rattle.ledger_amounts.specs.Amounts.{StandsBehind}
-use Rattle.ledger_amounts.specs.DigitWays.{AreRowLines, IsRowLine}
+use Rattle.ledger_amounts.specs.DigitWays.{AreRows, IsRowLine}
 use Rattle.ledger_amounts.specs.Postings.{Posting, posting_of, postings_of, sum_of}
 
 -- the department, and the sales in cents
@@ -122,12 +126,25 @@ digit_lines =
     ++ codes "    row 5: SR.20 -> GE.8.1.3 (column 20 of card 2)\n"
     ++ codes "    row 4: SR.21 -> GE.8.1.2 (column 21 of card 2)\n"
 
+-- a line that begins with the row of a digit, 1 to 9; none of 0
+pub data IsLabelled : (digit : ℕ) → List ℕ → Type 0 where
+  no_label : IsLabelled 0 []
+  label : (digit : ℕ) (rest : List ℕ) → 1 ≤ digit → IsLabelled digit (digit_label (row_of digit) ++ rest ++ codes "\n")
+
 -- The 2 of 215.40 stands at position 5, and the 0 at position 1. Of eight digits four have lines. The group 8.1 has place 24, and above the
--- three positions of the group 3.1 it has the position 4 of both. Only a 0 has an empty line.
+-- three positions of the group 3.1 it has the position 4 of both. Each line that is told of a digit begins with its row, and only a 0 has an
+-- empty one.
 pub record TellDigits : Type 0 where
   pub highest : digit_of 21540 5 ≡ 2
   pub units : digit_of 21540 1 ≡ 0
-  pub lines : AreRowLines 8 21540 digit_lines
+  pub lines : AreRows (λ position. IsLabelled) 8 1 21540 digit_lines
   pub alone : entry_at (position_in (One 24) 5) ≡ GE (counter_group 8 1) 5
   pub coupled : entry_at (position_in (Coupled 24 0) 4) ≡ GE (counter_group 8 1) 1
-  pub some : (digit : ℕ) → IsRowLine digit [] → digit ≡ 0
+  pub labels :
+      (wiring : Wiring) (deck : List (List ℕ)) (passed : ℕ) (has : HasCycle wiring deck passed) (cycle : Cycle) (card : ℕ)
+      (at_position : Position) (digit : ℕ) (line : List ℕ)
+      → IsRowLine has cycle card at_position digit line → IsLabelled digit line
+  pub some :
+      (wiring : Wiring) (deck : List (List ℕ)) (passed : ℕ) (has : HasCycle wiring deck passed) (cycle : Cycle) (card : ℕ)
+      (at_position : Position) (digit : ℕ)
+      → IsRowLine has cycle card at_position digit [] → digit ≡ 0

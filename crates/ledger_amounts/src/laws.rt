@@ -43,7 +43,8 @@ pub fn totals_are_found()
 
 /// On every panel a way is told of each digit, 1 to 9, of the number that came to an account in a cycle of a run, at the row of the digit. So
 /// in the text that tells a ledger down to the holes no such digit is left out: the text of an entry ends with a line for each, that of the
-/// top digit first, and the line begins with the row of the digit. If the number turned, or if only a carry came, no digits are told.
+/// top digit first, and the line tells the hole and the wire from its brush, or, if there is no such hole, the way. If the number turned, or if
+/// only a carry came, no digits are told.
 pub fn digits_have_ways()
     ensures told { DigitsHaveWays }
     ensures lines { EntriesTellRows }

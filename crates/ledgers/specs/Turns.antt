@@ -1,4 +1,4 @@
--- What is told as a turn is one.
+-- What a number that turns takes in is the number itself.
 use Rattle.std.specs.Prelude.{◌≡◌, ℕ, List, All}
 use Rattle.setups.specs.Wiring.{Wiring}
 use Rattle.ledgers.specs.Ledgers.{Along, IsLedger}
@@ -6,11 +6,11 @@ use Rattle.ledgers.specs.declared.account.Account.{Account}
 use Rattle.ledgers.specs.declared.entry.Change.TheVariants.{Turned}
 use Rattle.ledgers.specs.declared.entry.Entry.{Entry}
 
--- An entry that turned a number entered what the number was: so the number after is its complement.
+-- If an entry turned a number, then the number that was entered is the one that stood before.
 abbrev pub EntersItself : Entry → Type 0
 EntersItself entry = entry.change ≡ Turned → entry.entered ≡ entry.before
 
--- On every panel each entry that turned a number did.
+-- So it is in each entry of each ledger, on every panel.
 abbrev pub TurnsEnterNumbers : Type 0
 TurnsEnterNumbers =
     (wiring : Wiring) (deck : List (List ℕ)) (account : Account) (along : Along) (entries : List Entry)

@@ -15,8 +15,9 @@ pub fn coupled_ledgers_tell_numbers()
     ensures { CoupledLedgersTellNumbers }
 {}
 
-/// Each entry is a sum, and where the group didn't turn it holds the sum of what came to it. In an entry that turned a number, of one group or of
-/// two, the number that was entered is the one that stood before, on every panel: so the one after is its complement.
+/// Each entry of one group is a sum, and where the group didn't turn it holds the sum of what came to it. If an entry, of one group or of two, turned
+/// a number, then the number that was entered is the one that stood before, on every panel. So the sum of such an entry of one group makes the number
+/// after it the complement.
 pub fn ledgers_are_sums()
     ensures each { EntriesAreSums }
     ensures all { LedgersAreSums }

@@ -100,10 +100,10 @@ impl LegendRow {
                 "A storage unit takes the columns from every card, and in the third program cycle of the level gives those of the last card of the group."
             }
             LegendRow::Total => {
-                "A counter adds the amount of each card, or the next lower total of the amount if there is one; in the third program cycle of the level it is read out to the wheels and into the next higher total, and cleared."
+                "A counter adds each card's amount, or the amount's next lower total if there is one; in the third program cycle of the level it is read out to the wheels and into the next higher total, if any, and cleared."
             }
             LegendRow::SignedTotal => {
-                "A counter adds or subtracts the amount of each card by its pilot, or the next lower total of the amount by its balance; the first program cycle of the level tests the balance, the second turns a number below zero into its figure, and the third reads the figure out to the wheels and into the next higher total, and clears the counter."
+                "A counter adds or subtracts each card's amount by its pilot, or the amount's next lower total, if there is one, by its balance; the first program cycle of the level tests the balance, the second turns a number below zero into its figure, and the third reads the figure out to the wheels and into the next higher total, if any, and clears the counter."
             }
             LegendRow::SingleSpace => {
                 "The carriage spaces by one line unasked: nothing is wired for it."

@@ -1,6 +1,6 @@
 //! Writing a legend.
 
-ghost use Rattle.std.specs.Prelude.{◌≡◌, ◌++◌, ℕ, Contains, IfOk, OnOk, length, map};
+ghost use Rattle.std.specs.Prelude.{◌≡◌, ◌++◌, Contains, IfOk, OnOk, length, map};
 ghost use Rattle.std.specs.String.{string_bytes};
 ghost use Rattle.card_code.specs.Deck.{line_at};
 ghost use Rattle.legend.specs.Helper.{GainsGroup, IsUnder};

@@ -1,18 +1,16 @@
 -- The span of a token is that token.
 use Rattle.std.proofs.Common.{◌≡◌, ℕ, suc, zero, ◌+◌, ◌-◌, ◌<◌, ◌≤◌, Bool, true, false, cond, eqb, List, [], ◌∷◌, ◌++◌, length, take, drop, get_or, Some, None, unwrap_or, Option, option_map, slice_get, min, length-drop, ◌⊎◌, inl, inr, refl, sym, ap, ◌∙◌, arith}
-use Rattle.std.specs.List.{prefix_len, slice_range}
+use Rattle.std.specs.List.{prefix_len}
 use Rattle.std.proofs.lemmas.Bool.{cases_lt, eqb-true, eqb-false}
 use Rattle.std.proofs.Math.Arith.{lt_of_le-ne}
 use Rattle.std.proofs.Math.Nat.{min-eq_left}
 use Rattle.std.proofs.lemmas.List.{drop-drop}
 use Rattle.std.proofs.Math.ListN.{drop_of_length-le}
 use Rattle.std.proofs.lemmas.Option.{none-some}
-use Rattle.std.proofs.lemmas.List.Sums.{prefix_len-le-length}
-use Rattle.tokens.specs.Tokens.{HasTokens, is_plain, is_inside}
+use Rattle.tokens.specs.Tokens.{is_plain, is_inside}
 use Rattle.tokens.specs.Dividing.{tokens_of, tokens_from, before, is_space, is_apart}
 use Rattle.tokens.proofs.Dividing.{tokens_of-spaces, tokens_of-cut_plain, tokens_of-cut_literal, tokens_of-open, no_space_after}
 use Rattle.tokens.proofs.TokenGrammar.{mapped, read_what_it_has}
-use Rattle.line_marks.specs.declared.span.Span.{Span}
 use Rattle.line_marks.specs.Spans.{token_length, first_end, token_start, span_at, span_of, spanned, word, IsTokenSpan, StandsUnderAToken}
 
 -- a part of a line behind a part

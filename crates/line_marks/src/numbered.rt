@@ -1,8 +1,7 @@
 //! The lines of a text by their numbers.
 
-ghost use Rattle.std.specs.Prelude.{◌≡◌, ◌-◌, ℕ, slice_index_or, []};
+ghost use Rattle.std.specs.Prelude.{◌≡◌, ◌-◌};
 ghost use Rattle.card_code.specs.Deck.{line_at};
-ghost use Rattle.card_code.specs.Lines.{lines_of};
 ghost use Rattle.line_marks.specs.FirstLines as law;
 ghost use Rattle.line_marks.specs.FirstLines.{first_line};
 

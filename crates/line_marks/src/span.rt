@@ -1,6 +1,6 @@
 //! Where the tokens of a line stand.
 
-ghost use Rattle.std.specs.Prelude.{◌≡◌, ◌≢◌, ◌+◌, ◌<◌, ◌≤◌, ℕ, List, length, drop, slice_index};
+ghost use Rattle.std.specs.Prelude.{◌≡◌, ◌≢◌, ◌+◌, ◌<◌, ◌≤◌, length};
 ghost use Rattle.std.specs.List.{prefix_len};
 ghost use Rattle.tokens.specs.Tokens.{is_plain, is_inside};
 ghost use Rattle.tokens.specs.Dividing.{is_space};

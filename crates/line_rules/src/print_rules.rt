@@ -17,7 +17,7 @@ mod tapes;
 mod wheels;
 
 pub use forms::{breaks_form, heading_count, lacks_form};
-pub use items::{Figure, Item, PrintedLine};
+pub use items::{Figure, Item, PrintedLine, mark_shown};
 pub use marks::breaks_mark_mismatch;
 pub use printing::{breaks_print_kind, lacks_print};
 pub use tapes::{breaks_tape, form_lines, is_good_tape};

@@ -11,7 +11,7 @@ use Rattle.line_slips.specs.declared.slip.Slip.TheVariants as slip
 abbrev pub is_tab : ℕ → Bool
 is_tab byte = byte == 9
 
--- a sign with which comments begin elsewhere: # or ;
+-- a sign with which comments begin elsewhere, wherever it stands: # or ;
 abbrev pub is_comment : ℕ → Bool
 is_comment byte = (byte == 35) || (byte == 59)
 
@@ -44,27 +44,36 @@ unfoldable pub unclosed_from : Option ℕ → ℕ → List ℕ → Option ℕ
 unclosed_from before place [] = before
 unclosed_from before place (byte ∷ bytes) = unclosed_from (open_behind before place byte) (place + 1) bytes
 
--- where the first sign of a comment stands outside of literals, in bytes that begin at a place, behind an apostrophe that is open or none
+-- where the first # or ; stands outside of literals, in bytes that begin at a place, behind an apostrophe that is open or none
 unfoldable pub comment_from : Bool → ℕ → List ℕ → Option ℕ
 comment_from before place [] = None
 comment_from before place (byte ∷ bytes) =
     if not before && is_comment byte then Some place else comment_from (is_open before byte) (place + 1) bytes
 
+-- whether a line begins with an asterisk and a blank, as comments do elsewhere
+abbrev pub is_starred : List ℕ → Bool
+is_starred (star ∷ blank ∷ bytes) = (star == 42) && (blank == 32)
+is_starred other = false
+
+-- where the sign of a comment stands: the asterisk of a line that begins with one and a blank, or else the first # or ; outside of literals
+unfoldable pub comment_place : List ℕ → Option ℕ
+comment_place line = if is_starred line then Some 0 else comment_from false 0 line
+
 -- the slip of a line: the first of these that it has
 unfoldable pub slip_of : List ℕ → Slip
 slip_of line =
     if list_any is_tab line then slip.Tab
-    else if is_some (comment_from false 0 line) then slip.Comment
+    else if is_some (comment_place line) then slip.Comment
     else if list_any is_quotation line then slip.Quotation
     else if is_some (unclosed_from None 0 line) then slip.Unclosed
     else if list_any is_small line then slip.Small
     else if list_any is_unprintable line then slip.Unprintable
     else slip.Other
 
--- where the first byte stands by which a slip is known: that of a comment outside of literals, and the apostrophe that none closes
+-- where the first byte stands by which a slip is known: the sign of a comment, and the apostrophe that none closes
 unfoldable pub sign_place : Slip → List ℕ → Option ℕ
 sign_place slip.Tab line = position is_tab line
-sign_place slip.Comment line = comment_from false 0 line
+sign_place slip.Comment line = comment_place line
 sign_place slip.Quotation line = position is_quotation line
 sign_place slip.Unclosed line = unclosed_from None 0 line
 sign_place slip.Small line = position is_small line

@@ -12,7 +12,7 @@ use line_marks::{Span, token_span};
 pub enum Slip {
     /// It has a tab.
     Tab,
-    /// It has a sign with which comments begin elsewhere, `#` or `;`, outside of literals.
+    /// It has a sign with which comments begin elsewhere: `#` or `;` outside of literals, or `*` before a blank at its front.
     Comment,
     /// It has a quotation mark, or a byte that is no ASCII.
     Quotation,
@@ -26,11 +26,21 @@ pub enum Slip {
     Other,
 }
 
-/// Whether a byte is a sign with which comments begin elsewhere.
+/// Whether a byte is a sign with which comments begin elsewhere, wherever it stands.
 fn is_comment(byte: u8) -> bool
     ensures { result ≡ law.is_comment byte }
 {
     byte == b'#' || byte == b';'
+}
+
+/// Whether a line begins with an asterisk and a blank, as comments do elsewhere.
+fn is_starred(line: &[u8]) -> bool
+    ensures { result ≡ law.is_starred line.now }
+{
+    match line {
+        [star, blank, ..] => *star == b'*' && *blank == b' ',
+        _ => false,
+    }
 }
 
 /// Whether a byte is a quotation mark or no ASCII.
@@ -70,9 +80,9 @@ fn unclosed_place(line: &[u8]) -> Option<usize>
     open
 }
 
-/// Where the first sign of a comment stands outside of literals.
+/// Where the first `#` or `;` stands outside of literals.
 #[tactic(auto, unfolding(crate::specs::Slips::comment_from))]
-fn comment_place(line: &[u8]) -> Option<usize>
+fn comment_sign(line: &[u8]) -> Option<usize>
     ensures value { result ≡ law.comment_from false 0 line.now }
     ensures within { IfSome result (λ place. place < length line.now) }
 {
@@ -84,6 +94,19 @@ fn comment_place(line: &[u8]) -> Option<usize>
         is_open ^= *byte == b'\'';
     }
     None
+}
+
+/// Where the sign of a comment stands: the asterisk of a line that begins with one and a blank, or else the first `#` or `;` outside of literals.
+#[tactic(auto, unfolding(crate::specs::Slips::comment_place))]
+fn comment_place(line: &[u8]) -> Option<usize>
+    ensures value { result ≡ law.comment_place line.now }
+    ensures within { IfSome result (λ place. place < length line.now) }
+{
+    if is_starred(line) {
+        Some(0)
+    } else {
+        comment_sign(line)
+    }
 }
 
 /// Whether a line has a tab.

@@ -1,29 +1,51 @@
--- The rows of a set of rows are rows of a card.
-use Rattle.std.proofs.Common.{◌≡◌, ℕ, ◌<◌, ◌≤◌, ◌^◌, ◌/◌, ◌%◌, ◌==◌, ◌⊎◌, inl, inr, Bool, true, false, ◌&&◌, not, nat_lt, refl, ap, arith}
+-- The rows of a character have places in the order in which rows pass the brushes.
+use Rattle.std.proofs.Common.{◌≡◌, ◌∙◌, sym, ℕ, ◌-◌, ◌<◌, ◌≤◌, ◌^◌, ◌==◌, ◌⊎◌, inl, inr, Bool, true, ◌&&◌, ◌||◌, not, nat_lt, refl, ap, arith, Some, if◌then◌else◌}
+use Rattle.std.specs.List.{list_all}
+use Rattle.std.proofs.lemmas.Bool.{and_parts, cases_lt}
 use Rattle.std.proofs.lemmas.Bool.Decides.{nat_tests}
-use Rattle.std.proofs.lemmas.Bool.{cases_lt}
-use Rattle.std.proofs.Math.Nat.{div-eq_of_lt}
-use Rattle.std.proofs.Math.Pow.{pow_mono}
-use Rattle.card_code.specs.CardCode.{has_row}
-use Rattle.card_code.specs.Rows.{is_row_set}
+use Rattle.std.proofs.lemmas.List.Sums.{AllPass-from_list_all}
+use Rattle.std.proofs.lemmas.Nat.Bits.{bit_at_above}
+use Rattle.card_code.proofs.OneToOne.{Contains-rows}
+use Rattle.card_code.specs.AllSets.{passes_all, passes-at}
+use Rattle.card_code.specs.CardCode.{code, has_row, rows_of}
+use Rattle.line_wires.specs.HelperRows.{number_at}
 
-both : (a b : Bool) → (a && not b) ≡ true → (a ≡ true) × (b ≡ false)
-both true false is = (refl, refl)
-both true true is = cc
-both false b is = cc
+-- the place of the row with a number
+abbrev place_of : ℕ → ℕ
+place_of row = if nat_lt row 10 then 9 - row else row - 1
 
--- and none is above 12
-pub row_below : (set row : ℕ) → is_row_set set ≡ true → has_row set row ≡ true → row < 13
-row_below set row lawful there = by (cases_lt row 13)
+-- whether a row, if a set has it, has a place
+has_place : (set row : ℕ) → Bool
+has_place set row = not (has_row set row) || nat_lt (place_of row) 12 && (number_at (place_of row) == row)
+
+abbrev have_places : ℕ → Bool
+have_places set = nat_lt set (2 ^ 16) && passes_all 4 (has_place set)
+
+all_have_places : list_all (λ pair. have_places pair.1) code ≡ true
+unfolding has_place passes_all code
+all_have_places = refl
+
+pub row_place : (character set row : ℕ) → rows_of character ≡ Some set → has_row set row ≡ true
+    → (place : ℕ) × (place < 12) × (number_at place ≡ row)
+unfolding rows_of has_place
+row_place character set row coded there =
+    let facts = by (has_row set row) (place_of row) (number_at (place_of row)) there (passes-at 4 (has_place set) row parts.1 (low (cases_lt row 16))) in
+    (place_of row, facts.0, facts.1)
   where
-    small : set < 2 ^ 13
-    small = let bound = (both (nat_lt set (2 ^ 13)) (has_row set 10) lawful).0 in grind (arith, nat_tests, bound)
+    parts : (nat_lt set (2 ^ 16) ≡ true) × (passes_all 4 (has_place set) ≡ true)
+    parts =
+        let at = Contains-rows code character set coded in
+        and_parts (nat_lt set (2 ^ 16)) (passes_all 4 (has_place set))
+        (ap (λ (pair : ℕ × ℕ). have_places pair.1) (sym at.2)
+        ∙ AllPass-from_list_all (λ pair. have_places pair.1) code all_have_places at.0 (character, set) at.1)
 
-    by : (row < 13) ⊎ (13 ≤ row) → row < 13
-    by (inl below) = below
-    by (inr above) =
-        let wide : 2 ^ 13 ≤ 2 ^ row = pow_mono above in
-        let under : set < 2 ^ row = omega (arith, small, wide) in
-        let e : set / 2 ^ row ≡ 0 = div-eq_of_lt under in
-        let none : has_row set row ≡ false = ap (λ d. d % 2 == 1) e in
+    low : (row < 16) ⊎ (16 ≤ row) → row < 16
+    low (inl less) = less
+    low (inr high) =
+        let test = parts.0 in
+        let small : set < 2 ^ 16 = grind (arith, nat_tests, test) in
+        let none = ap (λ (n : ℕ). n == 1) (bit_at_above set 16 row small high) in
         cc
+
+    by : (has : Bool) (place number : ℕ) → has ≡ true → (not has || nat_lt place 12 && (number == row)) ≡ true → (place < 12) × (number ≡ row)
+    by has place number is test = grind (arith, nat_tests, is, test)

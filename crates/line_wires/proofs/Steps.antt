@@ -6,9 +6,8 @@ use Rattle.charts.proofs.Listed.{place-of}
 use Rattle.hubs.specs.declared.hub.Hub.{Hub}
 use Rattle.setups.specs.Wiring.{Wiring, HasWire, AddsWire, SameJacks}
 use Rattle.card_code.specs.CardCode.{has_row, rows_of}
-use Rattle.card_code.specs.Rows.{is_row_set}
-use Rattle.line_wires.specs.HelperRows.{RowWire, CharacterWires}
-use Rattle.line_wires.proofs.RowSets.{row_below}
+use Rattle.line_wires.specs.HelperRows.{ColumnWires, RowWire, CharacterWires, number_at}
+use Rattle.line_wires.proofs.RowSets.{row_place}
 use Rattle.line_wires.specs.HelperAdds.{Adds, One, one, Both, first, second, Upto, below, OfSome, some, Where, given, punched}
 
 -- one wire more
@@ -143,22 +142,24 @@ adds-nowhere {holds} {R} nowhere = adds-none none
     none exit entry (given is_so wire) = nowhere is_so
 
 -- the rows of a character
-pub adds-character : {emitter character set : ℕ} {entry : Hub} {old new : Wiring} → rows_of character ≡ Some set
-    → is_row_set set ≡ true → Adds (Upto 13 (RowWire emitter entry set)) old new → Adds (CharacterWires emitter entry character) old new
-adds-character {emitter} {character} {set} {entry} coded lawful added = adds-as there back added
+pub adds-character : {emitter character column : ℕ} {entry : Hub} {old new : Wiring} → rows_of character ≡ Some column
+    → Adds (ColumnWires emitter entry column) old new → Adds (CharacterWires emitter entry character) old new
+adds-character {emitter} {character} {column} {entry} coded added = adds-as there back added
   where
-    of_row : {exit to : Hub} (row : ℕ) → RowWire emitter entry set row exit to → CharacterWires emitter entry character exit to
-    of_row row (given in_set wire) = punched row (record { set = set; coded = coded; punched = in_set }) wire
+    of_row : {exit to : Hub} (row : ℕ) → RowWire emitter entry column row exit to → CharacterWires emitter entry character exit to
+    of_row row (given in_column wire) = punched row (record { set = column; coded = coded; punched = in_column }) wire
 
-    there : (exit to : Hub) → Upto 13 (RowWire emitter entry set) exit to → CharacterWires emitter entry character exit to
-    there exit to (below row less wire) = of_row row wire
+    there : (exit to : Hub) → ColumnWires emitter entry column exit to → CharacterWires emitter entry character exit to
+    there exit to (below place less wire) = of_row (number_at place) wire
 
-    back : (exit to : Hub) → CharacterWires emitter entry character exit to → Upto 13 (RowWire emitter entry set) exit to
+    back : (exit to : Hub) → CharacterWires emitter entry character exit to → ColumnWires emitter entry column exit to
     back exit to (punched row punch wire) =
-        let same : punch.set ≡ set = cc in
+        let same : punch.set ≡ column = cc in
         let P : ℕ → Type 0 = λ s. has_row s row ≡ true in
-        let in_set : has_row set row ≡ true = subst P same punch.punched in
-        below row (row_below set row lawful in_set) (given in_set wire)
+        let Q : ℕ → Type 0 = λ r. RowWire emitter entry column r exit to in
+        let in_column : has_row column row ≡ true = subst P same punch.punched in
+        let at = row_place character column row coded in_column in
+        below at.0 at.1 (subst Q (sym at.2) (given in_column wire))
 
 -- one wire, between hubs that are the same
 pub one-as : {from to exit entry : Hub} {old new : Wiring} → Adds (One from to) old new → from ≡ exit → to ≡ entry

@@ -2,7 +2,7 @@
 use Rattle.std.specs.Prelude.{ℕ, ◌+◌, ◌≤◌, List, Option}
 use Rattle.plans.specs.Plans.{Lists}
 use Rattle.wanted.specs.Below.chart_rules.HelperOnCard.{IsOnCard}
-use Rattle.wiring_table.specs.Below.line_rules.PrintRules.Items.{mark_shown, mark_width}
+use Rattle.line_rules.specs.PrintRules.Items.{mark_shown, mark_width}
 use Rattle.charts.specs.Field.{columns_of, decimals_of}
 use Rattle.charts.specs.declared.statement.DetailOption.{DetailOption}
 use Rattle.charts.specs.declared.statement.DetailOption.TheVariants as shown

@@ -1,7 +1,9 @@
 -- A helper of the code: the wires that each of its functions adds, in the order of the table.
-use Rattle.std.specs.Prelude.{◌≡◌, ◌≢◌, ℕ, ◌+◌, ◌-◌, ◌<◌, List, Option, Some, length, slice_get, true}
+use Rattle.std.specs.Prelude.{◌≡◌, ◌≢◌, ℕ, ◌+◌, ◌-◌, ◌<◌, List, Option, Some, length, slice_get, slice_index_or, true}
 use Rattle.plans.specs.Plans.{Lists}
 use Rattle.card_code.specs.CardCode.{has_row}
+use Rattle.card_code.specs.Rows.{row_number, rows}
+use Rattle.card_code.specs.declared.row.Row.TheVariants.{Zero}
 use Rattle.charts.specs.Field.{columns_of, decimals_of, sign_column}
 use Rattle.charts.specs.Levels.{control_number}
 use Rattle.charts.specs.Spacings.{spacing_number}
@@ -38,9 +40,17 @@ abbrev pub IndicatedWires : Lists → ControlLevel → (number wheel : ℕ) → 
 IndicatedWires plan level number wheel field =
     Upto (columns_of field) (λ j. IndicatedColumn plan level number (field.first + j) (wheel + j))
 
--- a row of an emitter, where it is punched in a set of rows
-abbrev pub RowWire : (emitter : ℕ) → Hub → (set row : ℕ) → Wires
-RowWire emitter entry set row = Where (has_row set row ≡ true) (One (EM emitter row) entry)
+-- a row of an emitter, where it is punched in a column
+abbrev pub RowWire : (emitter : ℕ) → Hub → (column row : ℕ) → Wires
+RowWire emitter entry column row = Where (has_row column row ≡ true) (One (EM emitter row) entry)
+
+-- the number of the row at a place in the order in which rows pass the brushes
+abbrev pub number_at : ℕ → ℕ
+number_at place = row_number (slice_index_or rows place Zero)
+
+-- the rows of a column from an emitter to an entry
+abbrev pub ColumnWires : (emitter : ℕ) → Hub → (column : ℕ) → Wires
+ColumnWires emitter entry column = Upto 12 (λ place. RowWire emitter entry column (number_at place))
 
 -- the rows of a character from an emitter to an entry
 abbrev pub CharacterWires : (emitter : ℕ) → Hub → (character : ℕ) → Wires

@@ -1,54 +1,29 @@
 //! Characters from an emitter.
 
 ghost use Rattle.std.specs.Prelude.{◌≡◌, ◌+◌, ◌≤◌, ◌<◌, OnOk, None, length, true};
-ghost use Rattle.card_code.specs.CardCode.{has_row};
-ghost use Rattle.card_code.specs.Rows.{is_row_set};
 ghost use Rattle.hubs.specs.Hubs.{is_entry_hub, carry_into};
 ghost use Rattle.hubs.specs.declared.hub.Hub.TheVariants.{W};
 ghost use Rattle.wiring_table.specs.Figures.{mark_wheel};
-ghost use Rattle.line_wires.specs.HelperAdds.{Adds, Upto};
-ghost use Rattle.line_wires.specs.HelperRows.{RowWire, CharacterWires, LiteralWires, PointWires};
+ghost use Rattle.line_wires.specs.HelperAdds.{Adds};
+ghost use Rattle.line_wires.specs.HelperRows.{ColumnWires, CharacterWires, LiteralWires, PointWires};
 
 use crate::adding::connect;
-use card_code::Column;
+use card_code::{Column, ROWS};
 use hubs::Hub;
 use setups::Setup;
 use std::alloc::AllocError;
 
-// Whether a row is in a set of rows.
-fn has_row(set: u16, row: u8) -> bool
-    requires { row < 13 }
-    ensures { result ≡ has_row set row }
-{
-    set >> row & 1 == 1
-}
-
-// Wires a row of an emitter to an entry, where the row is in a set of rows.
-fn wire_row(setup: &mut Setup, emitter: u8, entry: Hub, set: u16, row: u8) -> Result<(), AllocError>
+// Wires the rows of a column from an emitter to an entry.
+fn wire_rows(setup: &mut Setup, emitter: u8, entry: Hub, column: Column) -> Result<(), AllocError>
     requires emitter { (1 ≤ emitter) × (emitter ≤ 8) }
     requires entry { is_entry_hub entry ≡ true }
     requires ring { carry_into entry ≡ None }
-    requires set { is_row_set set ≡ true }
-    requires row { row < 13 }
-    ensures { OnOk result (Adds (RowWire emitter entry set row) setup.old setup.new) }
+    ensures { OnOk result (Adds (ColumnWires emitter entry column) setup.old setup.new) }
 {
-    if has_row(set, row) {
-        connect(setup, Hub::EM(emitter, row), entry)
-    } else {
-        Ok(())
-    }
-}
-
-// Wires the rows of a set from an emitter to an entry.
-fn wire_rows(setup: &mut Setup, emitter: u8, entry: Hub, set: u16) -> Result<(), AllocError>
-    requires emitter { (1 ≤ emitter) × (emitter ≤ 8) }
-    requires entry { is_entry_hub entry ≡ true }
-    requires ring { carry_into entry ≡ None }
-    requires set { is_row_set set ≡ true }
-    ensures { OnOk result (Adds (Upto 13 (RowWire emitter entry set)) setup.old setup.new) }
-{
-    for row in 0..13 {
-        wire_row(setup, emitter, entry, set, row)?;
+    for row in ROWS {
+        if column.has_row(row) {
+            connect(setup, Hub::EM(emitter, row.number()), entry)?;
+        }
     }
     Ok(())
 }
@@ -66,7 +41,7 @@ pub fn wire_character(
     ensures { OnOk result (Adds (CharacterWires emitter entry character) setup.old setup.new) }
 {
     match Column::of_char(character as char) {
-        Some(column) => wire_rows(setup, emitter, entry, column.rows()),
+        Some(column) => wire_rows(setup, emitter, entry, column),
         None => Ok(()),
     }
 }

@@ -1,7 +1,6 @@
 //! The items of the line of a card.
 
-ghost use Rattle.std.specs.Prelude.{◌≡◌, ◌+◌, ◌≤◌, OnOk};
-ghost use Rattle.wiring_table.specs.Below.line_rules.PrintRules.Items.{mark_shown};
+ghost use Rattle.std.specs.Prelude.{OnOk};
 ghost use Rattle.charts.specs.Field.{columns_of, decimals_of};
 ghost use Rattle.line_wires.specs.HelperAdds.{Adds};
 ghost use Rattle.line_wires.specs.HelperItems.{DetailAmount, DetailMarks, DetailRanges, DetailText, DetailWires, HasFigureWheels, HasWheels, IsGoodDetail};
@@ -13,19 +12,10 @@ use crate::detail::{wire_digits, wire_indicated, wire_text};
 use crate::figures::mark_wheel;
 use crate::pilot::{rule_of, wire_detail_mark};
 use charts::{DetailOption, Field, FieldKind, Mark, Name, SignRule};
+use line_rules::print_rules::mark_shown;
 use plans::Plan;
 use setups::Setup;
 use std::alloc::AllocError;
-
-// The mark that an option of a field on the line of a card gives it.
-fn mark_shown(shown: DetailOption) -> Option<Mark>
-    ensures { result ≡ mark_shown shown }
-{
-    match shown {
-        DetailOption::Marked(mark) => Some(mark),
-        DetailOption::Plain | DetailOption::Indicated(_) => None,
-    }
-}
 
 // Wires a text on the line of a card.
 fn wire_detail_text(

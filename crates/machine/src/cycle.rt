@@ -1,6 +1,6 @@
 //! A cycle of the machine: its fourteen points, and its end.
 
-ghost use Rattle.std.specs.Prelude.{◌≡◌, map};
+ghost use Rattle.std.specs.Prelude.{◌≡◌};
 
 use crate::closed::Closed;
 use crate::groups::{comes_to_nines, has_carry, nines};

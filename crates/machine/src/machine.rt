@@ -59,7 +59,7 @@ impl Model for Machine {
 }
 
 impl Machine {
-    ghost use Rattle.std.specs.Prelude.{◌≡◌, ◌⊎◌, Some, None, Ok, Err, Option, IfOk, IfErr, OnOk, OnErr, true, false};
+    ghost use Rattle.std.specs.Prelude.{◌≡◌, ◌⊎◌, Some, None, Ok, Err, IfOk, IfErr, OnOk, true};
     ghost use Rattle.machine.specs.Running.{IsStarted, refusal, fed};
     ghost use Rattle.machine.specs.Gains.{GainsFeed, GainsPrefix};
     ghost use Rattle.machine.specs.Kept.{FeedsPast, GainsKept, GainsSome, PlacedInFeed};

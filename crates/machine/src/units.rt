@@ -56,7 +56,7 @@ impl Units {
         }
     }
 
-    // Adds the exits that emit at a point. Pilots, group indication, splits, wheels and the carriage have no exits of their own.
+    // Adds the exits that emit at a point. Pilots, group indication, splits, wheels and the carriage emit nothing.
     pub(crate) fn emit(&self, cycle: Cycle, point: Point, exits: &mut Picture)
         ensures { GainsHubs (emits self.now cycle point) exits.old exits.new }
     {
@@ -68,7 +68,7 @@ impl Units {
         self.all.program.emit(cycle, point, exits);
     }
 
-    // Each unit senses the picture of a point. Stations, group indication, splits and emitters have no entries of their own.
+    // Each unit senses the picture of a point. Stations, group indication, splits and emitters sense nothing.
     pub(crate) fn sense(&mut self, cycle: Cycle, point: Point, picture: &Picture)
         ensures { self.new ≡ sensed self.old cycle point (has_hub picture.now) }
     {

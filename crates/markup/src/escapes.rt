@@ -1,7 +1,6 @@
 //! Escaping.
 
 ghost use Rattle.std.specs.Prelude.{◌≡◌, ◌+◌, ◌<◌, ◌++◌, ◌∷◌, [], OnOk};
-ghost use Rattle.std.specs.List.{flat_map};
 ghost use Rattle.std.specs.String.{string_bytes};
 ghost use Rattle.markup.specs.Escapes.{escaped, escaped_byte, four_digits, is_plain, numbered_byte};
 

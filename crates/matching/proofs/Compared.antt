@@ -1,10 +1,8 @@
 -- A setup beside one that is wired for a chart by a plan: where they are the same, it is wired for the chart by the plan; else not, and
 -- their differences are what is missing and what is too much.
-use Rattle.std.proofs.Common.{◌≡◌, ◌↔◌, ◌∙◌, ℕ, List, Contains, true, false, true≢false, Bool, refl, sym}
+use Rattle.std.proofs.Common.{◌≡◌, ◌↔◌, ◌∙◌, List, true, false, true≢false, Bool, refl, sym}
 use Rattle.charts.specs.declared.chart.Line.{Line}
 use Rattle.differences.specs.Differences.{IsDifference}
-use Rattle.hubs.specs.declared.hub.Hub.{Hub}
-use Rattle.hubs.specs.declared.jack.Jack.{Jack}
 use Rattle.matching.specs.Answers.{IsExtra, IsMissing}
 use Rattle.plans.specs.Plans.{Lists}
 use Rattle.setups.specs.Tapes.{has_stop}

@@ -18,7 +18,7 @@ fn is_same_in(column: u16, one: &Card, other: &Card) -> bool
     requires to { column ≤ 80 }
     ensures { result ≡ nat_eq (column_of one.now column) (column_of other.now column) }
 {
-    one.column(column as u8).rows() == other.column(column as u8).rows()
+    one.column(column as u8) == other.column(column as u8)
 }
 
 /// Whether two cards have the same punches in all columns of a field.

@@ -24,11 +24,12 @@ fn column_of(card: &Card, column: u16) -> Column
 fn digit_in(column: Column) -> Option<u32>
     ensures { result ≡ digit_in column }
 {
-    let digits = column.rows() & 0x3ff;
+    // The lowest row has the highest place: row 0 has place 9, and row 9 place 0.
+    let digits = column.set() & 0x3ff;
     if digits == 0 {
         None
     } else {
-        Some(digits.trailing_zeros())
+        Some(digits.leading_zeros() - 6)
     }
 }
 

@@ -21,12 +21,11 @@ impl Model for RowSets {
 }
 
 impl RowSets {
-    ghost use Rattle.std.specs.Prelude.{◌≡◌, ℕ, ◌-◌, ◌+◌, ◌<◌, ◌==◌, ◌&&◌, ◌||◌, ◌/◌, false, true, Some, None, [], drop, length};
+    ghost use Rattle.std.specs.Prelude.{◌≡◌, ℕ, ◌-◌, ◌+◌, ◌<◌, ◌==◌, ◌&&◌, ◌||◌, ◌/◌, false, Some, None, [], drop, length};
     ghost use Rattle.hubs.specs.Hubs.{number_of};
     ghost use Rattle.hubs.specs.declared.hub.Hub.{Hub};
-    ghost use Rattle.net.specs.HubSets.{is_bit, is_hub};
+    ghost use Rattle.net.specs.HubSets.{is_hub};
     ghost use Rattle.net.specs.HubRows.{has_row_at};
-    ghost use Rattle.spreads.specs.Links.{has_at};
     ghost use Rattle.net.specs.RowSets.{is_in_sets};
 
     /// Empty sets.

@@ -1,7 +1,7 @@
 //! What the exits that tell of cycles make of the panel. It hangs on the wires and on which contacts are closed, so the wires' part is
 //! looked up once.
 
-ghost use Rattle.std.specs.Prelude.{◌≡◌, ℕ, ◌+◌, ◌<◌, ◌≤◌, ◌&&◌, Bool, All, IfOk, IfSome, OnOk, Some, option_map, false, true};
+ghost use Rattle.std.specs.Prelude.{◌≡◌, ℕ, ◌+◌, ◌<◌, ◌≤◌, ◌&&◌, Bool, All, IfOk, IfSome, OnOk, Some, false, true};
 ghost use Rattle.bit_sets.specs.Bits.{has_place};
 ghost use Rattle.bit_sets.specs.Contacts.{AreCommons};
 ghost use Rattle.bit_sets.specs.Rows.{leads};

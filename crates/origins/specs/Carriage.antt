@@ -11,7 +11,8 @@ use Rattle.net.specs.declared.cycle.Point.TheVariants.{C}
 use Rattle.setups.specs.Wiring.{LeadsToEntries, Wiring}
 use Rattle.origins.specs.Asks.{asks, channel_of, is_of_cycles, spacing_of}
 
--- What wires tell of a cycle is what was asked for in it. If nothing is told, and wires lead there from no contact, nothing was.
+-- What wires tell of a cycle is what was asked for in it. Where wires lead to an entry from no contact, what isn't told wasn't asked for: spacing
+-- is single, there is no skip, and the page stays the same.
 pub record IsAskedAsTold (wiring : Wiring) (cycle : Cycle) (asked : Asked) : Type 0 where
   pub lines : IfSome (spacing_of wiring cycle) (λ lines. asked.lines ≡ lines)
   pub channel : IfSome (channel_of wiring cycle) (λ channel. asked.channel ≡ Some channel)

@@ -1,7 +1,6 @@
 //! What holds something in the machine from cycle to cycle.
 
 ghost use Rattle.std.specs.Prelude.{◌≡◌, ◌<◌, ◌+◌};
-ghost use Rattle.counters.specs.Counters.{group_of_unit};
 ghost use Rattle.origins.specs.Holders.{IsHolder, holder_at, is_group, is_latch_exit, is_pilot_exit, is_transferred, leads_one, leads_through, passes, ways_rest_on};
 
 use crate::storage::is_read;

@@ -1,9 +1,7 @@
 //! Whether two storage units hold the same text.
 
 ghost use Rattle.std.specs.Prelude.{◌≡◌, ◌≤◌};
-ghost use Rattle.ledgers.specs.Entries.{same};
 ghost use Rattle.origins.specs.Holding.{hold_same, hold_same_at, hold_same_rows, hold_same_to};
-ghost use Rattle.storage_units.specs.Storage.{holds};
 
 use card_code::{ROWS, Row};
 use storage_units::Storage;

@@ -2,9 +2,8 @@
 
 ghost use Rattle.std.specs.Prelude.{◌≡◌, ◌≤◌, ◌<◌, ◌+◌, ◌++◌, IfOk, IfSome, OnOk, length};
 ghost use Rattle.card_code.specs.MostCards.{most_cards};
-ghost use Rattle.counters.specs.Counters.{counter_ended, width_of};
+ghost use Rattle.counters.specs.Counters.{width_of};
 ghost use Rattle.counters.specs.Numbers.{number};
-ghost use Rattle.ledgers.specs.InCycle.{IsInCycle};
 ghost use Rattle.ledgers.specs.Running.{HasCycle};
 ghost use Rattle.origins.specs.Latches.{IsLatchText, IsNumberTested, IsTestText, test_line};
 

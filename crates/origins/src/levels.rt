@@ -1,9 +1,8 @@
 //! Why the program cycles of a level run.
 
-ghost use Rattle.std.specs.Prelude.{◌≡◌, ◌≤◌, ◌++◌, IfOk, OnOk, length};
+ghost use Rattle.std.specs.Prelude.{◌≡◌, ◌≤◌, ◌++◌, IfOk, OnOk};
 ghost use Rattle.card_code.specs.Rows.{rows};
-ghost use Rattle.origins.specs.Levels.{called_by, called_text, card_text, called_to, calling_text, called_by_holes, calls, is_led_from, is_of_brushes, last_text, level_text, missing_text, no_row, or_text, others_lead, position_text, position_text_by, positions_text, runs_text, unlike_at, unlike_line, unlike_lines, unlike_text};
-ghost use Rattle.setups.specs.Wiring.{is_wired};
+ghost use Rattle.origins.specs.Levels.{called_by, called_text, card_text, called_to, calling_text, called_by_holes, calls, is_led_from, is_of_brushes, last_text, level_text, missing_text, no_row, others_lead, position_text, positions_text, runs_text, unlike_at, unlike_line, unlike_lines, unlike_text};
 
 use crate::holes::{Hole, hole_to, is_wired, write_brush, write_column};
 use crate::storage::write_row;

@@ -1,7 +1,6 @@
 //! The origin of a pilot that is transferred.
 
 ghost use Rattle.std.specs.Prelude.{◌≡◌, ◌++◌, OnOk};
-ghost use Rattle.card_code.specs.declared.row.Row.TheVariants.{Eleven};
 ghost use Rattle.origins.specs.Pilots.{pickup_line, pickup_text, pilot_text, since_line};
 ghost use Rattle.origins.specs.Storage.{led_text};
 

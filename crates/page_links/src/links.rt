@@ -1,6 +1,6 @@
 //! Links to cards and cycles.
 
-ghost use Rattle.std.specs.Prelude.{◌≡◌, ◌++◌, codes, OnOk};
+ghost use Rattle.std.specs.Prelude.{◌≡◌, ◌++◌, OnOk};
 ghost use Rattle.std.specs.String.{string_bytes};
 ghost use Rattle.page_links.specs.Links.{card_link, card_name, card_open, card_word, cycle_link, cycle_name, cycle_open, cycle_word};
 

@@ -1,6 +1,6 @@
 //! Lines, blank lines and form feeds, on their way to a sink.
 
-ghost use Rattle.std.specs.Prelude.{◌≡◌, ◌+◌, ◌-◌, ◌^◌, ◌<◌, ◌≤◌, ◌⊎◌, ◌∷◌, ◌++◌, [], length, replicate, true, false, IsErr, OnOk};
+ghost use Rattle.std.specs.Prelude.{◌≡◌, ◌+◌, ◌-◌, ◌^◌, ◌<◌, ◌≤◌, ◌⊎◌, ◌∷◌, ◌++◌, [], length, true, false, IsErr, OnOk};
 ghost use Rattle.page_writer.specs.Added.{added, blank_pages, feeds, last_end, page_end};
 ghost use Rattle.page_writer.specs.Outgoing.{Takes, total};
 ghost use Rattle.page_text.specs.PlacedLines.InOrder.{IsAfter, IsOnForm};

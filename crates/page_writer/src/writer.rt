@@ -1,6 +1,6 @@
 //! A writer of pages, line by line.
 
-ghost use Rattle.std.specs.Prelude.{◌≡◌, ◌+◌, ◌==◌, ◌≤◌, if◌then◌else◌, [], ◌++◌, length, take, true, false, IfErr, IsErr, IsErrAnd, OnErr, OnOk};
+ghost use Rattle.std.specs.Prelude.{◌≡◌, ◌+◌, ◌==◌, ◌≤◌, if◌then◌else◌, [], ◌++◌, true, false, IsErr, IsErrAnd, OnErr, OnOk};
 ghost use Rattle.page_text.specs.Pages.{Pages};
 ghost use Rattle.page_writer.specs.Added.{added, added_all, last_end, line_after, page_after};
 ghost use Rattle.page_writer.specs.Outgoing.{HandsBack, Takes, Writes};

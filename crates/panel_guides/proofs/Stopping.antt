@@ -1,5 +1,5 @@
 -- Why no explanation is printed.
-use Rattle.std.proofs.Common.{◌≡◌, ◌≢◌, ◌∙◌, ◌⊎◌, inl, inr, ap, arith, sym, subst, refl, ℕ, List, [], Option, Some, Result, unwrap_or}
+use Rattle.std.proofs.Common.{◌≡◌, ◌≢◌, ◌∙◌, ◌⊎◌, inl, inr, ap, arith, sym, subst, ℕ, List, [], Option, Some, Result, unwrap_or}
 use Rattle.std.specs.Prelude.{IfErr, IfSome}
 use Rattle.faults.proofs.Statuses.{memory_or_not}
 use Rattle.faults.specs.declared.fault.Fault.{Fault}

@@ -1,8 +1,7 @@
 //! What the wires of a setup tell of a counter group.
 
-ghost use Rattle.std.specs.Prelude.{◌≡◌, ◌↔◌, ◌≤◌, ℕ, IsTrue, IfSome, IfNone};
+ghost use Rattle.std.specs.Prelude.{◌≡◌, ◌↔◌, ◌≤◌, IsTrue};
 ghost use Rattle.capacity.specs.Capacities.{HasGroup, standard};
-ghost use Rattle.capacity.specs.declared.group.CounterGroup.{CounterGroup};
 ghost use Rattle.panel_plans.specs.Groups.{group_with};
 ghost use Rattle.panel_plans.specs.Shown.{CarriesTo, ShowsUnits};
 ghost use Rattle.wiring_table.specs.Parts.{panel_group};

@@ -1,6 +1,6 @@
 //! Counter groups that are too narrow for the totals that they show.
 
-ghost use Rattle.std.specs.Prelude.{◌≡◌, ◌↔◌, ◌<◌, ℕ, IfNone, IfSome, IsTrue};
+ghost use Rattle.std.specs.Prelude.{◌≡◌, ◌↔◌, ◌<◌, IfNone, IfSome, IsTrue};
 ghost use Rattle.capacity.specs.Capacities.{HasGroup, standard};
 ghost use Rattle.capacity.specs.declared.group.CounterGroup.{CounterGroup};
 ghost use Rattle.panel_plans.specs.Narrow.{IsNarrow, IsNarrowOn, NarrowFor};

@@ -8,7 +8,6 @@ ghost use Rattle.plans.specs.PartNumbers.{AreInOrder};
 ghost use Rattle.plans.specs.Plans.{IsWithinMachine, Lists, ServesChart};
 ghost use Rattle.setups.specs.Wiring.{Wiring};
 ghost use Rattle.std.specs.Option.{IsSomeAnd};
-ghost use Rattle.wanted.specs.Wanted.{parts_of};
 
 use crate::counters::{TotalUnits, shown_counter, shown_on, units_on};
 use crate::parts::shown_numbers;

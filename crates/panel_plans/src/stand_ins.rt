@@ -1,6 +1,6 @@
 //! Groups that stand in where none shows a total.
 
-ghost use Rattle.std.specs.Prelude.{◌≡◌, ◌≤◌, true, IfSome};
+ghost use Rattle.std.specs.Prelude.{◌≡◌, ◌≤◌, IfSome};
 ghost use Rattle.capacity.specs.Capacities.{HasGroup, standard};
 
 use crate::counters::TotalUnits;

@@ -1,5 +1,5 @@
 -- Zones of wheels on which the panel shows amounts.
-use Rattle.std.proofs.Common.{◌≡◌, ◌∙◌, ◌++◌, ◌∷◌, [], ap, append_assoc, ℕ, ◌+◌, ◌-◌, ◌<◌, ◌≤◌, ◌⊎◌, inl, inr, arith, refl, subst, sym, All, Bool, true, List, get_or, length, Option, None, Some, nat_le}
+use Rattle.std.proofs.Common.{◌≡◌, ◌∙◌, ◌++◌, ◌∷◌, [], ap, append_assoc, ℕ, ◌+◌, ◌-◌, ◌<◌, ◌≤◌, ◌⊎◌, inl, inr, arith, refl, subst, sym, All, true, List, get_or, length, Option, None, Some, nat_le}
 use Rattle.std.proofs.lemmas.Bool.{and_parts, cases_lt, leb-true}
 use Rattle.std.proofs.lemmas.List.Elements.{All-get_or, All-push}
 use Rattle.charts.specs.Levels.{level_number}
@@ -10,7 +10,6 @@ use Rattle.hubs.specs.declared.hub.Hub.TheVariants as hub
 use Rattle.hubs.specs.declared.jack.Jack.TheVariants.{Link}
 use Rattle.panel_reader.specs.Chains.{exit_of}
 use Rattle.panel_reader.specs.Shown.{HasUnitsOn, IsAmountWheel, IsAmountZone}
-use Rattle.panel_reader.specs.Zones.{has_wheel}
 use Rattle.panel_reader.specs.declared.totals.Counter.{Counter}
 use Rattle.panel_reader.specs.declared.totals.Total.{Total}
 use Rattle.panel_reader.specs.declared.zones.Zone.{Zone}

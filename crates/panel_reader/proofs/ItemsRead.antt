@@ -1,5 +1,5 @@
 -- What each item of a draft is, as it gains items.
-use Rattle.std.proofs.Common.{◌≡◌, [], List, Result, Ok, Err, sym, subst, All}
+use Rattle.std.proofs.Common.{◌≡◌, [], Result, Ok, Err, sym, subst, All}
 use Rattle.std.proofs.lemmas.List.Elements.{All-nil}
 use Rattle.std.specs.Prelude.{OnOk}
 use Rattle.panel_reader.proofs.ChainsGained.{chains_read}
@@ -9,7 +9,6 @@ use Rattle.panel_reader.specs.Items.{Gains, IsCardAmount, IsLiteral, IsTotalText
 use Rattle.panel_reader.specs.Reads.{AreRead, IsReadItem, amount, literal, text, total, total_text}
 use Rattle.panel_reader.specs.Zones.{IsTextOutside}
 use Rattle.panel_reader.specs.declared.draft.Draft.{Draft}
-use Rattle.panel_reader.specs.declared.draft.Item.{Item}
 use Rattle.setups.specs.Wiring.{Wiring}
 
 module _ (setup : Wiring) where

@@ -1,5 +1,5 @@
 -- Lines of a draft, and one more of them.
-use Rattle.std.proofs.Common.{◌≡◌, ◌++◌, ◌∷◌, [], List, All, subst, sym}
+use Rattle.std.proofs.Common.{◌≡◌, ◌++◌, ◌∷◌, [], List, subst, sym}
 use Rattle.std.proofs.lemmas.List.Elements.{All-push}
 use Rattle.panel_reader.specs.Lines.{AreOf, IsOf}
 use Rattle.panel_reader.specs.declared.draft.Draft.{Draft}

@@ -1,11 +1,11 @@
 -- Zones that have the wheels with LINK, and wheels beside them.
-use Rattle.std.proofs.Common.{◌≡◌, ◌∙◌, ◌++◌, ◌∷◌, [], ℕ, ◌+◌, ◌-◌, ◌<◌, ◌≤◌, ◌⊎◌, inl, inr, Bool, true, false, List, ◌||◌, ◌&&◌, nat_le, nat_lt, Option, Some, None, IfSome, arith, refl, subst, sym, true≢false}
+use Rattle.std.proofs.Common.{◌≡◌, ◌∙◌, ◌++◌, ◌∷◌, [], ℕ, ◌+◌, ◌-◌, ◌<◌, ◌≤◌, ◌⊎◌, inl, inr, Bool, true, false, List, ◌||◌, ◌&&◌, nat_le, nat_lt, Option, Some, None, IfSome, arith, subst, sym, true≢false}
 use Rattle.std.proofs.lemmas.Bool.{and_from, and_parts, cases_lt, le-leb, leb-true, lt-ltb, ltb-true, or_cases, or_left, or_right}
 use Rattle.std.proofs.lemmas.List.Folds.{list_any-append}
 use Rattle.std.specs.List.{list_any}
-use Rattle.panel_reader.specs.Zones.{CoverBelow, CoverLinks, IsInZone, IsLinked, has_both, has_wheel}
+use Rattle.panel_reader.specs.Zones.{CoverBelow, CoverLinks, IsInZone, has_both, has_wheel}
 use Rattle.panel_reader.specs.declared.zones.Zone.{Zone}
-use Rattle.setups.specs.Wiring.{HasJack, Wiring, is_plugged}
+use Rattle.setups.specs.Wiring.{Wiring, is_plugged}
 use Rattle.hubs.specs.declared.jack.Jack.TheVariants.{Link}
 
 -- what passes a test somewhere passes a wider one

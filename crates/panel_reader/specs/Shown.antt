@@ -1,8 +1,7 @@
 -- What the texts on the line of a card show: on each wheel a column.
-use Rattle.std.specs.Prelude.{◌≡◌, ◌⊎◌, ℕ, ◌+◌, ◌<◌, ◌≤◌, Bool, true, false, All, Contains, IfSome, List, Option, None, Some, slice_get}
+use Rattle.std.specs.Prelude.{◌≡◌, ◌⊎◌, ℕ, ◌+◌, ◌<◌, ◌≤◌, true, false, Contains, IfSome, List, Option, None, Some, slice_get}
 use Rattle.std.specs.List.{list_any}
 use Rattle.charts.specs.Levels.{level_number}
-use Rattle.charts.specs.declared.level.ControlLevel.{ControlLevel}
 use Rattle.charts.specs.declared.level.Level.{Level}
 use Rattle.charts.specs.declared.statement.BodyLine.TheVariants.{Detail}
 use Rattle.hubs.specs.declared.hub.Group.{Group}

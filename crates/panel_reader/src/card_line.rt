@@ -1,10 +1,9 @@
 //! What stands on the line of a card: amounts in their zones, and texts on all other wheels.
 
-ghost use Rattle.std.specs.Prelude.{◌≡◌, ℕ, false, IfOk, IfSome, OnOk};
-ghost use Rattle.std.specs.List.{list_any};
+ghost use Rattle.std.specs.Prelude.{◌≡◌, ℕ, IfOk, IfSome, OnOk};
 ghost use Rattle.panel_reader.specs.Items.{Gains, IsCardAmount};
 ghost use Rattle.panel_reader.specs.Shown.{GoesOn, GoesOnWith, IsColumnOn, IsPlainCell, IsStraight, IsTextCell, KeepsShown, RunShows, ShowsColumn, ShowsOutside};
-ghost use Rattle.panel_reader.specs.Zones.{CoverLinks, IsInZone, IsRunOutside, IsTextOutside, has_wheel};
+ghost use Rattle.panel_reader.specs.Zones.{CoverLinks, IsInZone, IsRunOutside, IsTextOutside};
 ghost use Rattle.setups.specs.Wiring.{Wiring};
 
 use crate::chains::{Sign, amount_field, sign_by};

@@ -1,6 +1,6 @@
 //! The lowest exit that leads to an entry, and the lowest entry to which an exit leads.
 
-ghost use Rattle.std.specs.Prelude.{◌≡◌, ◌↔◌, IfNone, IfSome, IsTrue};
+ghost use Rattle.std.specs.Prelude.{◌≡◌, ◌↔◌, IfNone, IfSome};
 ghost use Rattle.setups.specs.Wiring.{HasWire};
 ghost use Rattle.panel_reader.specs.Lowest.{IsLowest, IsNone, hub_in};
 

@@ -1,5 +1,5 @@
 -- Counters that are enough for totals.
-use Rattle.std.proofs.Common.{◌≡◌, ℕ, suc, zero, ◌≤◌, ◌&&◌, Bool, true, false, IsTrue, List, [], ◌∷◌, Some, length, slice_get, nat_le, refl, sym, ap, ◌∙◌, arith, ◌↔◌}
+use Rattle.std.proofs.Common.{◌≡◌, ℕ, suc, zero, ◌≤◌, ◌&&◌, Bool, true, false, IsTrue, List, [], ◌∷◌, Some, length, slice_get, refl, sym, ap, ◌∙◌, arith, ◌↔◌}
 use Rattle.std.proofs.lemmas.Bool.Decides.{nat_tests}
 use Rattle.plans.specs.Counters.{IsEnoughFor}
 use Rattle.plans.specs.declared.counter.TotalCounter.{TotalCounter}

@@ -8,7 +8,7 @@ use Rattle.std.specs.Option.{option_and_then}
 use Rattle.std.proofs.lemmas.List.FromFn.{get_or-range_with_len, length-range_with_len}
 use Rattle.std.proofs.lemmas.Option.{get_or_from_slice_get, slice_get-get_or, slice_get_within}
 use Rattle.charts.proofs.Listed.{StandsAt, position-stands, position-passing, position-within}
-use Rattle.plans.specs.PartNumbers.{AreApart, AreInOrder, AreNumbers, AreNumbersOf, AreThere, PartNumbers, count_of, last_of, number_for}
+use Rattle.plans.specs.PartNumbers.{AreApart, AreInOrder, AreNumbers, AreNumbersOf, PartNumbers, count_of, last_of, number_for}
 use Rattle.plans.specs.Plans.{IsWithinMachine}
 use Rattle.plans.specs.declared.part_numbers.PartKind.{PartKind}
 use Rattle.plans.specs.declared.part_numbers.PartKind.TheVariants as kind

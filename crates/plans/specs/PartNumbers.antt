@@ -2,6 +2,7 @@
 -- its own. Those that have no thing are idle.
 use Rattle.std.specs.Prelude.{◌≡◌, ℕ, ◌≤◌, List, Option, Some, Bool, length, position, option_and_then, slice_get}
 use Rattle.std.specs.List.{range_with_len}
+use Rattle.capacity.specs.Capacities.{standard}
 use Rattle.charts.specs.declared.level.ControlLevel.TheVariants as control
 use Rattle.plans.specs.declared.part_numbers.PartKind.{PartKind}
 use Rattle.plans.specs.declared.part_numbers.PartKind.TheVariants as kind
@@ -37,11 +38,11 @@ count_of parts (kind.Indicate level) = length (indicate_at parts level)
 
 -- how many parts of a kind the standard machine has
 abbrev pub last_of : PartKind → ℕ
-last_of kind.Pilot = 16
-last_of kind.Comparing = 30
-last_of kind.Storage = 4
-last_of kind.Split = 16
-last_of (kind.Indicate level) = 30
+last_of kind.Pilot = standard.pilots
+last_of kind.Comparing = standard.comparing
+last_of kind.Storage = standard.storage
+last_of kind.Split = standard.splits
+last_of (kind.Indicate level) = standard.indicate
 
 -- a machine that has so many parts of a kind has each of these
 abbrev pub AreThere : (last : ℕ) → List ℕ → Type 0

@@ -1,11 +1,11 @@
--- Numbers of parts of which those of one kind are others.
+-- The numbers of the parts that serve, with those of one kind replaced.
 use Rattle.std.specs.Prelude.{ℕ, List}
 use Rattle.charts.specs.declared.level.ControlLevel.TheVariants as control
 use Rattle.plans.specs.PartNumbers.{PartNumbers}
 use Rattle.plans.specs.declared.part_numbers.PartKind.{PartKind}
 use Rattle.plans.specs.declared.part_numbers.PartKind.TheVariants as kind
 
--- these numbers, but of one kind others
+-- these numbers, with others in the place of those of one kind
 abbrev pub renumbered : PartNumbers → PartKind → (others : List ℕ) → PartNumbers
 renumbered numbers kind.Pilot others = record numbers { pilots = others }
 renumbered numbers kind.Comparing others = record numbers { comparing = others }

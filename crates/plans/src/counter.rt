@@ -1,7 +1,6 @@
 //! What serves a total.
 
 ghost use Rattle.std.specs.Prelude.{◌≡◌, ◌↔◌, IsTrue};
-ghost use Rattle.capacity.specs.Capacities.{HasGroup};
 ghost use Rattle.plans.specs.Counters.{HasCounter, IsGroupOf, SharesGroup, single_group};
 ghost use Rattle.plans.specs.HelperEnough.{is_enough};
 

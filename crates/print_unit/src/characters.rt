@@ -1,11 +1,9 @@
 //! The character of each set of rows, made once so that a line is read off.
 
-ghost use Rattle.std.specs.Prelude.{◌≡◌, ℕ, ◌<◌, length, slice_index_or};
-ghost use Rattle.print_unit.specs.RowSets.{rows_in, HasCharacters};
-ghost use Rattle.print_unit.specs.ZeroControl.{character_of, received_set};
+ghost use Rattle.std.specs.Prelude.{◌≡◌};
+ghost use Rattle.print_unit.specs.RowSets.{HasCharacters};
 
-use card_code::{Column, ROWS};
-use net::has_bit;
+use card_code::Column;
 
 // How many sets of the twelve rows there are.
 const SETS: usize = 4096;
@@ -42,20 +40,6 @@ fn fill(characters: &mut [u8; SETS])
     ensures { HasCharacters 4096 characters.new }
 {
     for set in 0..SETS {
-        characters[set] = column_of(set).print_character();
+        characters[set] = Column::of_set(set as u16).print_character();
     }
-}
-
-// The rows of a set.
-fn column_of(set: usize) -> Column
-    requires { set < 4096 }
-    ensures { result ≡ received_set (rows_in set) }
-{
-    let mut column = Column::blank();
-    for i in (0..12).rev() {
-        if has_bit(set as u128, i) {
-            column = column.with_row(ROWS[i]);
-        }
-    }
-    column
 }

@@ -1,15 +1,13 @@
 -- What the laws rest on, for those who use them: the totals of unsigned amounts, and the texts on total lines.
-use Rattle.std.proofs.Common.{◌≡◌, ◌∙◌, refl, sym, ap, ap₂, subst, ℕ, pos, ◌+ℤ◌, ◌+◌, false, List, [], ◌∷◌, Some, None}
+use Rattle.std.proofs.Common.{◌≡◌, ◌∙◌, refl, sym, ap, ap₂, ℕ, pos, ◌+ℤ◌, ◌+◌, false, List, [], ◌∷◌, Some, None}
 use Rattle.std.specs.Int.{is_negative}
 use Rattle.std.proofs.Math.IntN.{pos-+ℤ-pos}
 use Rattle.wiring_table.specs.Below.charts.declared.statement.Field.{Field}
 use Rattle.wiring_table.specs.Below.charts.declared.statement.FieldKind.{FieldKind}
 use Rattle.wiring_table.specs.Below.charts.declared.statement.FieldKind.TheVariants as holds
-use Rattle.wiring_table.specs.Below.charts.Field.{is_amount}
 use Rattle.wiring_table.specs.Below.chart_rules.declared.rule.Rule.TheVariants as rule
 use Rattle.wiring_table.specs.Below.line_rules.FieldRules.Fields.{fields_of, field_named}
 use Rattle.wiring_table.specs.Below.line_rules.FieldRules.Names.{breaks_wrong_kind, names_amount}
-use Rattle.wiring_table.specs.Below.chart_rules.ValidCard.{IsValidKind}
 use Rattle.wiring_table.proofs.Below.chart_rules.Laws.{kept-line, text-valid}
 use Rattle.wiring_table.specs.Below.report.Amounts.{is_negated, number_in, digits_on, signed}
 use Rattle.wiring_table.specs.Below.report.Totals.{total_of}

@@ -40,8 +40,7 @@ impl Model for Program {
 }
 
 impl Program {
-    ghost use Rattle.std.specs.Prelude.{◌≡◌, Option};
-    ghost use Rattle.net.specs.declared.cycle.ProgramLevel.{ProgramLevel};
+    ghost use Rattle.std.specs.Prelude.{◌≡◌};
     ghost use Rattle.program_unit.specs.Program.{program_at_start};
     ghost use Rattle.program_unit.specs.CycleOrder.{
       is_fresh,

@@ -1,7 +1,7 @@
 -- What the lines of a chart say of its form: the form, the spacings, what follows lines, and the stops of channels. Where the chart has
 -- it, a line says it.
-use Rattle.std.proofs.Common.{◌≡◌, ◌∙◌, refl, sym, ap, ℕ, ◌≤◌, ◌==◌, ◌||◌, ◌⊎◌, inl, inr, Bool, true, false, List, [], ◌∷◌, Some, if◌then◌else◌, arith}
-use Rattle.std.specs.List.{Contains, list_any}
+use Rattle.std.proofs.Common.{◌≡◌, ◌∙◌, refl, ap, ℕ, ◌≤◌, ◌==◌, ◌||◌, ◌⊎◌, inl, inr, Bool, true, false, List, [], ◌∷◌, Some, if◌then◌else◌, arith}
+use Rattle.std.specs.List.{Contains}
 use Rattle.std.proofs.lemmas.Bool.Decides.{nat_tests}
 use Rattle.chart_rules.specs.Below.charts.Spacings.{spacing_number}
 use Rattle.chart_rules.specs.Below.charts.declared.chart.Line.{Line}
@@ -10,7 +10,7 @@ use Rattle.chart_rules.specs.Below.charts.declared.statement.After.{After}
 use Rattle.chart_rules.specs.Below.charts.declared.statement.BodyLine.{BodyLine}
 use Rattle.chart_rules.specs.Below.charts.declared.statement.Statement.{Statement}
 use Rattle.chart_rules.specs.Below.charts.declared.statement.Statement.TheVariants as says
-use Rattle.chart_rules.proofs.Below.charts.Listed.{listed-first, listed-after, any-passing}
+use Rattle.chart_rules.proofs.Below.charts.Listed.{listed-first, listed-after}
 use Rattle.chart_rules.specs.Below.line_rules.PrintRules.Forms.{has_form, is_form}
 use Rattle.report.specs.ChartForm.{after_from, after_of, form_from, form_of, kind_number, spacing_from, spacing_of, stops_from, stops_of}
 

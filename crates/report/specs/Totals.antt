@@ -1,6 +1,6 @@
 -- Totals, and the decks that fit. The total of an amount over a group is the sum of its values on the group's cards. A deck fits where
 -- each total that a total line shows has no more digits than the line gives it, for each group of the line's level.
-use Rattle.std.specs.Prelude.{◌≡◌, ℕ, ℤ, pos, ◌+ℤ◌, ◌^◌, ◌<◌, List, [], ◌∷◌, Option, Some, unsigned_abs}
+use Rattle.std.specs.Prelude.{◌≡◌, ℕ, ℤ, pos, ◌+ℤ◌, ◌^◌, ◌<◌, List, [], ◌∷◌, Some, unsigned_abs}
 use Rattle.std.specs.List.{All, Contains}
 use Rattle.chart_rules.specs.Below.charts.Levels.{level_number}
 use Rattle.chart_rules.specs.Below.charts.declared.chart.Line.{Line}

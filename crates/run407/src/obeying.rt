@@ -5,9 +5,9 @@ use crate::folds::fold;
 use crate::output::Output;
 use crate::running::waiting_pages;
 use crate::watched::Watched;
-use crate::words::tell_waiting;
+use crate::words::{tell_checked, tell_waiting};
 use browser_pages::show_to_end;
-use check_calls::{check_deck_to_end, check_groups_to_end, show_deck_to_end};
+use check_calls::{print_check, print_grouped, print_shown};
 use command_line::Wanted;
 use commands::{
     Command, Ending, Fault, chart_and_deck, read_whole, replay_by_orders_to_end, run_to_end,
@@ -61,7 +61,7 @@ pub fn obey<'a>(rt: &HostRuntime, wanted: Wanted<'a>) -> Result<Ending, Fault<'a
         Wanted::CheckDeck { chart, deck } => {
             let text = read(rt, chart)?;
             let cards = open(rt, deck)?;
-            check_deck_to_end(alloc, text.as_slice(), cards, out, faults)
+            tell_checked(rt, print_check(alloc, text.as_slice(), cards, out))
         }
         Wanted::ShowDeck { chart, deck } => {
             let text = read(rt, chart)?;
@@ -70,13 +70,13 @@ pub fn obey<'a>(rt: &HostRuntime, wanted: Wanted<'a>) -> Result<Ending, Fault<'a
                 list_text_to_end(alloc, text, out, faults)
             } else {
                 let cards = open(rt, deck)?;
-                show_deck_to_end(alloc, text, deck, cards, out, faults)
+                tell_checked(rt, print_shown(alloc, text, deck, cards, out))
             }
         }
         Wanted::GroupDeck { chart, deck } => {
             let text = read(rt, chart)?;
             let cards = open(rt, deck)?;
-            check_groups_to_end(alloc, text.as_slice(), deck, cards, out, faults)
+            tell_checked(rt, print_grouped(alloc, text.as_slice(), deck, cards, out))
         }
         Wanted::Layout { chart } => {
             let text = read(rt, chart)?;

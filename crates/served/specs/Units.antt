@@ -1,5 +1,5 @@
 -- The units of a machine, all of one kind. They are numbered from 1 up to their count.
-use Rattle.std.specs.Prelude.{◌≡◌, ℕ, zero, suc, ◌≤◌, ◌||◌, Bool, true, false}
+use Rattle.std.specs.Prelude.{◌≡◌, ℕ, zero, suc, ◌≤◌, ◌||◌, Bool, false}
 use Rattle.hubs.specs.declared.hub.Hub.{Hub}
 use Rattle.net.specs.declared.cycle.Cycle.{Cycle}
 use Rattle.net.specs.declared.cycle.Point.{Point}

@@ -1,6 +1,6 @@
 //! Orders in which the units of the machine are served.
 
-ghost use Rattle.std.specs.Prelude.{◌≡◌, ◌↔◌, ◌≤◌, ◌<◌, ℕ, true, false, Contains, IfOk, IsOk, map};
+ghost use Rattle.std.specs.Prelude.{◌≡◌, ◌↔◌, ◌≤◌, ◌<◌, ℕ, true, IfOk, IsOk};
 ghost use Rattle.std.specs.Prelude.{All};
 ghost use Rattle.served.specs.Orders.{AreOrders, IsOrder, NamesAll, lists_of, unit_count};
 

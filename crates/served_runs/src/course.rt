@@ -38,7 +38,7 @@ pub(crate) struct Course {
 impl Course {
     ghost use Rattle.std.specs.Prelude.{◌≡◌, ◌≢◌, ◌↔◌, ◌<◌, ◌≤◌, ◌||◌, ◌+◌, ◌-◌, ◌*◌, ℕ, true};
     ghost use Rattle.served.specs.Orders.{IsOrder, unit_count};
-    ghost use Rattle.served.specs.Steps.{AreOver, Emits, HasEmitted, MayEmit, MaySense, Senses, Starts};
+    ghost use Rattle.served.specs.Steps.{AreOver, Emits, HasEmitted, MayEmit, MaySense, Starts};
     ghost use Rattle.served.specs.Units.{IsUnit};
     ghost use Rattle.net.specs.HubSets.{has_hub, is_bit};
     ghost use Rattle.net.specs.Impulsed.{IsPicture};

@@ -1,7 +1,6 @@
 //! A cycle, in rounds by the orders of a service.
 
 ghost use Rattle.std.specs.Prelude.{◌≤◌, ◌<◌, ◌+◌, ◌^◌};
-ghost use Rattle.served.specs.Orders.{unit_count};
 ghost use Rattle.served_runs.specs.Course.{IsPanelOf};
 ghost use Rattle.served_runs.specs.Runs.{CycleInRounds, most_rounds, most_seen};
 ghost use Rattle.setups.specs.Wiring.{Wiring};

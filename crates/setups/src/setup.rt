@@ -2,7 +2,7 @@
 
 ghost use Rattle.std.specs.Prelude.{◌≡◌, ◌<◌, OnOk, OnErr, Some, vec_len};
 ghost use Rattle.setups.specs.Rows.{SameRows, RowGains};
-ghost use Rattle.hubs.specs.Carries.{are_alike, do_carries_agree, may_carry};
+ghost use Rattle.hubs.specs.Carries.{do_carries_agree, may_carry};
 
 use crate::fault::SetupFault;
 use crate::tape::Tape;
@@ -49,7 +49,6 @@ impl Model for Setup {
 impl Setup {
     ghost use Rattle.std.specs.Prelude.{◌≡◌, ◌≢◌, ◌≤◌, ◌↔◌, ℕ, true, false, not, All, Some, Contains, IsTrue};
     ghost use Rattle.std.specs.Prelude.{Ok, IsOk, IsErrOf, IfErr, IsOkUnless, OnOk, OnErr};
-    ghost use Rattle.hubs.specs.Carries.{do_carries_agree};
     ghost use Rattle.hubs.specs.Hubs.{number_of, is_exit_hub, is_entry_hub, is_hub_in_range};
     ghost use Rattle.hubs.specs.declared.hub.Group.{Group};
     ghost use Rattle.hubs.specs.declared.hub.Hub.TheVariants.{CO};

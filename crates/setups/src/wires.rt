@@ -1,6 +1,6 @@
 //! The wires of a setup, one by one.
 
-ghost use Rattle.std.specs.Prelude.{◌≡◌, ◌≤◌, ◌↔◌, true, All, Contains, IfOk, IsTrue, OnOk};
+ghost use Rattle.std.specs.Prelude.{◌≡◌, ◌≤◌, ◌↔◌, All, Contains, IfOk, IsTrue, OnOk};
 ghost use Rattle.setups.specs.Wires.{AreWiresOf, GainsWires, IsWireFrom, IsWireTo, IsWireToAny};
 
 use crate::setup::Setup;

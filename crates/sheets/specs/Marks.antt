@@ -1,5 +1,5 @@
 -- A line of a deck as it stands, with a mark under one of its columns.
-use Rattle.std.specs.Prelude.{ℕ, ◌-◌, ◌&&◌, ◌||◌, ◌==◌, Bool, false, Option, None, Some, List, [], ◌++◌, codes, map, nat_le, nat_lt, replicate, take, if◌then◌else◌}
+use Rattle.std.specs.Prelude.{ℕ, ◌-◌, ◌&&◌, ◌||◌, ◌==◌, Bool, false, Option, None, Some, List, [], ◌++◌, codes, map, nat_le, replicate, take, if◌then◌else◌}
 use Rattle.std.specs.List.{flat_map}
 use Rattle.chart_rules.specs.Below.charts.Field.{sign_column}
 use Rattle.chart_rules.specs.Below.charts.Name.{name_text}

@@ -1,11 +1,8 @@
 //! What the fields of a chart read on a card.
 
-ghost use Rattle.std.specs.Prelude.{◌≡◌, ◌++◌, ◌-◌, ◌<◌, ◌≤◌, ◌/◌, ◌%◌, ◌^◌, OnOk, map, true};
-ghost use Rattle.std.specs.Int.{is_negative};
-ghost use Rattle.chart_rules.specs.Below.charts.Field.{decimals_of, is_amount};
+ghost use Rattle.std.specs.Prelude.{◌≡◌, ◌++◌, ◌-◌, ◌<◌, ◌≤◌, ◌/◌, ◌%◌, ◌^◌, OnOk, map};
 ghost use Rattle.chart_rules.specs.HelperOnCard.{IsOnCard};
 ghost use Rattle.chart_rules.specs.Below.line_rules.FieldRules.Fields.{fields_of};
-ghost use Rattle.misfits.specs.HelperAmounts.{IsGoodAmount};
 ghost use Rattle.report.specs.BodyLines.{text_on};
 ghost use Rattle.report.specs.Edits.{figure, last_digits};
 ghost use Rattle.sheets.specs.Fields as told;

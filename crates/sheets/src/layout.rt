@@ -1,6 +1,6 @@
 //! The layout of a chart.
 
-ghost use Rattle.std.specs.Prelude.{◌≡◌, ◌++◌, OnOk, is_some};
+ghost use Rattle.std.specs.Prelude.{◌≡◌, ◌++◌, OnOk};
 ghost use Rattle.sheets.specs.Layout as layout;
 
 use crate::items::write_items;

@@ -1,6 +1,6 @@
 //! Rules of the style sheet that mark the printed character of which the explanation is shown.
 
-ghost use Rattle.std.specs.Prelude.{◌≡◌, ◌++◌, codes, decimal, OnOk};
+ghost use Rattle.std.specs.Prelude.{◌≡◌, ◌++◌, OnOk};
 ghost use Rattle.std.specs.String.{string_bytes};
 ghost use Rattle.show_page.specs.Frame.{IsStyle};
 ghost use Rattle.show_page.specs.Marks.{page_rule, page_rules, rule_behind};

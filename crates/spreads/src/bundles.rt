@@ -1,6 +1,6 @@
 //! Wires by the sixteen places from which they lead. Only those of places that have rows are followed.
 
-ghost use Rattle.std.specs.Prelude.{◌<◌, ◌≤◌, All, IfOk, length};
+ghost use Rattle.std.specs.Prelude.{◌<◌, ◌≤◌, All, IfOk};
 ghost use Rattle.spreads.specs.Blocks.{LeadFrom, LeadTo};
 ghost use Rattle.spreads.specs.Bundles.{IsBundle, IsBundleOf, LeadFromSixteen, links_of_bundles};
 ghost use Rattle.spreads.specs.Links.{IsInRange, Spreads};

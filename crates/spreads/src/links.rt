@@ -1,7 +1,7 @@
 //! Wires one by one, and sets of rows that are spread along them.
 
-ghost use Rattle.std.specs.Prelude.{◌≡◌, ◌+◌, ◌<◌, ◌≤◌, ◌/◌, ℕ, List, All, IfOk, OnOk, true, false, drop, length, take};
-ghost use Rattle.spreads.specs.Links.{AreSkips, HasExitsOf, IsFollowed, IsInRange, IsSkip, Spreads, has_at};
+ghost use Rattle.std.specs.Prelude.{◌≡◌, ◌+◌, ◌<◌, ◌≤◌, ◌/◌, ℕ, All, IfOk, true, false, length};
+ghost use Rattle.spreads.specs.Links.{AreSkips, IsFollowed, IsInRange, IsSkip, Spreads, has_at};
 
 use crate::lanes::{LANES, are_empty, eight_from};
 use crate::sets::PANEL_PLACES;

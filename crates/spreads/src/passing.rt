@@ -1,7 +1,6 @@
 //! Contacts one by one, and the rows that they pass on while they are closed.
 
 ghost use Rattle.std.specs.Prelude.{◌≡◌, ℕ, ◌<◌, ◌≤◌, ◌&&◌, List, All, false, length, take};
-ghost use Rattle.std.specs.List.{list_any};
 ghost use Rattle.bit_sets.specs.Bits.{is_bit};
 ghost use Rattle.spreads.specs.Links.{AreSkips, HasEntriesOf, IsPassing, is_led_to};
 ghost use Rattle.spreads.specs.Passing.{IsPassed, Passes, SameSets, is_closed_at};

@@ -1,8 +1,8 @@
 //! Wires, and the contacts to which they lead, parted as sets of rows are spread along them.
 
 ghost use Rattle.std.specs.Prelude.{◌≡◌, All, IfOk, OnOk};
-ghost use Rattle.bit_sets.specs.Contacts.{is_any_contact, is_contact};
-ghost use Rattle.spreads.specs.Links.{HasRoom, IsInRange, IsPassing, is_led_to};
+ghost use Rattle.bit_sets.specs.Contacts.{is_contact};
+ghost use Rattle.spreads.specs.Links.{HasRoom, IsInRange, IsPassing};
 ghost use Rattle.spreads.specs.Passing.{AddsContacts};
 ghost use Rattle.spreads.specs.Paths.{AreContactsOf, IsBeyond, links_behind, links_elsewhere};
 ghost use Rattle.spreads.specs.Ribbons.{LeadAlike};

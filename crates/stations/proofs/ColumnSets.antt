@@ -1,8 +1,8 @@
 -- The columns of a card as sets of rows by their places among the points.
-use Rattle.std.proofs.Common.{◌≡◌, ◌≢◌, ◌∙◌, ◌⊎◌, ℕ, zero, suc, ◌+◌, ◌<◌, ◌≤◌, arith, refl, sym, ap, inl, inr, Bool, true, false, ◌==◌, ◌&&◌, nat_lt, List, [], ◌∷◌, length, replicate, slice_index, slice_index_or, slice_set, Option, Some, None}
+use Rattle.std.proofs.Common.{◌≡◌, ◌≢◌, ◌∙◌, ◌⊎◌, ℕ, ◌+◌, ◌<◌, ◌≤◌, arith, refl, sym, ap, inl, inr, Bool, true, false, ◌==◌, ◌&&◌, nat_lt, List, [], length, replicate, slice_index, slice_index_or, slice_set, Option, Some, None}
 use Rattle.std.proofs.lemmas.Bool.Decides.{eqb_tells, nat_tests}
 use Rattle.std.proofs.lemmas.List.{get_or-replicate, get_or-set_same, get_or-set_other, get_or_past, length-set}
-use Rattle.card_code.specs.Rows.{is_row_set, passing_place}
+use Rattle.card_code.specs.Rows.{passing_place}
 use Rattle.card_code.specs.declared.row.Row.{Row}
 use Rattle.card_code.specs.declared.row.Row.TheVariants.{Zero}
 use Rattle.hub_table.specs.Ranges.{is_within}
@@ -12,84 +12,12 @@ use Rattle.net.proofs.SetLemmas.{sets-row}
 use Rattle.net.specs.HubSets.{is_bit}
 use Rattle.net.specs.HubRows.{has_at}
 use Rattle.net.specs.RowSets.{is_in_sets}
-use Rattle.stations.specs.Columns.{column_of, HasColumns}
 use Rattle.stations.specs.Comparing.{positions}
 use Rattle.stations.specs.Punches.{is_punched_at, AreColumnsAt, AreRowsAt, IsRowAt}
 use Rattle.stations.specs.Stations.{first_emits, second_emits}
 use Rattle.stations.proofs.PositionWords.{is_bit-positions}
 use Rattle.stations.proofs.RowHubs.{first_row, second_row}
 use Rattle.stations.proofs.RowWords.{no_bit}
-
--- what is read within a list, whatever stands for none
-at-default : (columns : List ℕ) (k d : ℕ) → k < length columns → slice_index_or columns k d ≡ slice_index columns k
-at-default [] k d inside = absurd (omega (arith, inside))
-at-default (column ∷ columns) zero d inside = refl
-at-default (column ∷ columns) (suc k) d inside = at-default columns k d (omega (arith, inside))
-
--- a column that is read is the card's
-pub column-read : (columns card : List ℕ) (k d column : ℕ) → columns ≡ card → length columns ≡ 80 → k < 80
-    → column ≡ slice_index_or columns k d → column ≡ slice_index card k
-column-read columns card k d column same long below read =
-    read ∙ at-default columns k d (omega (arith, long, below)) ∙ ap (λ (cs : List ℕ). slice_index cs k) same
-
--- no column of a card is done
-pub columns-first : (card columns : List ℕ) → length columns ≡ 80 → HasColumns 0 card columns
-columns-first card columns whole = record { long = whole; done = λ k less. absurd (omega (arith, less)) }
-
--- a column more is done
-pub columns-next : (count set column : ℕ) (card columns : List ℕ) → count < 80
-    → column ≡ slice_index card count → column_of set ≡ column
-    → HasColumns count card columns → HasColumns (count + 1) card (slice_set columns count set)
-columns-next count set column card columns below is again before = record { long = length-kept; done = λ k less. by k less (eqb_tells k count) }
-  where
-    length-kept : length (slice_set columns count set) ≡ 80
-    length-kept = length-set columns count set ∙ before.long
-
-    by : (k : ℕ) → k < count + 1 → ((k == count) ≡ true) × (k ≡ count) ⊎ ((k == count) ≡ false) × (k ≢ count)
-        → column_of (slice_index_or (slice_set columns count set) k 0) ≡ slice_index card k
-    by k less (inl same) =
-        let long = before.long in
-        ap column_of
-        (ap (λ (j : ℕ). slice_index_or (slice_set columns count set) j 0) same.1 ∙ get_or-set_same columns count set 0 (omega (arith, long, below)))
-        ∙ again ∙ is ∙ ap (λ (j : ℕ). slice_index card j) (sym same.1)
-    by k less (inr other) =
-        let apart = other.1 in
-        ap column_of (get_or-set_other columns count k set 0 apart) ∙ before.done k (omega (arith, less, apart))
-
--- the rows of eight columns, so far
-pub record AreRowsFrom (punched : List ℕ) (from count : ℕ) (rows : List ℕ) : Type 0 where
-  pub long : length rows ≡ 8
-  pub done : (k : ℕ) → k < count → slice_index_or rows k 0 ≡ slice_index punched (from + k)
-  pub lawful : (k : ℕ) → k < count → is_row_set (slice_index_or rows k 0) ≡ true
-
-pub rows-first : (punched : List ℕ) (from : ℕ) → AreRowsFrom punched from 0 (replicate 8 0)
-rows-first punched from = record { long = refl; done = λ k less. absurd (omega (arith, less)); lawful = λ k less. absurd (omega (arith, less)) }
-
-pub rows-next : (punched : List ℕ) (from count set : ℕ) (rows : List ℕ) → count < 8 → set ≡ slice_index punched (from + count)
-    → is_row_set set ≡ true → AreRowsFrom punched from count rows → AreRowsFrom punched from (count + 1) (slice_set rows count set)
-rows-next punched from count set rows below is good before = record {
-  long = length-set rows count set ∙ before.long;
-  done = λ k less. by k less (eqb_tells k count);
-  lawful = λ k less. well k less (eqb_tells k count);
-}
-  where
-    here : (k : ℕ) → k ≡ count → slice_index_or (slice_set rows count set) k 0 ≡ set
-    here k same =
-        let long = before.long in
-        ap (λ (j : ℕ). slice_index_or (slice_set rows count set) j 0) same ∙ get_or-set_same rows count set 0 (omega (arith, long, below))
-
-    by : (k : ℕ) → k < count + 1 → ((k == count) ≡ true) × (k ≡ count) ⊎ ((k == count) ≡ false) × (k ≢ count)
-        → slice_index_or (slice_set rows count set) k 0 ≡ slice_index punched (from + k)
-    by k less (inl same) = here k same.1 ∙ is ∙ ap (λ (j : ℕ). slice_index punched (from + j)) (sym same.1)
-    by k less (inr other) =
-        let apart = other.1 in get_or-set_other rows count k set 0 apart ∙ before.done k (omega (arith, less, apart))
-
-    well : (k : ℕ) → k < count + 1 → ((k == count) ≡ true) × (k ≡ count) ⊎ ((k == count) ≡ false) × (k ≢ count)
-        → is_row_set (slice_index_or (slice_set rows count set) k 0) ≡ true
-    well k less (inl same) = ap is_row_set (here k same.1) ∙ good
-    well k less (inr other) =
-        let apart = other.1 in
-        ap is_row_set (get_or-set_other rows count k set 0 apart) ∙ before.lawful k (omega (arith, less, apart))
 
 -- a row's place is one of twelve
 place_below : (row : Row) → passing_place row < 12

@@ -3,9 +3,7 @@ pub mod PositionWords
 pub mod RowWords
 pub mod RowHubs
 pub mod RowMasks
-mod EightSets
 mod FourRows
-pub mod MovedRows
 pub mod ColumnSets
 pub mod KeptColumns
 pub mod CollectedSets

@@ -1,6 +1,6 @@
 -- What is kept of the cards at the stations: the sets of rows of their columns, by the places of the rows among the points.
 use Rattle.std.specs.Prelude.{ℕ, ◌-◌, Bool, true, false, List, [], map, Option, Some, None, slice_index_or}
-use Rattle.stations.specs.Columns.{column_of}
+use Rattle.card_code.specs.Columns.{column_of}
 use Rattle.stations.specs.Stations.{StationCards}
 
 -- the card whose columns have these sets, where there is one

@@ -4,6 +4,5 @@ pub mod Comparing
 pub mod Words
 pub mod Laws
 pub mod Kept
-pub mod Columns
 pub mod Kinds
 pub mod OwnHubs

@@ -1,7 +1,7 @@
 //! A storage unit: it holds 16 columns from cycle to cycle.
 
 ghost use Rattle.std.specs.Prelude.{◌≡◌, ◌≤◌, ◌<◌};
-ghost use Rattle.net.specs.HubSets.{has_hub, is_bit};
+ghost use Rattle.net.specs.HubSets.{has_hub};
 ghost use Rattle.storage_units.specs.Storage.{columns_in};
 
 use crate::all_rows::{columns_of, has_bit, rows_of};

@@ -1,6 +1,6 @@
 //! A run between two cards.
 
-ghost use Rattle.std.specs.Prelude.{◌≡◌, ℕ, ◌+◌, ◌<◌, ◌≤◌, List, [], ◌∷◌, ◌++◌, Option, Some, None, length, true, false, IfErr, IfOk, IfSome, IfNone, MatchResult, OnOk, option_map};
+ghost use Rattle.std.specs.Prelude.{◌≡◌, ℕ, ◌+◌, ◌<◌, ◌≤◌, List, [], ◌∷◌, ◌++◌, Some, None, length, true, false, IfErr, IfOk, IfSome, IfNone, MatchResult, OnOk, option_map};
 ghost use Rattle.std.specs.Io.KnownBytes.{IsAtEnd};
 ghost use Rattle.card_code.specs.MostCards.{most_cards};
 ghost use Rattle.card_lines.specs.declared.fault.ReadFault.TheVariants as read;

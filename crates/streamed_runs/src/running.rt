@@ -2,10 +2,9 @@
 
 ghost use Rattle.std.specs.Prelude.{◌≡◌, ℕ, true, IfErr, MatchResult, OnOk};
 ghost use Rattle.card_lines.specs.declared.fault.ReadFault.TheVariants as read;
-ghost use Rattle.page_writer.specs.Outgoing.{Breaks, TakesUp};
 ghost use Rattle.streamed_runs.specs.PrintPromises.Promises.{BeginsReport, PrintsReport};
 ghost use Rattle.report.specs.ChartForm.{form_of};
-ghost use Rattle.streamed_runs.specs.HelperStanding.{Ends, IsUnbegun, PutsOut, Serves, Stops, start_of};
+ghost use Rattle.streamed_runs.specs.HelperStanding.{IsUnbegun, PutsOut, Serves};
 ghost use Rattle.streamed_runs.specs.Runs.{RunsToEnd, StopsShort};
 ghost use Rattle.streamed_runs.specs.declared.fault.StreamCause.TheVariants as cause;
 

@@ -1,6 +1,6 @@
 //! The two cards between which a total was printed.
 
-ghost use Rattle.std.specs.Prelude.{◌≡◌, ◌<◌, ◌+◌, ◌^◌, ◌++◌, codes, OnOk};
+ghost use Rattle.std.specs.Prelude.{◌≡◌, ◌<◌, ◌+◌, ◌^◌, ◌++◌, OnOk};
 ghost use Rattle.std.specs.String.{string_bytes};
 ghost use Rattle.sum_sections.specs.Between.{card_at, card_front, card_picture, cards_between, picture_open};
 

@@ -1,7 +1,6 @@
 //! Into which sums something went.
 
-ghost use Rattle.std.specs.Prelude.{◌≡◌, ◌++◌, codes, OnOk};
-ghost use Rattle.std.specs.List.{flat_map};
+ghost use Rattle.std.specs.Prelude.{◌≡◌, ◌++◌, OnOk};
 ghost use Rattle.std.specs.String.{string_bytes};
 ghost use Rattle.sum_sections.specs.Into.{card_link, card_sums, has_card, has_entry, higher_link, higher_sums, into_words, is_card_cycle, is_of_card, sum_link, takes, takes_card};
 

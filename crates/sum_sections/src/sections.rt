@@ -1,7 +1,6 @@
 //! The elements of sums.
 
-ghost use Rattle.std.specs.Prelude.{◌≡◌, ◌++◌, codes, IfOk, OnOk};
-ghost use Rattle.std.specs.List.{flat_map};
+ghost use Rattle.std.specs.Prelude.{◌≡◌, ◌++◌, IfOk, OnOk};
 ghost use Rattle.std.specs.String.{string_bytes};
 ghost use Rattle.ledgers.specs.LedgerText.Names.{cycle_text};
 ghost use Rattle.sum_sections.specs.Sections.{back_text, before_text, behind_text, first_sum, front_text, head_text, open_text, section_text, sum_sections_text, sum_entry, sum_words, why_some, why_text, why_words};

@@ -1,6 +1,6 @@
 //! To what an entry of a sum links.
 
-ghost use Rattle.std.specs.Prelude.{◌≡◌, ◌++◌, codes, OnOk};
+ghost use Rattle.std.specs.Prelude.{◌≡◌, ◌++◌, OnOk};
 ghost use Rattle.std.specs.String.{string_bytes};
 ghost use Rattle.sum_sections.specs.Targets.{lower_sum, same_amount, target_close, target_of, target_open};
 

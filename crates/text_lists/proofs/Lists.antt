@@ -3,7 +3,6 @@ use Rattle.std.proofs.Common.{◌≡◌, ℕ, ◌<◌, ◌≤◌, get_or, length
 use Rattle.std.specs.Io.KnownBytes.{Appends}
 use Rattle.faults.specs.declared.fault.Fault.{Fault}
 use Rattle.setups.specs.Wiring.{Wiring}
-use Rattle.wiring_fault_words.specs.Entries.{wiring_list}
 use Rattle.wiring_slips.specs.Faulty.{AreFaults, enough, reads, last, next}
 use Rattle.wiring_text.specs.WiringFaults.{HasWiringFault}
 use Rattle.wiring_text.specs.WiringText.{ReadsAs}

@@ -1,7 +1,6 @@
 //! The list of all faults of a text.
 
 ghost use Rattle.std.specs.Prelude.{◌≡◌, ◌⊎◌, true, false, IfErr, OnOk};
-ghost use Rattle.std.specs.Io.KnownBytes.{Appends};
 ghost use Rattle.faults.specs.Lines.{IsTold};
 ghost use Rattle.faults.specs.Status.{status_of};
 ghost use Rattle.panel_guides.specs.Panels.{is_wiring_text};

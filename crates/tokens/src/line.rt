@@ -1,11 +1,10 @@
 //! Dividing a line into its tokens.
 
-ghost use Rattle.std.specs.Prelude.{◌≡◌, ◌≢◌, ◌+◌, ◌<◌, ◌≤◌, ℕ, List, ◌==◌, not, length, slice_index, option_map, IfOk, IfSome, IfNone};
+ghost use Rattle.std.specs.Prelude.{◌≡◌, ◌≢◌, ◌+◌, ◌<◌, ◌≤◌, ℕ, List, ◌==◌, length, slice_index, option_map, IfOk, IfSome, IfNone};
 ghost use Rattle.std.specs.List.{prefix_len};
 ghost use Rattle.tokens.specs.Tokens.{HasTokens, is_plain, is_inside};
 ghost use Rattle.tokens.specs.Texts.{texts};
-ghost use Rattle.tokens.specs.Dividing.{tokens_of, tokens_from, first_then, is_space, is_apart};
-ghost use Rattle.tokens.specs.Dividing.{in_plain};
+ghost use Rattle.tokens.specs.Dividing.{tokens_of, first_then, is_space, is_apart};
 
 use std::alloc::{AllocError, Global};
 

@@ -1,6 +1,6 @@
 //! The numbers that tokens are.
 
-ghost use Rattle.std.specs.Prelude.{◌≡◌, ◌+◌, ◌-◌, ◌*◌, ◌<◌, ◌≤◌, ℕ, List, IfSome, IfNone};
+ghost use Rattle.std.specs.Prelude.{◌≡◌, ◌+◌, ◌-◌, ◌*◌, ◌<◌, ◌≤◌, ℕ, IfSome, IfNone};
 ghost use Rattle.tokens.specs.Number.{IsNumber, IsNumberTo};
 ghost use Rattle.tokens.specs.NumberReading.{digit_of, number_of, number_to};
 

@@ -2,7 +2,7 @@
 
 ghost use Rattle.std.specs.Prelude.{◌≡◌, ◌+◌, ◌≤◌, OnOk};
 ghost use Rattle.chart_rules.specs.HelperOnCard.{IsOnCard};
-ghost use Rattle.charts.specs.Field.{columns_of, decimals_of};
+ghost use Rattle.charts.specs.Field.{columns_of};
 ghost use Rattle.charts.specs.Levels.{level_number};
 ghost use Rattle.line_wires.specs.HelperAdds.{Adds, OfSome, Where};
 ghost use Rattle.line_wires.specs.HelperItems.{HasFigureWheels};

@@ -1,12 +1,11 @@
 //! The totals of an amount by their levels, and the transfer of one to the next.
 
-ghost use Rattle.std.specs.Prelude.{◌≡◌, ◌↔◌, ◌≤◌, ℕ, OnOk, IsTrue, IfSome, MatchOption, Some, option_map};
-ghost use Rattle.plans.specs.Below.wanted.ChartTotals.{totals_of};
+ghost use Rattle.std.specs.Prelude.{◌≡◌, ◌↔◌, ◌≤◌, ℕ, OnOk, IsTrue, MatchOption};
 ghost use Rattle.charts.specs.Levels.{level_number};
 ghost use Rattle.line_wires.specs.HelperAdds.{Adds};
 ghost use Rattle.total_wires.specs.HelperCounters.{IsCounterOnPanel, positions_of};
 ghost use Rattle.total_wires.specs.HelperLevels.{HasCounterFor, NextWires, total_at};
-ghost use Rattle.total_wires.specs.HelperTotalRows.{SignedTransfer, TransferDigits, TransferSense, TransferWires};
+ghost use Rattle.total_wires.specs.HelperTotalRows.{SignedTransfer, TransferDigits, TransferSense};
 ghost use Rattle.line_wires.specs.Below.wiring_table.Parts.{IsLowest, IsNextHigher, is_total_at};
 
 use crate::counter::{Control, place_of, top_group, wire_controls};

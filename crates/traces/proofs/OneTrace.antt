@@ -1,16 +1,15 @@
 -- A run over a deck goes one way, so that its trace is one.
-use Rattle.std.proofs.Common.{◌≡◌, ◌∙◌, sym, ap, subst, refl, ℕ, zero, suc, ◌<◌, Bool, true, false, List, ◌++◌, Option, Some, None, is_some, arith, eqb, nat_lt}
+use Rattle.std.proofs.Common.{◌≡◌, ◌∙◌, sym, ap, subst, refl, ℕ, suc, ◌<◌, Bool, true, false, List, ◌++◌, Option, Some, None, is_some, arith, eqb, nat_lt}
 use Rattle.std.proofs.lemmas.Bool.{false≢true}
 use Rattle.std.proofs.lemmas.Bool.Decides.{nat_tests}
 use Rattle.machine.proofs.OneOutcome.{Reached-one}
 use Rattle.machine.specs.Cycles.{Reached}
-use Rattle.machine.specs.Machine.{MachineState}
 use Rattle.machine.specs.Runs.{InRun, cycle_due, made_ready}
 use Rattle.net.specs.declared.cycle.Cycle.{Cycle}
 use Rattle.setups.specs.Wiring.{Wiring}
 use Rattle.traces.specs.Lines.{cycle_line}
 use Rattle.traces.specs.OneTrace.{TracesAreOne}
-use Rattle.traces.specs.Traces.{IsTrace, TracedTo, begun, behind_cycle, card_in, more}
+use Rattle.traces.specs.Traces.{TracedTo, begun, behind_cycle, card_in, more}
 
 -- how many cycles have run
 cycles-of : (wiring : Wiring) (deck : List (List ℕ)) {card : ℕ} {run : InRun} {trace : List ℕ} → TracedTo wiring deck card run trace → ℕ

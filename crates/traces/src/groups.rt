@@ -1,11 +1,10 @@
 //! What is told of counter groups.
 
 ghost use Rattle.std.specs.Prelude.{◌≡◌, ◌++◌, OnOk, codes, reverse};
-ghost use Rattle.std.specs.List.{flat_map};
 ghost use Rattle.std.specs.Str.{bytes_eq};
 ghost use Rattle.counters.specs.Counters.{counter_ended};
 ghost use Rattle.traces.specs.Lines.{groups_told};
-ghost use Rattle.traces.specs.TracedUnits.{before_text, carry_text, digits_text, entered_text, group_name, group_told, is_added, is_asked, is_turned, latch_text, read_text, sum_text, test_text, turned_text, wheels_text};
+ghost use Rattle.traces.specs.TracedUnits.{before_text, carry_text, digits_text, entered_text, group_name, group_told, is_added, is_asked, is_turned, read_text, sum_text, test_text, turned_text, wheels_text};
 
 use counters::{Controls, Group};
 use net::Cycle;

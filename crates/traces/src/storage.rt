@@ -1,7 +1,6 @@
 //! What is told of storage units.
 
 ghost use Rattle.std.specs.Prelude.{◌≡◌, ◌≤◌, ◌++◌, OnOk, codes, decimal, map};
-ghost use Rattle.std.specs.List.{flat_map};
 ghost use Rattle.card_code.specs.Rows.{rows};
 ghost use Rattle.print_unit.specs.ZeroControl.{received_set};
 ghost use Rattle.storage_units.specs.Storage.{holds, storage_ended};

@@ -1,6 +1,6 @@
 //! Which units wait for which.
 
-ghost use Rattle.std.specs.Prelude.{◌≡◌, ◌↔◌, ℕ, ◌+◌, ◌≤◌, ◌<◌, ◌&&◌, ◌||◌, ◌==◌, true, slice_index_or};
+ghost use Rattle.std.specs.Prelude.{◌≡◌, ◌↔◌, ℕ, ◌+◌, ◌≤◌, ◌<◌, ◌&&◌, ◌||◌, ◌==◌, slice_index_or};
 ghost use Rattle.net.specs.HubSets.{is_bit};
 ghost use Rattle.net.specs.Nets.{IsNetOf};
 ghost use Rattle.setups.specs.Wiring.{Wiring};

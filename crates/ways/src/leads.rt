@@ -1,7 +1,6 @@
 //! What leads on from one hub to another, asked by the numbers of the hubs.
 
 ghost use Rattle.std.specs.Prelude.{◌≡◌, ◌↔◌, true};
-ghost use Rattle.hubs.specs.Hubs.{number_of};
 ghost use Rattle.net.specs.HubSets.{has_hub};
 ghost use Rattle.net.specs.Panel.{contact_of};
 ghost use Rattle.ways.specs.Passed.{contacts_from};

@@ -1,6 +1,6 @@
 //! The ways to the hubs at one point of a cycle.
 
-ghost use Rattle.std.specs.Prelude.{◌≡◌, ◌↔◌, ◌<◌, ◌≤◌, ◌+◌, ℕ, Some, None, Bool, IfOk, IfSome, IsSome, length};
+ghost use Rattle.std.specs.Prelude.{◌≡◌, ◌↔◌, ◌<◌, ◌≤◌, ◌+◌, ℕ, Some, None, Bool, IfOk, IfSome, IsSome};
 ghost use Rattle.hubs.specs.Hubs.{number_of};
 ghost use Rattle.hubs.specs.declared.hub.Hub.{Hub};
 ghost use Rattle.net.specs.HubSets.{has_hub};
@@ -31,7 +31,7 @@ impl Model for Ways {
 }
 
 impl Ways {
-    ghost use Rattle.std.specs.Prelude.{◌≡◌, ◌↔◌, Bool, true, IfOk, IfSome, IsSome, length};
+    ghost use Rattle.std.specs.Prelude.{◌≡◌, ◌↔◌, Bool, true, IfOk, IfSome, IsSome};
     ghost use Rattle.setups.specs.Wiring.{Wiring};
     ghost use Rattle.net.specs.HubSets.{HubSet};
     ghost use Rattle.hubs.specs.declared.hub.Hub.{Hub};

@@ -1,6 +1,6 @@
 //! The figure that stands on a wheel of a line.
 
-ghost use Rattle.std.specs.Prelude.{◌≡◌, ◌≤◌, ◌<◌, ◌+◌, ◌++◌, OnOk, length};
+ghost use Rattle.std.specs.Prelude.{◌≡◌, ◌≤◌, ◌<◌, ◌+◌, ◌++◌, OnOk};
 ghost use Rattle.ledgers.specs.Accounts.{IsAccount};
 ghost use Rattle.wheel_ledgers.specs.Figures.{begin_of, column_to, digit_to, end_of, figure_on, group_to, emitter_to, is_beside, is_of_literal, is_other, is_own, number_to, row_to, printed_text, text_to};
 

@@ -5,7 +5,7 @@ use Rattle.std.proofs.lemmas.Bool.{and_from, and_parts, and_right, false≢true,
 use Rattle.machine.proofs.Below.counters.Rings.{groups-round, pairs-coupled}
 use Rattle.machine.specs.Below.counters.Counters.{Counter, counter_closes, counter_emits, counter_number, wheels_in}
 use Rattle.machine.specs.Below.counters.Wheels.{all_nines, carries_out}
-use Rattle.machine.specs.Below.setups.Wiring.{HasWire, Wiring}
+use Rattle.machine.specs.Below.setups.Wiring.{HasWire}
 use Rattle.machine.specs.Below.hubs.declared.hub.Group.{Group}
 use Rattle.machine.specs.Below.hubs.declared.hub.Hub.{Hub}
 use Rattle.machine.specs.Below.hubs.declared.hub.Hub.TheVariants.{BAN, BAT, CI, CO}

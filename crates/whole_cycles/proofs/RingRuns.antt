@@ -4,7 +4,7 @@ use Rattle.std.specs.List.{list_any}
 use Rattle.std.proofs.lemmas.Bool.{and_parts, false≢true}
 use Rattle.machine.specs.Below.card_code.Rows.{rows, row_number}
 use Rattle.machine.specs.Below.card_code.declared.row.Row.{Row as CardRow}
-use Rattle.machine.specs.Below.carriage.Carriage.{CarriageState, carriage_sensed, carriage_ended}
+use Rattle.machine.specs.Below.carriage.Carriage.{carriage_sensed, carriage_ended}
 use Rattle.machine.specs.Below.counters.Counters.{Counter, shows}
 use Rattle.machine.specs.Below.hub_table.Ranges.{is_within}
 use Rattle.machine.specs.Below.page_text.declared.placed_lines.placed_line.PlacedLine.{PlacedLine}
@@ -18,7 +18,7 @@ use Rattle.machine.specs.Below.net.declared.cycle.Cycle.{Cycle}
 use Rattle.machine.specs.Below.net.declared.cycle.Cycle.TheVariants.{RunIn, Card, Prog, Head}
 use Rattle.machine.specs.Below.net.declared.cycle.Point.{Point}
 use Rattle.machine.specs.Below.net.declared.cycle.Point.TheVariants.{C, Row, K}
-use Rattle.machine.specs.Below.print_unit.ZeroControl.{Wheel, printed_line, has_zero_control}
+use Rattle.machine.specs.Below.print_unit.ZeroControl.{printed_line, has_zero_control}
 use Rattle.machine.specs.Below.program_unit.Program.{ProgramState, program_sensed, program_ended}
 use Rattle.machine.specs.Below.selectors.Pilots.{PilotStates}
 use Rattle.machine.specs.Below.selectors.WholeCycles as selectors
@@ -27,7 +27,7 @@ use Rattle.machine.specs.Below.stations.Stations.{stations_emits}
 use Rattle.machine.specs.Below.print_unit.Emitters.{emitters_emit}
 use Rattle.machine.specs.Below.storage_units.Storage.{StorageState, holds}
 use Rattle.machine.specs.Below.storage_units.WholeCycles as storage_units
-use Rattle.machine.specs.Cycles.{CycleRun, line_of}
+use Rattle.machine.specs.Cycles.{CycleRun}
 use Rattle.machine.specs.Machine.{MachineState, closes}
 use Rattle.machine.specs.Runs.{InRun, RunsBy, cards_moved, made_ready, moved_on, run_at_start}
 use Rattle.machine.proofs.OneOutcome.{same_picture}
@@ -37,7 +37,7 @@ use Rattle.whole_cycles.specs.Between.{IsBetween, IsReady}
 use Rattle.whole_cycles.specs.Carries.{but_carries, is_carry}
 use Rattle.whole_cycles.specs.RingRuns.{RingCycle, RingsRunByThemselves}
 use Rattle.whole_cycles.specs.Rings.{JoinsNoGroups, after_turning, is_same_group}
-use Rattle.whole_cycles.specs.WholeCycles.{WholeCycle, closing_emits, row_emits, storage_reads_out, wheels_after}
+use Rattle.whole_cycles.specs.WholeCycles.{closing_emits, row_emits, storage_reads_out, wheels_after}
 use Rattle.whole_cycles.proofs.Ready.{machines-ready, ready-moved}
 use Rattle.whole_cycles.proofs.Rings.{rings-turn}
 use Rattle.whole_cycles.proofs.Wholes.{cycles-whole}

@@ -1,6 +1,6 @@
 //! Writing the words of a wiring chart: numbers, hubs and jacks.
 
-ghost use Rattle.std.specs.Prelude.{◌≡◌, ◌++◌, true, codes, decimal, OnOk};
+ghost use Rattle.std.specs.Prelude.{◌≡◌, ◌++◌, decimal, OnOk};
 ghost use Rattle.std.specs.String.{string_bytes};
 ghost use Rattle.hubs.specs.HubText.{hub_text};
 ghost use Rattle.wire_chart.specs.WrittenText.{group_text, spaced, jack_text};

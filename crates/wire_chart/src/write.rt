@@ -1,8 +1,7 @@
 //! Writing a setup as a wiring chart.
 
-ghost use Rattle.std.specs.Prelude.{◌≡◌, ◌++◌, AllPairs, Contains, Some, IfOk, OnOk, codes};
+ghost use Rattle.std.specs.Prelude.{◌≡◌, ◌++◌, AllPairs, Contains, Some, IfOk, OnOk};
 ghost use Rattle.std.specs.String.{string_bytes};
-ghost use Rattle.hubs.specs.declared.hub.Hub.{Hub};
 ghost use Rattle.hubs.specs.declared.hub.Hub.TheVariants.{CI, CO};
 ghost use Rattle.setups.specs.Tapes.{IsCarriageTape, IsStopOf};
 ghost use Rattle.setups.specs.Wires.{IsWireBefore};

@@ -15,7 +15,7 @@ use Rattle.charts.specs.declared.statement.Mark.{Mark}
 use Rattle.charts.specs.declared.statement.SignRule.{SignRule}
 use Rattle.charts.specs.declared.statement.Statement.TheVariants as says
 use Rattle.setups.specs.Below.hubs.declared.hub.Hub.{Hub}
-use Rattle.line_wires.specs.Below.wiring_table.Figures.{IsText, IsAmount, IsSigned, IsUnsigned, IsLiteral, on_heading, on_detail, on_total, IsFigure, HasPunch, HasPunchAt, rule_of, digit_wheel, point_wheel, mark_wheel, mark_text, detail_emitter, heading_emitter, total_emitter}
+use Rattle.line_wires.specs.Below.wiring_table.Figures.{IsText, IsAmount, on_detail, IsFigure, rule_of, digit_wheel, mark_wheel, mark_text, detail_emitter}
 use Rattle.line_wires.specs.Below.wiring_table.Figures as figures
 use Rattle.line_wires.specs.HelperAdds.{one, first, second, below, OfSome, some, given, punched}
 use Rattle.line_wires.specs.HelperItems.{DetailAmount, DetailMarks, DetailText, DetailWires}

@@ -1,7 +1,6 @@
 //! The forms of a wiring chart's lines, by their first words.
 
 ghost use Rattle.std.specs.Prelude.{◌≡◌};
-ghost use Rattle.line_slips.specs.Forms.{is_word};
 ghost use Rattle.wiring_fault_words.specs.Forms as law;
 
 use line_slips::{is_near, is_word};

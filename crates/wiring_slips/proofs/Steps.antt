@@ -1,5 +1,5 @@
 -- Steps of the loop that lists faults.
-use Rattle.std.proofs.Common.{◌≡◌, ◌≢◌, ℕ, suc, ◌+◌, ◌-◌, ◌<◌, ◌≤◌, List, [], ◌∷◌, ◌++◌, Option, Some, None, Result, Ok, Err, IfOk, IfSome, IfNone, refl, sym, ap, ◌∙◌, arith, append_assoc, append-nil, subst}
+use Rattle.std.proofs.Common.{◌≡◌, ◌≢◌, ℕ, suc, ◌+◌, ◌-◌, ◌<◌, ◌≤◌, List, [], ◌∷◌, ◌++◌, Some, None, sym, ◌∙◌, arith, append_assoc, append-nil, subst}
 use Rattle.line_marks.specs.Emptied.{emptied}
 use Rattle.setups.specs.Wiring.{Wiring}
 use Rattle.wiring_text.specs.WiringFaults.{HasWiringFault}

@@ -1,6 +1,6 @@
 //! The faults of a text that is no wiring chart.
 
-ghost use Rattle.std.specs.Prelude.{◌≡◌, ◌≢◌, IfErr, IfOk, IfSome, IfNone, OnOk};
+ghost use Rattle.std.specs.Prelude.{◌≡◌, ◌≢◌, IfOk, IfSome, IfNone};
 ghost use Rattle.setups.specs.Wiring.{Wiring};
 ghost use Rattle.wiring_text.specs.WiringFaults.{HasWiringFault};
 ghost use Rattle.wiring_text.specs.WiringText.{ReadsAs};

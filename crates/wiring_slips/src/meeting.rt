@@ -1,6 +1,6 @@
 //! Lines that another line meets.
 
-ghost use Rattle.std.specs.Prelude.{◌≡◌, option_map};
+ghost use Rattle.std.specs.Prelude.{◌≡◌};
 ghost use Rattle.hubs.specs.Carries.{do_carries_agree};
 ghost use Rattle.line_marks.specs.FirstLines.{first_line};
 ghost use Rattle.wiring_slips.specs.Meetings as law;

@@ -1,5 +1,5 @@
 -- What is wrong, in the words of the line that breaks a rule, and what helps.
-use Rattle.std.specs.Prelude.{ℕ, ◌&&◌, Bool, true, false, List, [], ◌++◌, Option, Some, None, codes, decimal, nat_le, nat_lt, if◌then◌else◌}
+use Rattle.std.specs.Prelude.{ℕ, ◌&&◌, Bool, true, false, List, [], ◌++◌, Option, Some, None, codes, decimal, nat_lt, if◌then◌else◌}
 use Rattle.charts.specs.Field.{columns_of, decimals_of, sign_column}
 use Rattle.charts.specs.Levels.{control_number, level_number}
 use Rattle.charts.specs.Name.{name_text}

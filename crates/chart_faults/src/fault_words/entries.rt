@@ -1,6 +1,6 @@
 //! The entries of faults.
 
-ghost use Rattle.std.specs.Prelude.{◌≡◌, OnOk, [], take, drop};
+ghost use Rattle.std.specs.Prelude.{◌≡◌, OnOk, []};
 ghost use Rattle.std.specs.Io.KnownBytes.{Appends};
 ghost use Rattle.line_rules.specs.FieldRules.Fields.{fields_of};
 ghost use Rattle.chart_faults.specs.FaultWords.Entries as law;

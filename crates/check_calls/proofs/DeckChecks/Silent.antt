@@ -11,7 +11,7 @@ use Rattle.charts.specs.Chart.{Chart}
 use Rattle.charts.specs.declared.chart.Line.{Line}
 use Rattle.check_calls.specs.DeckChecks.Laws.{DecksWithoutFaultsFit}
 use Rattle.check_calls.specs.DeckChecks.Listings as listings
-use Rattle.check_calls.specs.DeckChecks.Listings.{IsListing, Lists, misfit_told, totals_told}
+use Rattle.check_calls.specs.DeckChecks.Listings.{Lists, misfit_told, totals_told}
 use Rattle.report.proofs.FollowedDecks.FitSoFar.{fits_end, fits_go_on}
 use Rattle.report.specs.FollowedDecks.FitSoFar.{FitSoFar, misfits_of_last}
 use Rattle.faults.specs.declared.fault.Fault.{Fault}

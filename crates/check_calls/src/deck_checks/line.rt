@@ -1,8 +1,8 @@
 //! The lines of a deck, however long they are.
 
-ghost use Rattle.std.specs.Prelude.{◌≡◌, ◌==◌, IfNone, IfOk, IfSome, [], length, not, option_to_list, true, false};
+ghost use Rattle.std.specs.Prelude.{◌≡◌, ◌==◌, IfNone, IfOk, IfSome, [], option_to_list, true, false};
 ghost use Rattle.std.specs.Io.KnownBytes.{Consumes, IsAtEnd};
-ghost use Rattle.card_code.specs.Lines.{lines_of, without_cr};
+ghost use Rattle.card_code.specs.Lines.{lines_of};
 ghost use Rattle.check_calls.specs.DeckChecks.HelperLines.{ReadsLine};
 
 use arrayvec::ArrayVec;

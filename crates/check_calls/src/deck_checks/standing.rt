@@ -1,6 +1,6 @@
 //! What a check holds between two lines.
 
-ghost use Rattle.std.specs.Prelude.{◌≡◌, ◌+◌, ◌<◌, ◌≤◌, ℕ, List, Option, [], ◌∷◌, ◌++◌, OnOk, None, Some, option_to_list, true, false};
+ghost use Rattle.std.specs.Prelude.{◌≡◌, ◌+◌, ◌<◌, ◌≤◌, ℕ, List, Option, [], ◌∷◌, ◌++◌, OnOk, None, Some, option_to_list};
 ghost use Rattle.card_code.specs.MostCards.{most_cards};
 ghost use Rattle.check_calls.specs.DeckChecks.Listings.{misfit_told, totals_told, with_card};
 ghost use Rattle.check_calls.specs.DeckChecks.Fine.{fine_words};

@@ -1,5 +1,5 @@
 -- What orders say of the lines that they were read from.
-use Rattle.std.proofs.Common.{◌≡◌, ◌∙◌, ap, sym, subst, refl, arith, inl, inr, ℕ, suc, ◌+◌, ◌-◌, ◌<◌, ◌≤◌, ◌≤◌, List, [], ◌∷◌, ◌++◌, Bor, get_or, drop, length, All}
+use Rattle.std.proofs.Common.{◌≡◌, ◌∙◌, ap, sym, subst, refl, arith, inl, inr, ℕ, suc, ◌+◌, ◌-◌, ◌<◌, ◌≤◌, List, [], ◌∷◌, ◌++◌, Bor, get_or, drop, length, All}
 use Rattle.std.proofs.lemmas.Bool.{cases_eq}
 use Rattle.std.proofs.lemmas.List.{drop_more, ext_get_or, get_or-map, get_or_default, get_or_append_left, get_or_push, length-append, length-drop}
 use Rattle.commands.specs.UnitOrders.OrdersText.{IsLowestWithout, NameUnits, SayOrders, SaysOrder}

@@ -6,7 +6,7 @@ ghost use Rattle.faults.specs.Lines.{IsTold};
 ghost use Rattle.faults.specs.Status.{status_of};
 ghost use Rattle.program_io.specs.Stops.{Stops};
 ghost use Rattle.commands.specs.ServedReplays.Answers.{HasOrders};
-ghost use Rattle.commands.specs.ServedReplays.Counted.{EndsCounted, counts_line};
+ghost use Rattle.commands.specs.ServedReplays.Counted.{counts_line};
 ghost use Rattle.commands.specs.ServedReplays.Refusals.{RefusesByOrders};
 ghost use Rattle.commands.specs.ServedReplays.OrderedEnds.{IsRefusedByOrders, PrintsByOrders, PrintsServed};
 

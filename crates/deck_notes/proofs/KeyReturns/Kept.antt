@@ -6,7 +6,7 @@ use Rattle.std.specs.Option.{option_or}
 use Rattle.chart_rules.specs.Below.charts.declared.chart.Line.{Line}
 use Rattle.chart_rules.specs.Controls.{controls_of}
 use Rattle.deck_notes.specs.KeyReturns.HelperKept.{AreFirst}
-use Rattle.deck_notes.specs.KeyReturns.Keys.{key_on}
+use Rattle.deck_notes.specs.KeyReturns.Keys.{AreSetsOf, key_on}
 use Rattle.deck_notes.specs.KeyReturns.Returns.{Numbered, stood_among, with_card}
 use Rattle.deck_notes.specs.declared.key_returns.earlier.FirstCards.{FirstCards}
 use Rattle.deck_notes.proofs.KeyReturns.SameKeys.{one_key, same_at}
@@ -33,11 +33,12 @@ or-there : {X : Type 0} (found other : Option X) → is_some found ≡ true → 
 or-there None other is = cc
 or-there (Some x) other is = refl
 
-module _ (lines : List Line) (level : ℕ) (card : List ℕ) (number : ℕ) (cards : Numbered) where
+module _ (lines : List Line) (level : ℕ) (card sets : List ℕ) (number : ℕ) (cards : Numbered)
+    (are_its : AreSetsOf (key_on (controls_of lines level) card) sets) where
   -- a card whose key stood before changes nothing
   pub kept_there : (first : FirstCards) → AreFirst lines level cards first → is_some (stood_among lines level card cards) ≡ true
       → AreFirst lines level (with_card card number cards) first
-  kept_there first are there asked = are asked ∙ sym whole
+  kept_there first are there asked theirs so = are asked theirs so ∙ sym whole
     where
       mid : Bool → Option ℕ
       mid is = option_or (stood_among lines level asked cards) (cond is (Some number) None)
@@ -47,9 +48,10 @@ module _ (lines : List Line) (level : ℕ) (card : List ℕ) (number : ℕ) (car
       by true same =
           or-there (stood_among lines level asked cards) (Some number)
           (ap is_some
-          (sym (are asked)
-          ∙ ap (λ (k : List ℕ). lookup (λ key. pointwise nat_eq k key.items) first.numbers.entries) (one_key lines level asked card same)
-          ∙ are card) ∙ there)
+          (sym (are asked theirs so)
+          ∙ ap (λ (k : List ℕ). lookup (λ key. pointwise nat_eq k key.items) first.numbers.entries)
+          (one_key lines level asked card theirs sets so are_its same)
+          ∙ are card sets are_its) ∙ there)
 
       whole : stood_among lines level asked (with_card card number cards) ≡ stood_among lines level asked cards
       whole =
@@ -58,13 +60,12 @@ module _ (lines : List Line) (level : ℕ) (card : List ℕ) (number : ℕ) (car
 
   -- a card with a new key is put behind the others
   pub kept_added : (old new : FirstCards) → AreFirst lines level cards old
-      → ((asked : List ℕ) → lookup (λ key. pointwise nat_eq (key_on (controls_of lines level) asked) key.items) new.numbers.entries
-      ≡ option_or (lookup (λ key. pointwise nat_eq (key_on (controls_of lines level) asked) key.items) old.numbers.entries)
-      (cond (pointwise nat_eq (key_on (controls_of lines level) asked) (key_on (controls_of lines level) card)) (Some number) None))
+      → ((theirs : List ℕ) → lookup (λ key. pointwise nat_eq theirs key.items) new.numbers.entries
+      ≡ option_or (lookup (λ key. pointwise nat_eq theirs key.items) old.numbers.entries) (cond (pointwise nat_eq theirs sets) (Some number) None))
       → AreFirst lines level (with_card card number cards) new
-  kept_added old new are entries asked =
-      entries asked
-      ∙ ap (λ (found : Option ℕ). option_or found
-      (cond (pointwise nat_eq (key_on (controls_of lines level) asked) (key_on (controls_of lines level) card)) (Some number) None)) (are asked)
-      ∙ ap (λ (is : Bool). option_or (stood_among lines level asked cards) (cond is (Some number) None)) (same_at lines level asked card)
+  kept_added old new are entries asked theirs so =
+      entries theirs
+      ∙ ap (λ (found : Option ℕ). option_or found (cond (pointwise nat_eq theirs sets) (Some number) None)) (are asked theirs so)
+      ∙ ap (λ (is : Bool). option_or (stood_among lines level asked cards) (cond is (Some number) None))
+      (same_at lines level asked card theirs sets so are_its)
       ∙ sym (lookup-append (λ earlier. is_same_at lines level asked earlier) cards ((card, number) ∷ []))

@@ -4,7 +4,7 @@ use Rattle.std.specs.Cmp.Lexicographic.{pointwise}
 use Rattle.std.specs.Map.{lookup}
 use Rattle.chart_rules.specs.Below.charts.declared.chart.Line.{Line}
 use Rattle.chart_rules.specs.Controls.{controls_of}
-use Rattle.deck_notes.specs.KeyReturns.Keys.{key_on}
+use Rattle.deck_notes.specs.KeyReturns.Keys.{AreSetsOf, key_on}
 use Rattle.deck_notes.specs.KeyReturns.Returns.{Earlier, Numbered, broken_before, earlier_with, returns, returns_from, stood, stood_among, told_of}
 use Rattle.deck_notes.specs.declared.key_returns.earlier.EarlierKeys.{EarlierKeys}
 use Rattle.deck_notes.specs.declared.key_returns.earlier.FirstCards.{FirstCards}
@@ -13,8 +13,8 @@ use Rattle.deck_notes.specs.declared.key_returns.returns.Walk.{Walk}
 -- the number that is kept of the key of any card is that of the first card with this key
 abbrev pub AreFirst : List Line → (level : ℕ) → Numbered → FirstCards → Type 0
 AreFirst lines level cards first =
-    (card : List ℕ) → lookup (λ key. pointwise nat_eq (key_on (controls_of lines level) card) key.items) first.numbers.entries
-    ≡ stood_among lines level card cards
+    (card sets : List ℕ) → AreSetsOf (key_on (controls_of lines level) card) sets
+    → lookup (λ key. pointwise nat_eq sets key.items) first.numbers.entries ≡ stood_among lines level card cards
 
 -- the same at each level
 pub record AreEarlier (lines : List Line) (earlier : Earlier) (kept : EarlierKeys) : Type 0 where

@@ -1,10 +1,10 @@
 //! The keys of cards, and the breaks between cards.
 
-ghost use Rattle.std.specs.Prelude.{◌≡◌, ◌++◌, ◌≤◌, IfOk, OnOk};
+ghost use Rattle.std.specs.Prelude.{◌≡◌, ◌++◌, ◌≤◌, ℕ, List, IfOk, OnOk};
 ghost use Rattle.chart_rules.specs.Below.charts.Levels.{control_number};
 ghost use Rattle.chart_rules.specs.Controls.{controls_of};
 ghost use Rattle.chart_rules.specs.HelperOnCard.{AreOnCard, IsOnCard};
-ghost use Rattle.deck_notes.specs.KeyReturns.Keys.{key_on, punches_on};
+ghost use Rattle.deck_notes.specs.KeyReturns.Keys.{AreSetsOf, key_on, punches_on};
 ghost use Rattle.deck_notes.specs.KeyReturns.Returns.{broken_before};
 ghost use Rattle.report.specs.Breaks.{highest};
 ghost use Rattle.report.specs.Groups.{is_same_at};
@@ -14,38 +14,39 @@ use chart_rules::Chart;
 use charts::{ControlLevel, Field};
 use std::alloc::{AllocError, Global};
 
-// Adds the punches in the columns of a field.
-fn add_punches(key: &mut Vec<u16>, field: &Field, card: &Card) -> Result<(), AllocError>
+// Adds the sets of the columns of a field.
+fn add_sets(key: &mut Vec<u16>, field: &Field, card: &Card) -> Result<(), AllocError>
     requires { IsOnCard field.now }
-    ensures { OnOk result (key.new.items ≡ key.old.items ++ punches_on card.now field.now) }
+    ensures { OnOk result ((columns : List ℕ) → AreSetsOf columns key.old.items
+        → AreSetsOf (columns ++ punches_on card.now field.now) key.new.items) }
 {
     for column in field.first..field.last + 1 {
-        key.push(card.column(column as u8).rows())?;
+        key.push(card.column(column as u8).set())?;
     }
     Ok(())
 }
 
 #[tactic(auto, using(std::proofs::lemmas::List::flat_map_more))]
-// The punches in the columns of some fields.
+// The sets of the columns of some fields.
 fn key_on(alloc: Global, fields: &[Field], card: &Card) -> Result<Vec<u16>, AllocError>
     requires { AreOnCard fields.now }
-    ensures { IfOk result (λ key. key.items ≡ key_on fields.now card.now) }
+    ensures { IfOk result (λ key. AreSetsOf (key_on fields.now card.now) key.items) }
 {
     let mut key = Vec::new(alloc);
     for field in fields {
-        add_punches(&mut key, field, card)?;
+        add_sets(&mut key, field, card)?;
     }
     Ok(key)
 }
 
-/// The key of a card at a level: the punches in the columns of the level's control fields.
+/// The key of a card at a level: the sets of the columns of the level's control fields.
 pub(crate) fn key_of(
     alloc: Global,
     chart: &Chart,
     level: ControlLevel,
     card: &Card,
 ) -> Result<Vec<u16>, AllocError>
-    ensures { IfOk result (λ key. key.items ≡ key_on (controls_of chart.now.lines (control_number level)) card.now) }
+    ensures { IfOk result (λ key. AreSetsOf (key_on (controls_of chart.now.lines (control_number level)) card.now) key.items) }
 {
     key_on(alloc, chart.control_fields(level), card)
 }

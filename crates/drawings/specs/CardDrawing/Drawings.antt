@@ -74,7 +74,8 @@ holes_text columns = holes_open ++ flat_map hole_text (holes_of columns) ++ hole
 unfoldable pub card_text : ℕ → List ℕ → List ℕ
 card_text number columns = card_open number ++ print_text (print_of columns) ++ number_text number ++ holes_text columns
 
--- a field over a card: a frame around its columns, from its name above the card down; its colour is that of the wires for which its line asks
+-- a field over a card: a frame around its columns, whose left side rises to the name above the card, in the colour of the wires for which its
+-- line asks
 unfoldable pub field_open : ℕ → List ℕ
 field_open number = codes "<g class=\"c" ++ decimal (number % 12) ++ codes "\">"
 
@@ -87,12 +88,12 @@ frame_end first columns = decimal (15 * columns) ++ codes "v-372H" ++ decimal (1
 unfoldable pub frame_text : (first columns : ℕ) → List ℕ
 frame_text first columns = frame_start first ++ frame_end first columns
 
--- the same around the sign column of an amount, where it has one
+-- the same frame around the sign column of an amount, if it has one
 abbrev pub sign_text : Option ℕ → List ℕ
 sign_text None = []
 sign_text (Some column) = frame_text column 1
 
--- names stand in two rows, by turns
+-- a name stands in one of two rows: in the upper one if the number of its line is even
 abbrev pub name_row : ℕ → List ℕ
 name_row number = if number % 2 == 0 then codes "\" y=\"-44\">" else codes "\" y=\"-16\">"
 
@@ -107,7 +108,7 @@ field_text number field =
     field_open number ++ frame_text field.first (columns_of field) ++ sign_text (sign_column field.kind)
     ++ named_text number field.first field.name
 
--- the field that a line of the chart names, by the number of the line
+-- the drawing of the field that a line of the chart gives, by the number of that line; another line has none
 abbrev pub field_of : (number : ℕ) → Statement → List ℕ
 field_of number (says.Field field) = field_text number field
 field_of number other = []
@@ -115,7 +116,7 @@ field_of number other = []
 abbrev pub line_field : Line → List ℕ
 line_field line = field_of line.number line.statement
 
--- the fields of a chart
+-- the drawings of all fields of a chart
 unfoldable pub fields_open : List ℕ
 fields_open = codes "<marker id=\"fields\" markerUnits=\"userSpaceOnUse\">\n"
 
@@ -159,7 +160,7 @@ shapes_open = codes "<svg class=\"shapes\" xmlns=\"http://www.w3.org/2000/svg\" 
 unfoldable pub shared_text : List Line → List ℕ
 shared_text lines = shapes_open ++ blank_text ++ fields_text lines
 
--- with cards of which the first has this number
+-- the same, and cards of which the first has this number
 unfoldable pub shapes_text : List Line → (first : ℕ) → List (List ℕ) → List ℕ
 shapes_text lines first cards = shared_text lines ++ numbered_words card_text first cards ++ codes "</svg>\n"
 

@@ -1,9 +1,7 @@
 //! Cards, and what is drawn once.
 
-ghost use Rattle.std.specs.Prelude.{◌≡◌, ◌≤◌, ◌<◌, ◌+◌, ◌^◌, ◌++◌, codes, length, map, IfOk, OnOk};
-ghost use Rattle.std.specs.List.{flat_map};
+ghost use Rattle.std.specs.Prelude.{◌≡◌, ◌≤◌, ◌<◌, ◌+◌, ◌^◌, ◌++◌, length, IfOk, OnOk};
 ghost use Rattle.std.specs.String.{string_bytes};
-ghost use Rattle.card_code.specs.CardCode.{print_character};
 ghost use Rattle.markup.specs.Pieces.{numbered_words};
 ghost use Rattle.drawings.specs.CardDrawing.Drawings.{blank_open, blank_text, card_open, card_text, characters_of, digits_text, holes_close, holes_open, holes_text, lower_digits, number_text, print_glyphs, print_of, print_open, print_text, shapes_open, shapes_text, shared_text, shown_card, upper_digits};
 

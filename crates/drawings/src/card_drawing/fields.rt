@@ -1,9 +1,9 @@
 //! The fields of a chart over a card.
 
-ghost use Rattle.std.specs.Prelude.{◌≡◌, ◌++◌, ◌==◌, ◌%◌, codes, OnOk};
+ghost use Rattle.std.specs.Prelude.{◌≡◌, ◌++◌, ◌==◌, ◌%◌, OnOk};
 ghost use Rattle.std.specs.List.{flat_map};
 ghost use Rattle.std.specs.String.{string_bytes};
-ghost use Rattle.drawings.specs.CardDrawing.Drawings.{field_of, field_open, field_text, fields_open, fields_text, frame_end, frame_start, frame_text, line_field, name_open, name_row, named_text, sign_text};
+ghost use Rattle.drawings.specs.CardDrawing.Drawings.{field_open, field_text, fields_open, fields_text, frame_end, frame_start, frame_text, line_field, name_open, name_row, named_text, sign_text};
 
 use charts::{Field, Line, Name, Statement};
 use markup::push_escaped;

@@ -1,8 +1,7 @@
 //! The blocks of the drawing, and the places of hubs in them.
 
-ghost use Rattle.std.specs.Prelude.{◌≡◌, ◌<◌, ◌≤◌, true};
-ghost use Rattle.hubs.specs.Hubs.{is_hub_in_range};
-ghost use Rattle.drawings.specs.PanelDrawing.Blocks.{block, block_in, blocks, no_block, place_at, place_in, place_of};
+ghost use Rattle.std.specs.Prelude.{◌≡◌, ◌<◌, ◌≤◌};
+ghost use Rattle.drawings.specs.PanelDrawing.Blocks.{block, block_in, blocks, place_at, place_in, place_of};
 
 use hub_table::Letters;
 use hubs::Hub;

@@ -1,9 +1,8 @@
 //! The drawing as SVG.
 
-ghost use Rattle.std.specs.Prelude.{◌≡◌, ◌++◌, ◌≤◌, codes, decimal, OnOk};
-ghost use Rattle.std.specs.List.{flat_map, range_with_len};
+ghost use Rattle.std.specs.Prelude.{◌≡◌, ◌++◌, ◌≤◌, OnOk};
+ghost use Rattle.std.specs.List.{flat_map};
 ghost use Rattle.std.specs.String.{string_bytes};
-ghost use Rattle.drawings.specs.PanelDrawing.Blocks.{blocks, place_of};
 ghost use Rattle.markup.specs.Pieces.{numbered_words};
 ghost use Rattle.drawings.specs.PanelDrawing.Drawing.{block_name, block_text, block_words, called_text, centre_text, colour_text, counters_front, counters_label, counters_place, counters_words, counts_wheels, curve_between, dot_text, dots_open, dots_text, drawing_behind, drawing_between, drawing_close, drawing_open, ends_at, has_number, has_wire_at, hub_dot, kind_words, label_left, label_open, label_place, label_text, label_top, label_words, line_to, link_text, linked_dot, next_row, next_rows, pen_at, picture_open, plate_open, side_words, step_text, steps_text, way_curve, width_text, wire_name, wire_path, wire_text};
 ghost use Rattle.drawings.specs.PanelDrawing.Helper.{GainsDrawing, GainsHubs};

@@ -1,6 +1,6 @@
 //! An entry of the guide as a text.
 
-ghost use Rattle.std.specs.Prelude.{◌≡◌, ◌++◌, codes, IfOk, OnOk};
+ghost use Rattle.std.specs.Prelude.{◌≡◌, ◌++◌, IfOk, OnOk};
 ghost use Rattle.std.specs.String.{string_bytes};
 ghost use Rattle.fault_guide.specs.GuideTexts.EntryText.{entry_text, example_line, entry_heading, named_line};
 

@@ -1,6 +1,6 @@
 //! The command that prints the entry of a fault, over any writers.
 
-ghost use Rattle.std.specs.Prelude.{◌≡◌, ◌≢◌, ◌≤◌, ◌⊎◌, false, true, IfErr, OnOk};
+ghost use Rattle.std.specs.Prelude.{◌≡◌, ◌≢◌, ◌≤◌, ◌⊎◌, false, IfErr, OnOk};
 ghost use Rattle.std.specs.Io.KnownBytes.{Appends};
 ghost use Rattle.fault_guide.specs.Numbered.{is_numbered};
 ghost use Rattle.faults.specs.Lines.{IsTold};

@@ -1,8 +1,7 @@
 //! The faults of what is wanted on a machine.
 
-ghost use Rattle.std.specs.Prelude.{◌≡◌, List, IfOk, OnOk};
+ghost use Rattle.std.specs.Prelude.{◌≡◌, IfOk, OnOk};
 ghost use Rattle.allocate.specs.Exceeded.{in_order};
-ghost use Rattle.allocate.specs.declared.fault.CapacityFault.{CapacityFault};
 ghost use Rattle.fault_lists.specs.CapacityFaults.AllOver.{AreAllOver, GainsOver, Tells};
 ghost use Rattle.plans.specs.Excess.{IsOver, count_there};
 

@@ -3,7 +3,7 @@
 ghost use Rattle.std.specs.Prelude.{◌≡◌, ◌≤◌, ◌<◌, ◌+◌, ◌++◌, OnOk, option_map};
 ghost use Rattle.counters.specs.Counters.{width_of};
 ghost use Rattle.ledgers.specs.Accounts.{IsAccount, positions_of};
-ghost use Rattle.ledgers.specs.LedgerText.Entries.{Words, after_card_text, carries_text, carries_word, carry_text, change_text, control_text, count_text, decimals_in, entries_word, entry_line, entry_lines, gap_line, gap_lines, source_text, sourced_text, sum_text, titled_text, together_text, total_text, words_text};
+ghost use Rattle.ledgers.specs.LedgerText.Entries.{after_card_text, carries_text, carries_word, carry_text, change_text, control_text, count_text, decimals_in, entries_word, entry_line, entry_lines, gap_line, gap_lines, source_text, sourced_text, sum_text, titled_text, together_text, total_text, words_text};
 ghost use Rattle.ledgers.specs.LedgerText.Titles.{words_of};
 
 use crate::ledger_text::amounts::{write_amount, write_balance, write_digits};

@@ -59,7 +59,7 @@ pub struct Figure {
 
 impl Figure {
     ghost use Rattle.std.specs.Prelude.{◌≡◌, ◌+◌, ◌^◌, ◌<◌};
-    ghost use Rattle.line_rules.specs.PrintRules.Items.{figure_width, mark_width};
+    ghost use Rattle.line_rules.specs.PrintRules.Items.{figure_width};
 
     /// How many wheels it takes: its digits, one for the point if it has decimals, and its mark.
     pub fn width(self) -> usize
@@ -181,7 +181,7 @@ fn total_line(level: Level) -> PrintedLine
 }
 
 /// The mark that an option of a field on the line of a card gives it.
-pub(crate) fn mark_shown(shown: DetailOption) -> Option<Mark>
+pub fn mark_shown(shown: DetailOption) -> Option<Mark>
     ensures { result ≡ items.mark_shown shown }
 {
     match shown {

@@ -2,7 +2,7 @@
 use Rattle.std.proofs.Common.{◌≡◌, ℕ, ◌+◌, List, [], ◌∷◌, ◌++◌, Some, slice_get, sym, ap, ◌∙◌, subst, append-nil, append_assoc, length, refl}
 use Rattle.charts.specs.declared.chart.Line.{Line}
 use Rattle.match_calls.specs.MatchTexts.Helper.{GainsBefore, GainsLacking}
-use Rattle.match_calls.specs.MatchTexts.Missing.{AreLacking, IsLacking, LacksOnLine, line_heading, under_heading, none, next}
+use Rattle.match_calls.specs.MatchTexts.Missing.{LacksOnLine, line_heading, under_heading, none, next}
 use Rattle.plans.specs.Plans.{Lists}
 use Rattle.setups.specs.Wiring.{Wiring}
 use Rattle.wire_chart.specs.Below.wiring_text.declared.statement.Version.{Version}

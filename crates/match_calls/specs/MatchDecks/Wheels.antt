@@ -1,5 +1,5 @@
 -- The first wheel on which two panels print a line differently.
-use Rattle.std.specs.Prelude.{◌≡◌, ◌≢◌, ℕ, ◌+◌, ◌-◌, ◌<◌, ◌≤◌, ◌==◌, ◌&&◌, Bool, List, [], ◌∷◌, Option, Some, None, IfNone, IfSome, replicate, slice_index, if◌then◌else◌}
+use Rattle.std.specs.Prelude.{◌≡◌, ◌≢◌, ℕ, ◌+◌, ◌-◌, ◌<◌, ◌≤◌, ◌==◌, ◌&&◌, Bool, List, [], ◌∷◌, Option, IfNone, IfSome, replicate, slice_index, if◌then◌else◌}
 use Rattle.machine.specs.Runs.{MachineLines}
 use Rattle.match_calls.specs.MatchDecks.Differing.{IsFirstDifference}
 use Rattle.match_calls.specs.declared.match_decks.lines.LinePlace.{LinePlace}

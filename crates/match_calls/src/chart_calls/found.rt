@@ -2,7 +2,6 @@
 
 ghost use Rattle.std.specs.Prelude.{◌≡◌, ◌≢◌, IfErr, IfOk, string_bytes};
 ghost use Rattle.match_calls.specs.ChartCalls.ReadBack.{IsChartOf};
-ghost use Rattle.match_calls.specs.MatchTexts.Counts.{CountsDifferences};
 ghost use Rattle.panel_charts.specs.PanelChart.{IsReadBack};
 ghost use Rattle.program_io.specs.Refusals.{RefusesWiring};
 ghost use Rattle.wire_chart.specs.Below.wiring_text.WiringText.{ReadsAs};

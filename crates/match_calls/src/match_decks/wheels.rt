@@ -1,7 +1,6 @@
 //! The first wheel that differs.
 
-ghost use Rattle.std.specs.Prelude.{◌≡◌, ◌≤◌, IfNone, IfSome, IsTrue};
-ghost use Rattle.match_calls.specs.MatchDecks.Differing.{IsFirstDifference};
+ghost use Rattle.std.specs.Prelude.{◌≡◌, ◌≤◌, IfNone, IfSome};
 ghost use Rattle.match_calls.specs.MatchDecks.Wheels.{AreAlike, IsDifferenceOf, IsFirstApart, IsToldWheel, is_at, text_at};
 
 use crate::match_decks::lines::{LinePlace, first_difference};

@@ -1,6 +1,6 @@
 //! Places of sums.
 
-ghost use Rattle.std.specs.Prelude.{◌≡◌, ◌<◌, ◌++◌, codes, OnOk};
+ghost use Rattle.std.specs.Prelude.{◌≡◌, ◌<◌, ◌++◌, OnOk};
 ghost use Rattle.std.specs.String.{string_bytes};
 ghost use Rattle.ledgers.specs.Accounts.{IsAccount};
 ghost use Rattle.wheel_ledgers.specs.Totals.{AreAccounts};

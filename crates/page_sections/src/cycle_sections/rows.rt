@@ -1,8 +1,8 @@
 //! The line of a cycle, in rows.
 
-ghost use Rattle.std.specs.Prelude.{◌≡◌, ◌≤◌, ◌<◌, ◌+◌, ◌^◌, ◌==◌, ◌&&◌, ◌++◌, ◌∷◌, [], IfOk, OnOk, false, not};
+ghost use Rattle.std.specs.Prelude.{◌≡◌, ◌≤◌, ◌<◌, ◌+◌, ◌^◌, ◌==◌, ◌&&◌, ◌++◌, ◌∷◌, [], IfOk, OnOk, not};
 ghost use Rattle.page_sections.specs.CycleSections.Helper.{TakesByte};
-ghost use Rattle.page_sections.specs.CycleSections.Rows.{gap, in_rows, is_inside, rows_of};
+ghost use Rattle.page_sections.specs.CycleSections.Rows.{gap, is_inside, rows_of};
 
 use std::alloc::{AllocError, Global};
 

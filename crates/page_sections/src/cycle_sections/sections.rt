@@ -1,6 +1,6 @@
 //! The elements of a trace.
 
-ghost use Rattle.std.specs.Prelude.{◌≡◌, ◌≤◌, ◌<◌, ◌+◌, ◌^◌, ◌++◌, codes, length, OnOk};
+ghost use Rattle.std.specs.Prelude.{◌≡◌, ◌≤◌, ◌<◌, ◌+◌, ◌^◌, ◌++◌, length, OnOk};
 ghost use Rattle.std.specs.String.{string_bytes};
 ghost use Rattle.card_code.specs.Lines.{lines_of};
 ghost use Rattle.page_sections.specs.CycleSections.Sections.{back_text, before_text, cycles_text, link_open, links_text, next_text, place_text, quiet_text, quiet_words, rows_text, section_close, section_open, section_text, words_text};

@@ -1,7 +1,6 @@
 //! What is told of the printed characters of lines.
 
-ghost use Rattle.std.specs.Prelude.{◌≡◌, ◌≤◌, ◌<◌, ◌+◌, [], IfOk, OnOk};
-ghost use Rattle.std.specs.List.{flat_map, range_with_len};
+ghost use Rattle.std.specs.Prelude.{◌≡◌, ◌≤◌, ◌<◌, ◌+◌, IfOk, OnOk};
 ghost use Rattle.explanations.specs.Pages.{AreFoundLines, IsFoundLine};
 ghost use Rattle.page_sections.specs.WheelSections.Helper.{AreWaysOfLine, GainsTold, IsToldOf};
 ghost use Rattle.page_sections.specs.WheelSections.ToldWheels.{AreTold, printed_by, printed_on, printed_places};

@@ -1,9 +1,8 @@
 //! The words of an explanation, with links to lines of the chart.
 
-ghost use Rattle.std.specs.Prelude.{◌≡◌, ◌≤◌, ◌∷◌, [], ◌++◌, codes, drop, length, OnOk};
+ghost use Rattle.std.specs.Prelude.{◌≡◌, ◌≤◌, ◌∷◌, ◌++◌, drop, length, OnOk};
 ghost use Rattle.std.specs.List.{prefix_len};
 ghost use Rattle.std.specs.String.{string_bytes};
-ghost use Rattle.markup.specs.Escapes.{escaped};
 ghost use Rattle.page_sections.specs.WheelSections.Words.{bracket_close, bracket_open, digits_of, is_digit, linked, number_in, sign_text};
 
 use markup::push_escaped;

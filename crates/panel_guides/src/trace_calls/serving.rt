@@ -1,7 +1,6 @@
 //! The command that traces a deck, over any reader and writers.
 
 ghost use Rattle.std.specs.Prelude.{◌≡◌, ◌≢◌, ◌≤◌, ◌⊎◌, IfErr, OnOk};
-ghost use Rattle.std.specs.IoError.{error_kind};
 ghost use Rattle.card_code.specs.MostCards.{most_cards};
 ghost use Rattle.faults.specs.Lines.{IsTold};
 ghost use Rattle.panel_guides.specs.Panels.{HasPanel, is_wiring_text};

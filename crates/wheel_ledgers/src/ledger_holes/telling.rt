@@ -1,6 +1,6 @@
 //! The text of a ledger down to the holes.
 
-ghost use Rattle.std.specs.Prelude.{◌≡◌, ◌≤◌, ◌++◌, ℕ, All, IfOk, OnOk, length, option_map};
+ghost use Rattle.std.specs.Prelude.{◌≡◌, ◌≤◌, ◌++◌, ℕ, All, IfOk, length, option_map};
 ghost use Rattle.card_code.specs.MostCards.{most_cards};
 ghost use Rattle.cycle_ways.specs.Points.{ArePointsOf, Follows};
 ghost use Rattle.ledgers.specs.Accounts.{IsAccount};

@@ -1,11 +1,9 @@
 -- In a card cycle what lines send to the line of a card arrives at its wheels.
-use Rattle.std.proofs.Common.{◌≡◌, ◌≢◌, ◌∙◌, refl, sym, ap, subst, ℕ, ◌+◌, ◌-◌, ◌<◌, ◌≤◌, ◌==◌, ◌&&◌, Bool, true, false, List, Contains, Option, Some, None, is_some, length, map, slice_get, option_map, inl, inr, ◌⊎◌, arith}
+use Rattle.std.proofs.Common.{◌≡◌, ◌≢◌, ◌∙◌, refl, sym, ap, subst, ℕ, ◌+◌, ◌-◌, ◌<◌, ◌≤◌, ◌==◌, ◌&&◌, Bool, true, false, List, Contains, Option, Some, None, is_some, length, map, slice_get, option_map, ◌⊎◌, arith}
 use Rattle.std.proofs.lemmas.Bool.Decides.{nat_tests}
 use Rattle.std.proofs.lemmas.Option.{slice_get_within}
 use Rattle.std.proofs.lemmas.List.{length-map}
-use Rattle.wired_panels.specs.Below.plans.Plans.{Lists, ServesChart}
 use Rattle.wired_panels.specs.Below.wanted.Units.{is_inside}
-use Rattle.wired_panels.specs.Below.wanted.Wanted.{indicate_at}
 use Rattle.wired_panels.specs.Below.card_code.CardCode.{has_row}
 use Rattle.wired_panels.specs.Below.card_code.Rows.{row_number}
 use Rattle.wired_panels.specs.Below.line_rules.FieldRules.Fields.{fields_of}
@@ -19,8 +17,6 @@ use Rattle.wired_panels.specs.Below.charts.Chart.{Chart}
 use Rattle.wired_panels.specs.Below.charts.Field.{columns_of, decimals_of, is_amount, sign_column}
 use Rattle.wired_panels.specs.Below.charts.Levels.{control_number}
 use Rattle.wired_panels.specs.Below.charts.declared.chart.Line.{Line}
-use Rattle.wired_panels.specs.Below.charts.declared.level.ControlLevel.TheVariants as control
-use Rattle.wired_panels.specs.Below.charts.declared.level.ControlLevel.{ControlLevel}
 use Rattle.wired_panels.specs.Below.charts.declared.statement.BodyLine.TheVariants as body
 use Rattle.wired_panels.specs.Below.charts.declared.statement.DetailOption.TheVariants as shown
 use Rattle.wired_panels.specs.Below.charts.declared.statement.DetailOption.{DetailOption}

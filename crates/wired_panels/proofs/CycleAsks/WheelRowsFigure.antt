@@ -11,7 +11,6 @@ use Rattle.wired_panels.specs.Below.charts.declared.statement.Mark.TheVariants a
 use Rattle.wired_panels.specs.Below.charts.declared.statement.Mark.{Mark}
 use Rattle.printed_lines.specs.Shown.Shown.{Amount}
 use Rattle.printed_lines.specs.Shown.{Shown, set_of_character, digit_set, point_sets, mark_sets, sets_of, wheel_of_shown}
-use Rattle.report.specs.Edits.{mark_text}
 use Rattle.printed_lines.specs.Below.wiring_table.Figures.{HasPunch, HasPunchAt, digit_wheel, point_wheel, mark_wheel, mark_text}
 use Rattle.wired_panels.proofs.CycleAsks.WheelRows.{stands_on, sent_on, no_rows}
 use Rattle.wired_panels.proofs.CycleAsks.WheelRowsText.{standing, stand, sent-at, punch-of, has-punch, punch-sent, punch-at}

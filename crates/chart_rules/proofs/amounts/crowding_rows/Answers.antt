@@ -1,14 +1,15 @@
-use Rattle.std.proofs.Common.{◌+◌, ◌%◌, refl, bit_and}
-use Rattle.chart_rules.proofs.DigitCounts.{few_digits, unpunched}
+use Rattle.std.proofs.Common.{◌+◌, ◌%◌, bit_and}
+use Rattle.card_code.specs.declared.row.Row.TheVariants.{Twelve}
+use Rattle.chart_rules.proofs.DigitCounts.{told, unpunched}
 use Rattle.chart_rules.proofs.TextMarks.{nothing}
 use Rattle.chart_rules.proofs.amounts.crowding_rows.Goals as goal
 
 pub returns-clause-digits : goal.returns-clause-digits
 returns-clause-digits c none =
-    let rows = c.args.rows in
-    few_digits rows (nothing (bit_and (bit_and rows 1023) ((bit_and rows 1023 + 65535) % 65536)) (bit_and rows 4096) none).0
+    let set = c.args.set in
+    (told set c.requires).few (nothing (bit_and (bit_and set 1023) ((bit_and set 1023 + 65535) % 65536)) (bit_and set 2048) none).0
 
 pub returns-clause-zone : goal.returns-clause-zone
 returns-clause-zone c none =
-    let rows = c.args.rows in
-    unpunched rows 4096 12 (nothing (bit_and (bit_and rows 1023) ((bit_and rows 1023 + 65535) % 65536)) (bit_and rows 4096) none).1 refl refl
+    let set = c.args.set in
+    unpunched set Twelve (nothing (bit_and (bit_and set 1023) ((bit_and set 1023 + 65535) % 65536)) (bit_and set 2048) none).1

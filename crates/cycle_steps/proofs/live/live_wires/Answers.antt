@@ -1,5 +1,4 @@
 use Rattle.net.specs.HubSets.{has_hub}
-use Rattle.std.specs.Prelude.{IfOk, Result, Ok, Err}
 use Rattle.cycle_steps.proofs.Impulsed.{live_of}
 use Rattle.cycle_steps.proofs.live.live_wires.Goals as goal
 

@@ -1,4 +1,4 @@
-use Rattle.std.proofs.Common.{sym, subst, List, take}
+use Rattle.std.proofs.Common.{sym, subst, List}
 use Rattle.std.specs.String.{string_bytes}
 use Rattle.std.proofs.lemmas.List.{take_all}
 use Rattle.explanations.specs.declared.found.FoundLine.{FoundLine}

@@ -1,9 +1,7 @@
-use Rattle.std.proofs.Common.{Some, ap, sym, ◌∙◌}
+use Rattle.std.proofs.Common.{sym}
 use Rattle.std.proofs.lemmas.Result.{on_ok_weaker}
 use Rattle.line_wires.proofs.Steps.{adds-character}
 use Rattle.line_wires.proofs.character.wire_character.Goals as goal
 
 pub returns-in-Some : goal.returns-in-Some
-returns-in-Some c =
-    let e = c.rows.ensures.value in
-    on_ok_weaker c.wire_rows.result (adds-character (sym c.in-Some.ensures ∙ ap Some (sym e)) c.rows.ensures.lawful) c.wire_rows.ensures
+returns-in-Some c = on_ok_weaker c.wire_rows.result (adds-character (sym c.in-Some.ensures)) c.wire_rows.ensures

@@ -1,11 +1,14 @@
-use Rattle.std.proofs.Common.{ℕ, ap, bit_and}
-use Rattle.misfits.proofs.Digits.{lowest, no_row}
+use Rattle.std.proofs.Common.{◌∙◌, ap}
+use Rattle.report.specs.Amounts.{digit_in}
+use Rattle.misfits.proofs.Digits.{digit_read}
 use Rattle.misfits.proofs.values.digit_in.Goals as goal
 
 pub returns-then-digits-eq0 : goal.returns-then-digits-eq0
-returns-then-digits-eq0 c =
-    no_row c.args.column _ (ap (λ (n : ℕ). bit_and n 1023) c.rows-digits.ensures.value) c.if-digits-eq0.true
+returns-then-digits-eq0 c = (digit_read c.set-digits.result c.set-digits.ensures.small).none c.if-digits-eq0.true ∙ ap digit_in c.set-digits.ensures.value
+
+pub overflow_sub-result : goal.overflow_sub-result
+overflow_sub-result c = ((digit_read c.set-digits.result c.set-digits.ensures.small).some c.if-digits-eq0.false).0
 
 pub returns-else-digits-eq0 : goal.returns-else-digits-eq0
 returns-else-digits-eq0 c =
-    lowest c.args.column _ (ap (λ (n : ℕ). bit_and n 1023) c.rows-digits.ensures.value) c.if-digits-eq0.false
+    ((digit_read c.set-digits.result c.set-digits.ensures.small).some c.if-digits-eq0.false).1 ∙ ap digit_in c.set-digits.ensures.value

@@ -1,7 +1,7 @@
-use Rattle.std.proofs.Common.{ℕ, ◌+◌, ◌<◌, ◌≤◌, arith, refl, subst, sym, true≢false}
+use Rattle.std.proofs.Common.{◌+◌, ◌<◌, ◌≤◌, arith, refl, subst, sym, true≢false}
 use Rattle.hubs.specs.declared.hub.Hub.{Hub}
 use Rattle.setups.specs.Wiring.{HasWire}
-use Rattle.panel_reader.specs.Lowest.{hub_in, last_of}
+use Rattle.panel_reader.specs.Lowest.{hub_in}
 use Rattle.panel_reader.proofs.Lowest.{lowest-next, none-next}
 use Rattle.panel_reader.proofs.hub_rows.lowest_entry.Goals as goal
 

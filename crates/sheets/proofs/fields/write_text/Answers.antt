@@ -1,4 +1,4 @@
-use Rattle.std.proofs.Common.{◌≡◌, ◌∙◌, ◌+◌, ◌-◌, ◌++◌, [], ◌∷◌, ap, refl, sym, arith, List, ℕ, map}
+use Rattle.std.proofs.Common.{◌≡◌, ◌∙◌, ◌+◌, ◌-◌, ◌++◌, [], ◌∷◌, ap, refl, arith, ℕ, map}
 use Rattle.std.specs.List.{range_with_len}
 use Rattle.chart_rules.specs.Below.card_code.CardCode.{print_character}
 use Rattle.chart_rules.specs.ValidCard.{column_of}

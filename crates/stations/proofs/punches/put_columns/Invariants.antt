@@ -1,7 +1,6 @@
-use Rattle.std.proofs.Common.{◌*◌}
-use Rattle.stations.specs.Columns.{HasColumns}
+use Rattle.stations.proofs.KeptColumns.{HasColumns}
 use Rattle.stations.proofs.punches.put_columns.Given as goal
 
--- the columns so far are done
-abbrev pub invariant-loop-block : goal.invariant-loop-block
-invariant-loop-block l = HasColumns (8 * l.block) l.punched l.columns
+-- the columns so far are there
+abbrev pub invariant-loop-k : goal.invariant-loop-k
+invariant-loop-k l = HasColumns l.k l.punched l.columns

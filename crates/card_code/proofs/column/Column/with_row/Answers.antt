@@ -1,12 +1,8 @@
-use Rattle.std.proofs.Common.{arith}
-use Rattle.card_code.proofs.Rows.{or-shifted, with_row-lawful}
+use Rattle.card_code.proofs.Columns.{column-with, with-small}
 use Rattle.card_code.proofs.column.Column.with_row.Goals as goal
 
 pub returns : goal.returns
-returns c = rw (c.self.view_is, ← c.number.ensures.value)
-    (or-shifted c.args.self c.number.result (omega (arith, c.number.ensures.range)))
+returns c = rw (← c.self.view_is) (column-with c.self.inside.set c.place.result c.args.row c.self.invariant c.place.ensures.value)
 
 pub invariant_of-result : goal.invariant_of-result
-invariant_of-result c =
-    with_row-lawful c.self.inside.rows c.number.result c.self.invariant (omega (arith, c.number.ensures.range))
-    c.number.ensures.not_ten
+invariant_of-result c = with-small c.self.inside.set c.place.result c.self.invariant c.place.ensures.range

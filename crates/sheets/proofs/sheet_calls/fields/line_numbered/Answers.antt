@@ -1,4 +1,4 @@
-use Rattle.std.proofs.Common.{arith, inl, inr, refl, ◌-◌}
+use Rattle.std.proofs.Common.{arith, inr, refl, ◌-◌}
 use Rattle.card_code.specs.Lines.{lines_of}
 use Rattle.sheets.proofs.SheetCalls.Going.{line-there, none-passed, none-there, one-passed}
 use Rattle.sheets.proofs.sheet_calls.fields.line_numbered.Goals as goal

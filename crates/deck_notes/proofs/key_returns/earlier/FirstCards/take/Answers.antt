@@ -1,20 +1,17 @@
-use Rattle.std.proofs.Common.{◌∙◌, ap, sym, ℕ, List, [], ◌∷◌, nat_eq, None, Some, cond, is_some}
+use Rattle.std.proofs.Common.{◌∙◌, ap, sym, ℕ, List, [], ◌∷◌, nat_eq, is_some}
 use Rattle.std.specs.Cmp.Lexicographic.{pointwise}
 use Rattle.std.specs.Map.{lookup}
-use Rattle.std.specs.Option.{option_or}
 use Rattle.chart_rules.specs.Below.charts.Levels.{control_number}
-use Rattle.chart_rules.specs.Controls.{controls_of}
 use Rattle.indexmap.proofs.CallerLemmas.{insert_entry-new}
 use Rattle.deck_notes.proofs.KeyReturns.Kept.{kept_added, kept_there, lookup-append}
-use Rattle.deck_notes.specs.KeyReturns.Keys.{key_on}
 use Rattle.deck_notes.proofs.key_returns.earlier.FirstCards.take.Goals as goal
 
 pub returns-in-Some-clause-kept : goal.returns-in-Some-clause-kept
 returns-in-Some-clause-kept c = λ cards are.
-    let own = ap (λ (q : List ℕ). lookup (λ key. pointwise nat_eq q key.items) c.args.self.now.numbers.entries)
-    (c.as_slice.ensures.value ∙ c.in_ok-key.ensures) in
-    kept_there c.args.chart.now.lines (control_number c.args.level) c.args.card.now c.args.number cards c.args.self.now are
-    (ap is_some (sym (are c.args.card.now) ∙ sym own ∙ sym c.get.ensures.value ∙ sym c.copied.ensures ∙ c.in-Some.is))
+    let own = ap (λ (q : List ℕ). lookup (λ key. pointwise nat_eq q key.items) c.args.self.now.numbers.entries) c.as_slice.ensures.value in
+    kept_there c.args.chart.now.lines (control_number c.args.level) c.args.card.now c.in_ok-key.key.items c.args.number cards c.in_ok-key.ensures
+    c.args.self.now are
+    (ap is_some (sym (are c.args.card.now c.in_ok-key.key.items c.in_ok-key.ensures) ∙ sym own ∙ sym c.get.ensures.value ∙ sym c.copied.ensures ∙ c.in-Some.is))
 
 pub returns-clause-kept : goal.returns-clause-kept
 returns-clause-kept c = λ cards are.
@@ -22,10 +19,8 @@ returns-clause-kept c = λ cards are.
     ∙ sym c.get.ensures.value ∙ sym c.copied.ensures ∙ c.in_default.is in
     let put = c.in_ok-insert.ensures.entries
     ∙ insert_entry-new _ c.args.self.now.numbers c.in_ok-key.key c.args.number absent in
-    kept_added c.args.chart.now.lines (control_number c.args.level) c.args.card.now c.args.number cards c.args.self.now (record { numbers = c.insert.new.self }) are
-    (λ asked.
-    let key = key_on (controls_of c.args.chart.now.lines (control_number c.args.level)) asked in
-    ap (lookup (λ its. pointwise nat_eq key its.items)) put
-    ∙ lookup-append (λ its. pointwise nat_eq key its.items) c.args.self.now.numbers.entries ((c.in_ok-key.key, c.args.number) ∷ [])
-    ∙ ap (λ (items : List ℕ). option_or (lookup (λ its. pointwise nat_eq key its.items) c.args.self.now.numbers.entries)
-    (cond (pointwise nat_eq key items) (Some c.args.number) None)) c.in_ok-key.ensures)
+    kept_added c.args.chart.now.lines (control_number c.args.level) c.args.card.now c.in_ok-key.key.items c.args.number cards c.in_ok-key.ensures
+    c.args.self.now (record { numbers = c.insert.new.self }) are
+    (λ sets.
+    ap (lookup (λ its. pointwise nat_eq sets its.items)) put
+    ∙ lookup-append (λ its. pointwise nat_eq sets its.items) c.args.self.now.numbers.entries ((c.in_ok-key.key, c.args.number) ∷ []))
