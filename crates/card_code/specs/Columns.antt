@@ -7,7 +7,7 @@ use Rattle.card_code.specs.CardCode.{has_row, with_row}
 use Rattle.card_code.specs.Rows.{passing_place, row_number, rows}
 use Rattle.card_code.specs.declared.row.Row.{Row}
 
--- of some rows those that a set has at the first of two bits of each, in a set that has them at the second
+-- the set of those of some rows that another set has: `from` tells a row's bit there, `to` its bit here
 abbrev pub moved : List Row → (Row → ℕ) → (Row → ℕ) → ℕ → ℕ
 moved [] from to set = 0
 moved (row ∷ others) from to set =
