@@ -5,8 +5,8 @@ ghost use Rattle.card_code.specs.CardCode.{rows_of};
 
 use anyhow::Result;
 use browser_pages::show_to_end;
-use check_calls::{print_check, print_grouped, print_shown};
-use commands::{Fault, replay_by_orders, serve, tell};
+use check_calls::{print_check, print_grouped, print_shown, tell_checked};
+use commands::{Fault, replay_by_orders, serve};
 use decks_in_row::DecksInRow;
 use devices::limited::LimitedReader;
 use fault_guide::guides::fault_to_end;
@@ -153,10 +153,8 @@ impl Served {
     }
 
     // The same after a check, with its fault told if it has one.
-    fn after(mut self, fault: Option<Fault>) -> Served {
-        if let Some(fault) = fault {
-            self.status = tell(&fault, &mut self.told).status;
-        }
+    fn after(mut self, checked: std::result::Result<(), Fault>) -> Served {
+        self.status = tell_checked(checked, false, &mut self.told).status;
         self
     }
 
@@ -164,14 +162,14 @@ impl Served {
     pub fn check_deck<R: Read + Drop>(alloc: Global, chart: &[u8], deck: R) -> Served {
         let mut served = Served::new(alloc);
         let checked = print_check(alloc, chart, deck, &mut served.output);
-        served.after(checked.err())
+        served.after(checked)
     }
 
     /// The check of a chart and a deck, and the control keys that come back.
     pub fn check_groups<R: Read + Drop>(alloc: Global, chart: &[u8], deck: R) -> Served {
         let mut served = Served::new(alloc);
         let checked = print_grouped(alloc, chart, "my.deck", deck, &mut served.output);
-        served.after(checked.err())
+        served.after(checked)
     }
 
     /// Every fault of a chart, or, if it has none, the bad cards of a deck, each shown.
@@ -182,7 +180,7 @@ impl Served {
         }
         let mut served = Served::new(alloc);
         let checked = print_shown(alloc, chart, "my.deck", deck, &mut served.output);
-        served.after(checked.err())
+        served.after(checked)
     }
 
     /// Pages of a run that are printed once the whole deck has run.

@@ -3,4 +3,5 @@ pub mod Large
 pub mod Laws
 pub mod CheckEnds
 pub mod Showing
+pub mod Telling
 pub mod DeckChecks

@@ -371,7 +371,7 @@ static MATCHES: [Words; 2] = [
     Words {
         name: "Unwired",
         cause: "the panel isn't wired for the chart: by the plan read off it, A wires, jacks and stops are missing and B are extra; a wrong FORM line counts as one of each",
-        cure: "wire what stands under missing, and take out what stands under extra. If all wires of a total seem wrong, look at its counter groups: one is too narrow, and match says so, as line 8: group 3.1 is too narrow: 4 positions are needed; or of two coupled ones the one with the higher number has the lower digits. If all wires of another part seem wrong, look whether its first wires name a part that serves something else too",
+        cure: "wire what stands under missing, and take out what stands under extra. If all wires of a total seem wrong, look at its counter groups: one is too narrow, and match says so, as line 8: group 3.1 is too narrow: 4 positions are needed; or of two coupled ones the one with the higher number has the lower digits. If all wires of a pilot, a storage unit or a split seem wrong, look whether something else was given the same one",
         example: "run407 match my.chart my.wiring where the wiring chart lacks a wire",
     },
     Words {

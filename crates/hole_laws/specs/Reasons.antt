@@ -83,8 +83,8 @@ abbrev pub NoneBelowCalls : Wiring → (position level : ℕ) → (now behind : 
 NoneBelowCalls wiring position level now behind =
     (lower called : ℕ) → lower < position → level ≤ called → IsOfBrushes wiring lower → CallsLevel wiring lower called now behind → ⊥
 
--- A text tells why a level runs: either that no card stands behind this one, or that a comparing position calls this level or a higher one, with
--- all lines of that position. No lower position that is wired from brushes alone calls such a level.
+-- A text tells why a level runs: either that no card stands behind this one, or that a comparing position that is wired from brushes alone calls
+-- this level or a higher one, with all lines of that position, one at least. No lower such position calls such a level.
 pub data IsReason (wiring : Wiring) (deck : List (List ℕ)) (card level : ℕ) (now behind : MachineState) : List ℕ → Type 0 where
   last : has_more behind ≡ false → IsReason wiring deck card level now behind (last_text level card)
   called_from :

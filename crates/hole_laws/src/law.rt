@@ -30,8 +30,8 @@ pub fn lines_tell_differences()
 {}
 
 /// If a text is told why a program cycle of a run runs, then in the cycle that read its card no card stood behind that card, or the comparing
-/// position that is told emitted and called the level that is told, and no lower position that is wired from brushes alone called that of the
-/// program cycle or a higher one; and the level of the program cycle is one of those that run with the card.
+/// position that is told, which is wired from brushes alone and has a line at least, emitted and called the level that is told, and no lower
+/// such position called that of the program cycle or a higher one; and the level of the program cycle is one of those that run with the card.
 /// The function does nothing: its contract is the law.
 pub fn reasons_hold()
     ensures { ReasonsHold }

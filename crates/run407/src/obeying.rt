@@ -5,9 +5,9 @@ use crate::folds::fold;
 use crate::output::Output;
 use crate::running::waiting_pages;
 use crate::watched::Watched;
-use crate::words::{tell_checked, tell_waiting};
+use crate::words::{shows_both, tell_waiting};
 use browser_pages::show_to_end;
-use check_calls::{print_check, print_grouped, print_shown};
+use check_calls::{print_check, print_grouped, print_shown, tell_checked};
 use command_line::Wanted;
 use commands::{
     Command, Ending, Fault, chart_and_deck, read_whole, replay_by_orders_to_end, run_to_end,
@@ -61,7 +61,8 @@ pub fn obey<'a>(rt: &HostRuntime, wanted: Wanted<'a>) -> Result<Ending, Fault<'a
         Wanted::CheckDeck { chart, deck } => {
             let text = read(rt, chart)?;
             let cards = open(rt, deck)?;
-            tell_checked(rt, print_check(alloc, text.as_slice(), cards, out))
+            let checked = print_check(alloc, text.as_slice(), cards, out);
+            tell_checked(checked, shows_both(rt), faults)
         }
         Wanted::ShowDeck { chart, deck } => {
             let text = read(rt, chart)?;
@@ -70,13 +71,15 @@ pub fn obey<'a>(rt: &HostRuntime, wanted: Wanted<'a>) -> Result<Ending, Fault<'a
                 list_text_to_end(alloc, text, out, faults)
             } else {
                 let cards = open(rt, deck)?;
-                tell_checked(rt, print_shown(alloc, text, deck, cards, out))
+                let checked = print_shown(alloc, text, deck, cards, out);
+                tell_checked(checked, shows_both(rt), faults)
             }
         }
         Wanted::GroupDeck { chart, deck } => {
             let text = read(rt, chart)?;
             let cards = open(rt, deck)?;
-            tell_checked(rt, print_grouped(alloc, text.as_slice(), deck, cards, out))
+            let checked = print_grouped(alloc, text.as_slice(), deck, cards, out);
+            tell_checked(checked, shows_both(rt), faults)
         }
         Wanted::Layout { chart } => {
             let text = read(rt, chart)?;

@@ -1,11 +1,10 @@
 //! The words of the command line, and what is told of them.
 
-ghost use Rattle.std.specs.Prelude.{◌≡◌, ◌≢◌, IfErr, OnOk};
+ghost use Rattle.std.specs.Prelude.{◌≡◌, ◌≢◌};
 ghost use Rattle.std.specs.IoError.{error_kind};
-ghost use Rattle.faults.specs.Status.{status_of};
 
 use command_line::Refused;
-use commands::{Ending, Fault, tell, unprinted};
+use commands::{Fault, tell, unprinted};
 use std::io;
 use std::io::{ErrorKind, IsTerminal, Write};
 
@@ -62,34 +61,9 @@ pub fn tell_more(rt: &HostRuntime, status: u8) {
     }
 }
 
-// Whether the fault of a check is that of a deck's first bad card, or of a total, with which the list begins.
-fn is_listed(fault: Fault) -> bool {
-    matches!(
-        fault,
-        Fault::Card { .. } | Fault::Column { .. } | Fault::Total { .. }
-    )
-}
-
-/// Tells why a check of a deck isn't `ok`, which has listed the bad cards. Standard error repeats the fault with which the list begins, but not
-/// if a terminal shows both.
-pub fn tell_checked(rt: &HostRuntime, checked: Result<(), Fault>) -> Ending
-    ensures fine { OnOk checked.entry (result.status ≡ 0) }
-    ensures refused { IfErr checked.entry (λ told. result.status ≡ status_of told) }
-{
-    let Err(fault) = checked else {
-        return Ending {
-            status: 0,
-            is_told: true,
-        };
-    };
-    let shows_both = rt.stdout().is_terminal() && rt.stderr().is_terminal();
-    if shows_both && is_listed(fault) {
-        return Ending {
-            status: fault.status(),
-            is_told: true,
-        };
-    }
-    tell(&fault, &mut rt.stderr())
+/// Whether a terminal shows both what is printed and what is told.
+pub fn shows_both(rt: &HostRuntime) -> bool {
+    rt.stdout().is_terminal() && rt.stderr().is_terminal()
 }
 
 /// Answers the status if the words ask for nothing that is still to be done. Want of memory, and that the help can't be written, are told

@@ -14,7 +14,7 @@ punches_on card field = map (λ column. column_of card column) (columns_in field
 abbrev pub key_on : List Field → List ℕ → List ℕ
 key_on fields card = flat_map (punches_on card) fields
 
--- Columns as they are kept: their sets, and nothing that a set does not tell.
+-- These sets are those of these columns, and the columns can be made of them again.
 pub record AreSetsOf (columns sets : List ℕ) : Type 0 where
   pub to_columns : map column_of_set sets ≡ columns
   pub to_sets : map set_of_column columns ≡ sets
