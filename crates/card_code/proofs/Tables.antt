@@ -1,5 +1,5 @@
 -- The tables of the card code against its pairs.
-use Rattle.std.proofs.Common.{◌≡◌, ◌≢◌, ℕ, zero, suc, ◌+◌, ◌%◌, ◌<◌, ◌≤◌, ◌⊎◌, inl, inr, arith, refl, sym, ap, ◌∙◌, Bool, true, false, ◌&&◌, ◌||◌, List, [], ◌∷◌, length, Option, Some, None, IfSome, if◌then◌else◌, ◌==◌, slice_index}
+use Rattle.std.proofs.Common.{◌≡◌, ◌≢◌, ℕ, zero, suc, ◌+◌, ◌%◌, ◌<◌, ◌≤◌, ◌⊎◌, inl, inr, arith, refl, sym, ap, ◌∙◌, Bool, true, false, ◌&&◌, List, [], ◌∷◌, length, Option, Some, None, if◌then◌else◌, ◌==◌, slice_index}
 use Rattle.std.specs.Prelude.{nat_lt}
 use Rattle.std.specs.List.{list_all}
 use Rattle.std.specs.Option.{option_map}
@@ -8,7 +8,7 @@ use Rattle.std.proofs.lemmas.Bool.{false≢true}
 use Rattle.std.proofs.lemmas.Bool.Decides.{eqb_tells, nat_tests}
 use Rattle.card_code.specs.CardCode.{character_in, rows_in}
 use Rattle.card_code.specs.Columns.{column_of, set_of_column, set-again}
-use Rattle.card_code.specs.Tables.{entry, listed, matching}
+use Rattle.card_code.specs.Tables.{entry, matching}
 
 -- whether two optional numbers are the same
 abbrev same_option : Option ℕ → Option ℕ → Bool
@@ -32,37 +32,37 @@ goes_on : (test : Bool) (value : ℕ) (rest : Option ℕ) → test ≡ false →
 goes_on true value rest e = absurd (false≢true (sym e))
 goes_on false value rest e = refl
 
--- whether an entry is small, or stands for none
-abbrev pub is_small : ℕ → Bool
-is_small set = set == 65535 || nat_lt set 4096
+-- an entry that has rows alone, and one that has more
+pub entry-rows : (set : ℕ) → set < 4096 → entry set ≡ Some set
+entry-rows set small = let is : nat_lt set 4096 ≡ true = grind (arith, nat_tests, small) in ap (λ b. if b then Some set else None) is
+
+pub entry-more : (set : ℕ) → 4096 ≤ set → entry set ≡ None
+entry-more set large = let is : nat_lt set 4096 ≡ false = grind (arith, nat_tests, large) in ap (λ b. if b then Some set else None) is
 
 -- whether a table lists sets of the columns that pairs have, from a character on
 abbrev pub lists : List (ℕ × ℕ) → ℕ → List ℕ → Bool
 lists pairs from [] = true
 lists pairs from (set ∷ table) =
-    is_small set && (same_option (option_map column_of (entry set)) (rows_in pairs from) && lists pairs (suc from) table)
-
--- an entry for a character
-abbrev pub IsEntry : List (ℕ × ℕ) → ℕ → ℕ → Type 0
-IsEntry pairs character set = (is_small set ≡ true) × (option_map column_of (entry set) ≡ rows_in pairs character)
+    same_option (option_map column_of (entry set)) (rows_in pairs from) && lists pairs (suc from) table
 
 -- what it lists is what they have
 lists-at : (pairs : List (ℕ × ℕ)) (from k : ℕ) (table : List ℕ) → lists pairs from table ≡ true → k < length table
-    → IsEntry pairs (from + k) (slice_index table k)
+    → option_map column_of (entry (slice_index table k)) ≡ rows_in pairs (from + k)
 lists-at pairs from k [] is inside = absurd (omega (arith, inside))
 lists-at pairs from zero (set ∷ table) is inside =
     let same : from ≡ from + 0 = omega arith in
-    let first = both _ _ is in (
-      first.0,
-      same-option (option_map column_of (entry set)) (rows_in pairs from) (both _ _ first.1).0 ∙ ap (λ (c : ℕ). rows_in pairs c) same,
-    )
+    same-option (option_map column_of (entry set)) (rows_in pairs from) (both _ _ is).0 ∙ ap (λ (c : ℕ). rows_in pairs c) same
 lists-at pairs from (suc k) (set ∷ table) is inside =
     let same : suc from + k ≡ from + suc k = omega arith in
-    let later = lists-at pairs (suc from) k table (both _ _ (both _ _ is).1).1 (omega (arith, inside)) in
-    (later.0, later.1 ∙ ap (λ (c : ℕ). rows_in pairs c) same)
+    lists-at pairs (suc from) k table (both _ _ is).1 (omega (arith, inside)) ∙ ap (λ (c : ℕ). rows_in pairs c) same
+
+-- a table of 256 that lists what pairs have
+pub listed-right : (pairs : List (ℕ × ℕ)) (table : List ℕ) (byte : ℕ) → lists pairs 0 table ≡ true → length table ≡ 256 → byte < 256
+    → option_map column_of (entry (slice_index table byte)) ≡ rows_in pairs byte
+listed-right pairs table byte lists_all long below = lists-at pairs 0 byte table lists_all (omega (arith, below, long)) ∙ ap (λ (c : ℕ). rows_in pairs c) (omega arith)
 
 -- pairs whose characters are all below 256 have no other
-outside : (pairs : List (ℕ × ℕ)) (character : ℕ) → list_all (λ pair. nat_lt pair.0 256) pairs ≡ true
+pub outside : (pairs : List (ℕ × ℕ)) (character : ℕ) → list_all (λ pair. nat_lt pair.0 256) pairs ≡ true
     → 256 ≤ character → rows_in pairs character ≡ None
 outside [] character within far = refl
 outside (pair ∷ pairs) character within far =
@@ -72,27 +72,6 @@ outside (pair ∷ pairs) character within far =
   where
     apart : (one character : ℕ) → nat_lt one 256 ≡ true → 256 ≤ character → (one == character) ≡ false
     apart one character low high = grind (arith, nat_tests, low, high)
-
--- a table of 256 that lists what pairs have
-pub listed-right : (pairs : List (ℕ × ℕ)) (table : List ℕ) (character : ℕ)
-    → list_all (λ pair. nat_lt pair.0 256) pairs ≡ true → lists pairs 0 table ≡ true → length table ≡ 256
-    → (option_map column_of (listed table character) ≡ rows_in pairs character) × IfSome (listed table character) (λ set. set < 4096)
-listed-right pairs table character within lists_all long = by (nat_lt character 256) refl
-  where
-    small : (set : ℕ) → is_small set ≡ true → IfSome (entry set) (λ set. set < 4096)
-    small set is = of (set == 65535) is
-      where
-        of : (none : Bool) → (none || nat_lt set 4096) ≡ true → IfSome (if none then None else Some set) (λ set. set < 4096)
-        of true is = tt
-        of false is = grind (arith, nat_tests, is)
-
-    by : (low : Bool) → nat_lt character 256 ≡ low
-        → (option_map column_of (listed table character) ≡ rows_in pairs character) × IfSome (listed table character) (λ set. set < 4096)
-    by true is =
-        let inside : character < 256 = grind (arith, nat_tests, is) in
-        let found = lists-at pairs 0 character table lists_all (omega (arith, inside, long)) in
-        rw (is) (found.1 ∙ ap (λ (c : ℕ). rows_in pairs c) (omega arith), small (slice_index table character) found.0)
-    by false is = rw (is) (sym (outside pairs character within (grind (arith, nat_tests, is))), tt)
 
 -- whether pairs have what two tables have beside one another
 abbrev pub has_all : List (ℕ × ℕ) → List ℕ → List ℕ → Bool

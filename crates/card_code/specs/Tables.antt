@@ -1,13 +1,9 @@
 -- The card code as tables of sets, which have rows by their places.
 use Rattle.std.specs.Prelude.{ℕ, ◌%◌, ◌==◌, nat_lt, List, Option, Some, None, slice_index, if◌then◌else◌}
 
--- the set that an entry stands for; 65535 stands for none
+-- The set that an entry stands for. One that has bits behind those of the twelve rows is that of no deck character.
 abbrev pub entry : ℕ → Option ℕ
-entry set = if set == 65535 then None else Some set
-
--- the set that a table of 256 characters has for a character
-abbrev pub listed : List ℕ → ℕ → Option ℕ
-listed table character = if nat_lt character 256 then entry (slice_index table character) else None
+entry set = if nat_lt set 4096 then Some set else None
 
 -- the character at the place of a set, if that place has the set
 abbrev pub matching : List ℕ → List ℕ → ℕ → Option ℕ

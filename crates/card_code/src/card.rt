@@ -1,8 +1,9 @@
 //! A punched card.
 
 ghost use Rattle.std.specs.Prelude.{◌≡◌, ◌-◌, ◌≤◌, ℕ, List, length, replicate, slice_index, IfNone, IfSome};
-ghost use Rattle.card_code.specs.Deck.{IsCardOf, IsOddColumn};
+ghost use Rattle.card_code.specs.Deck.{IsCardOf, IsOddColumn, IsPunchable};
 
+use crate::code::{ALL_ROWS, listed_set};
 use crate::column::Column;
 use std::marker::Model;
 
@@ -38,20 +39,25 @@ impl Card {
     }
 
     // Punches a line in the place of what was punched before. Answers the column of the first byte that is no deck character, from 1; the
-    // card is that of the line if each is one.
+    // card is that of the line if each is one. The sets of all bytes are joined, and only if they have more than rows together, the first
+    // byte that is no deck character is looked for.
     pub(crate) fn punch(&mut self, line: &[u8]) -> Option<u32>
         requires { length line.now ≤ 80 }
         ensures card { IfNone result (IsCardOf line.now self.new) }
         ensures odd { IfSome result (IsOddColumn line.now) }
     {
         *self = Card::blank();
+        let mut joined = 0;
         for place in 0..line.len() {
-            match Column::of_char(char::from(line[place])) {
-                Some(column) => self.columns[place] = column,
-                None => return Some(place as u32 + 1),
-            }
+            let set = listed_set(line[place]);
+            joined |= set;
+            self.columns[place] = Column::of_set(set & ALL_ROWS);
         }
-        None
+        if joined <= ALL_ROWS {
+            None
+        } else {
+            odd_column(line)
+        }
     }
 
     /// Its columns, the first one being column 1.
@@ -71,4 +77,18 @@ impl Card {
     {
         self.columns[column as usize - 1]
     }
+}
+
+// The column of the first byte that is no deck character, from 1.
+fn odd_column(line: &[u8]) -> Option<u32>
+    requires { length line.now ≤ 80 }
+    ensures none { IfNone result (IsPunchable line.now) }
+    ensures odd { IfSome result (IsOddColumn line.now) }
+{
+    for place in 0..line.len() {
+        if listed_set(line[place]) > ALL_ROWS {
+            return Some(place as u32 + 1);
+        }
+    }
+    None
 }

@@ -4,10 +4,13 @@ ghost use Rattle.std.specs.Prelude.{◌≡◌, ◌<◌, ◌%◌, ◌↔◌, ℕ,
 ghost use Rattle.std.specs.Option.{option_map};
 ghost use Rattle.card_code.specs.CardCode.{code, deck_character, is_one_to_one, rows_of};
 ghost use Rattle.card_code.specs.Columns.{column_of};
-ghost use Rattle.card_code.specs.Tables.{listed, matching};
+ghost use Rattle.card_code.specs.Tables.{entry, matching};
 
-/// What stands for the set of a character that is no deck character.
-const NONE: u16 = 0xffff;
+/// The bits of the twelve rows.
+pub const ALL_ROWS: u16 = 0xfff;
+
+/// What stands for the set of a byte that is no deck character: it has bits behind those of the rows, and no row.
+const NONE: u16 = 0xf000;
 
 /// The set of each byte's rows, by their places: an A, with the rows 12 and 1 at the places 11 and 8, has 0x0900.
 #[rattlefmt::skip]
@@ -94,12 +97,24 @@ pub fn code_is_one_to_one()
     ensures inverse { (character set : ℕ) → (rows_of character ≡ Some set) ↔ (deck_character set ≡ Some character) }
 {}
 
+/// The set of the rows of a byte, by their places. That of a byte that is no deck character has bits behind those of the rows.
+pub fn listed_set(byte: u8) -> u16
+    ensures { option_map column_of (entry result) ≡ rows_of byte }
+{
+    LISTED[byte as usize]
+}
+
 /// The set of the rows of a deck character, by their places, or `None` for a character that is none.
 pub fn set_of_character(character: char) -> Option<u16>
     ensures rows { option_map column_of result ≡ rows_of character }
     ensures small { IfSome result (λ set. set < 4096) }
 {
-    listed_set(&LISTED, character)
+    let number = u32::from(character);
+    if number >= 256 {
+        return None;
+    }
+    let set = listed_set(number as u8);
+    if set <= ALL_ROWS { Some(set) } else { None }
 }
 
 /// The deck character of a set of rows by their places, or `None` where no character has exactly these.
@@ -108,20 +123,6 @@ pub fn character_of_set(set: u16) -> Option<u8>
     ensures { result ≡ deck_character (column_of set) }
 {
     matching_character(&SETS, &CHARACTERS, set)
-}
-
-/// The set that a table lists for a character, or `None` where it has none.
-fn listed_set(table: &[u16; 256], character: char) -> Option<u16>
-    ensures { result ≡ listed table.now character }
-{
-    let number = u32::from(character);
-    if number >= 256 {
-        return None;
-    }
-    match table[number as usize] {
-        NONE => None,
-        set => Some(set),
-    }
 }
 
 /// The character at the place of a set, or `None` where that place has another set.

@@ -11,7 +11,7 @@ use std::marker::Model;
 
 /// The set of rows punched in one column, any of the twelve.
 ///
-/// Contracts see a column as a number in which bit `r` tells of row `r`. It is kept as the sensing stations need it, by the places of the
+/// Contracts see a column as a number in which bit `r` tells of row `r`. It is kept as the reading stations need it, by the places of the
 /// rows among [`ROWS`](crate::ROWS).
 #[derive(Clone, Copy, Debug, Default)]
 pub struct Column {

@@ -5,13 +5,11 @@ use Rattle.std.specs.Int.{trailing_zeros}
 use Rattle.std.proofs.lemmas.Bool.{cases_lt}
 use Rattle.std.proofs.lemmas.Bool.Decides.{eqb_tells, nat_tests}
 use Rattle.std.proofs.lemmas.List.{get_or-replicate, get_or_past, length-reverse}
-use Rattle.std.proofs.lemmas.Nat.{le_or_r, mul-le, one_shl, or_lt}
+use Rattle.std.proofs.lemmas.Nat.{le_or_r, one_shl, or_lt}
 use Rattle.std.proofs.lemmas.Nat.Bits.{bit_at-trailing_zeros}
 use Rattle.card_code.specs.Rows.{passing_place, row_number, rows}
 use Rattle.card_code.specs.declared.row.Row.{Row as CardRow}
 use Rattle.card_code.specs.declared.row.Row.TheVariants.{Zero, One, Two, Three, Four, Five, Six, Seven, Eight, Nine, Eleven, Twelve}
-use Rattle.hub_table.specs.Places.{is_width, positions_before}
-use Rattle.hub_table.specs.Ranges.{is_within}
 use Rattle.hubs.specs.declared.hub.Group.{Group}
 use Rattle.hubs.specs.declared.hub.Hub.TheVariants.{GE}
 use Rattle.net.specs.HubSets.{is_bit}
@@ -183,15 +181,3 @@ no-sets k place test =
 
     none : false ≡ (nat_lt k 0 && test)
     none = grind (arith, nat_tests)
-
--- from a group's first entry on there are eight hubs at least
-pub entries-near : (name : Group) → is_width name.width ≡ true → is_within name.number 8 ≡ true
-    → 1100 + positions_before name.width + (name.number - 1) * name.width + 1 + 8 ≤ 1937
-entries-near name wide named =
-    let small : name.width ≤ 8 = grind (arith, nat_tests, wide) in
-    let number : name.number - 1 ≤ 7 = grind (arith, nat_tests, named) in
-    let product = mul-le (name.number - 1) name.width 7 8 number small in
-    omega (arith, small, before name.width, product)
-  where
-    before : (w : ℕ) → positions_before w ≤ 104
-    before w = grind (arith, nat_tests)

@@ -6,12 +6,32 @@ ghost use Rattle.card_code.specs.Rows.{passing_place, row_number};
 ghost use Rattle.card_code.specs.declared.row.Row.{Row as CardRow};
 ghost use Rattle.net.specs.HubSets.{is_bit};
 ghost use Rattle.net.specs.HubRows.{has_at};
-ghost use Rattle.counters.specs.AllRows.{digit_entered, earliest_digit};
+ghost use Rattle.counters.specs.AllRows.{digit_entered, earliest_digit, positions_before_group};
+ghost use Rattle.counters.specs.Counters.{group_of_unit};
 ghost use Rattle.counters.specs.Laws.{IsDigit};
 ghost use Rattle.counters.specs.Shown.{shows_at};
 
 use crate::group::PLACES;
 use std::simd::prelude::*;
+
+// How many positions the groups before a unit have, from unit 3 to unit 34.
+#[rattlefmt::skip]
+const BEFORE: [u8; 32] = [
+    0, 3, 6, 9, 12, 15, 18, 21,
+    24, 28, 32, 36, 40, 44, 48, 52,
+    56, 62, 68, 74, 80, 86, 92, 98,
+    104, 112, 120, 128, 136, 144, 152, 160,
+];
+
+// How many positions the groups before a unit have. Their exits follow one another in the order of the units, and so do their entries.
+#[inline(always)]
+pub(crate) fn positions_before(unit: u8) -> u8
+    requires from { 3 ≤ unit }
+    requires to { unit ≤ 34 }
+    ensures { result ≡ positions_before_group (group_of_unit unit) }
+{
+    BEFORE[unit as usize - 3]
+}
 
 // The sets of the rows at which positions emit, both from the units on: each emits at the row of its digit.
 pub(crate) fn rows_shown(digits: &[u8]) -> [u16; PLACES]

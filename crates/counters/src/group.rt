@@ -2,7 +2,7 @@
 
 ghost use Rattle.std.specs.Prelude.{◌≡◌, ◌≤◌};
 
-use crate::all_rows::{entered_after, rows_shown};
+use crate::all_rows::{entered_after, positions_before, rows_shown};
 use crate::controls::Controls;
 use crate::digits::{Digits, from_units, number_of};
 use crate::sensing::{controls_in, controls_of, low_half, show, take_row, takes};
@@ -13,6 +13,15 @@ use std::marker::Model;
 
 /// The most positions that a group has.
 pub(crate) const PLACES: usize = 8;
+
+// The first of all groups.
+const FIRST: hubs::Group = hubs::Group {
+    width: 3,
+    number: 1,
+};
+
+// The hub number of its first exit.
+const FIRST_EXIT: u32 = 191;
 
 /// A counter group: 3, 4, 6 or 8 positions that add, subtract and read out together.
 ///
@@ -256,7 +265,8 @@ impl Group {
         if self.controls.read_out {
             let width = self.name.width as usize;
             let shown = rows_shown(&self.digits[..width]);
-            sets.insert_sets(Hub::GX(self.name, 1), &shown);
+            let number = FIRST_EXIT + u32::from(positions_before(self.unit));
+            sets.insert_sets_at(Hub::GX(self.name, 1), number, &shown);
         }
     }
 
@@ -273,8 +283,9 @@ impl Group {
         ensures { self.new ≡ after_rows counter_sensed _cycle (pictures_of pictures.now) self.old }
     {
         if self.controls.takes_digits() {
-            let read = pictures.from(Hub::GE(self.name, 1));
-            self.entered = entered_after(self.entered, read);
+            let before = positions_before(self.unit) as usize;
+            let read = pictures.from(Hub::GE(FIRST, 1));
+            self.entered = entered_after(self.entered, &read[before..]);
         }
     }
 }

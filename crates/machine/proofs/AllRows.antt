@@ -1,5 +1,5 @@
 -- The points of the rows, all at once: what is emitted, what is sensed, and that this is what they do one by one.
-use Rattle.std.proofs.Common.{◌≡◌, ◌≢◌, ◌↔◌, ◌∙◌, refl, sym, ap, ℕ, suc, ◌+◌, ◌==◌, ◌&&◌, ◌||◌, Bool, true, false, List, [], ◌∷◌, map, length, Option, Some, None, if◌then◌else◌, subst}
+use Rattle.std.proofs.Common.{◌≡◌, ◌≢◌, ◌∙◌, refl, sym, ap, ℕ, suc, ◌+◌, ◌==◌, ◌&&◌, ◌||◌, Bool, true, false, List, [], ◌∷◌, map, length, Option, Some, None, subst}
 use Rattle.std.specs.List.{list_any}
 use Rattle.card_code.specs.Rows.{passing_place, row_number, rows}
 use Rattle.card_code.specs.declared.row.Row.{Row as CardRow}
@@ -9,22 +9,18 @@ use Rattle.program_unit.specs.Program.{ProgramState, program_sensed}
 use Rattle.selectors.specs.Pilots.{pilots_sensed}
 use Rattle.print_unit.specs.Wheels.{collected, wheel_sensed, wheels_sensed}
 use Rattle.print_unit.specs.ZeroControl.{Wheel}
-use Rattle.setups.specs.Wiring.{HasWire, Wiring}
-use Rattle.std.proofs.lemmas.Bool.{or_from, or_parts}
+use Rattle.setups.specs.Wiring.{Wiring}
 use Rattle.hubs.specs.Hubs.{is_hub_in_range}
 use Rattle.hubs.specs.declared.hub.Group.{Group}
 use Rattle.hubs.specs.declared.hub.Hub.{Hub}
-use Rattle.hubs.specs.declared.hub.Hub.TheVariants.{BAC, BAN, BAT, CI, CO, CSD, CSE, CSZ, EM, FR, GX, IE, IX, PIC, PIN, PIT, SR, SX, W}
+use Rattle.hubs.specs.declared.hub.Hub.TheVariants.{BAC, BAN, BAT, CI, CO, CSD, CSE, CSZ, EM, GX, IE, IX, PIC, PIN, PIT, SX, W, CA, CB, GE, SE, PIX}
 use Rattle.net.proofs.Rows.{is_hub-same}
 use Rattle.net.specs.HubSets.{has_hub, is_hub}
 use Rattle.net.specs.Impulsed.{IsPicture}
-use Rattle.net.specs.Impulsed.IsImpulsed.{emitting}
 use Rattle.net.specs.HubRows.{has_row_at}
 use Rattle.net.specs.Panel.{contact_of}
 use Rattle.net.specs.Passing.{AreContactsSilent, closes_at_row}
-use Rattle.net.specs.Laws.{EmitsOrIsFed, IsUnwired}
-use Rattle.net.proofs.ImpulsedLaws.{picture_without, wires_make}
-use Rattle.net.specs.RowSets.{LeadsToNoContact, after_rows, pictures_of}
+use Rattle.net.specs.RowSets.{after_rows, pictures_of}
 use Rattle.net.specs.WholeCycles.{after_points}
 use Rattle.net.specs.declared.cycle.Cycle.{Cycle}
 use Rattle.net.specs.declared.cycle.Cycle.TheVariants.{RunIn, Card, Prog, Head}
@@ -32,10 +28,9 @@ use Rattle.net.specs.declared.cycle.Point.{Point}
 use Rattle.net.specs.declared.cycle.Point.TheVariants.{Row}
 use Rattle.print_unit.specs.Emitters.{emits_row, emitter_of, emitters_emit}
 use Rattle.stations.specs.Comparing.{Compared, comparing_emits, comparing_sensed}
-use Rattle.stations.proofs.ColumnSets.{first_unseen, second_unseen}
-use Rattle.stations.specs.Stations.{StationCards, first_emits, second_emits, seen, stations_emits}
+use Rattle.stations.specs.Stations.{StationCards, first_emits, second_emits, stations_emits}
 use Rattle.storage_units.specs.Storage.{StorageState, storage_emits, storage_sensed}
-use Rattle.machine.specs.AllRows.{RunsRows, seeing}
+use Rattle.machine.specs.AllRows.{RunsRows, apart}
 use Rattle.machine.specs.Cycles.{Reached, point_at}
 use Rattle.machine.specs.Machine.{MachineState, closes, emits, sensed}
 use Rattle.machine.specs.Fields.{AreInUnitOrder}
@@ -156,34 +151,31 @@ shows-apart name given (digit ∷ below) hub apart =
     no-and false = refl
 
 -- what no unit emits
-record IsNoExit (hub : Hub) : Type 0 where
-  first : (card : Option (List ℕ)) (at : CardRow) → first_emits card at hub ≡ false
-  second : (card : Option (List ℕ)) (at : CardRow) → second_emits card at hub ≡ false
-  group : (name : Group) (position : ℕ) → GX name position ≢ hub
-  storage : (unit : StorageState) (cycle : Cycle) (at : CardRow) → storage_emits unit cycle (Row at) hub ≡ false
-  emitter : (emitter at : ℕ) → EM emitter at ≢ hub
+pub record IsNoExit (hub : Hub) : Type 0 where
+  pub first : (card : Option (List ℕ)) (at : CardRow) → first_emits card at hub ≡ false
+  pub second : (card : Option (List ℕ)) (at : CardRow) → second_emits card at hub ≡ false
+  pub group : (name : Group) (position : ℕ) → GX name position ≢ hub
+  pub storage : (unit : StorageState) (cycle : Cycle) (at : CardRow) → storage_emits unit cycle (Row at) hub ≡ false
+  pub emitter : (emitter at : ℕ) → EM emitter at ≢ hub
 
-none-emitted : (machine : MachineState) (cycle : Cycle) (at : CardRow) (hub : Hub) → IsNoExit hub → emits machine cycle (Row at) hub ≡ false
-none-emitted machine cycle at hub not_exit =
-    rw (
-      stations machine.stations cycle,
-      comparing-row machine.comparing cycle at hub,
-      groups machine.groups,
-      storage machine.storage,
-      emitters (emitter_of cycle),
-    )
-    refl
+-- what only the stations may emit
+pub stations-alone : (machine : MachineState) (cycle : Cycle) (at : CardRow) (hub : Hub)
+    → ((name : Group) (position : ℕ) → GX name position ≢ hub)
+    → ((unit : StorageState) (c : Cycle) (row : CardRow) → storage_emits unit c (Row row) hub ≡ false)
+    → ((emitter row : ℕ) → EM emitter row ≢ hub)
+    → emits machine cycle (Row at) hub ≡ stations_emits machine.stations cycle (Row at) hub
+stations-alone machine cycle at hub no_group no_storage no_emitter =
+    rw (comparing-row machine.comparing cycle at hub, groups machine.groups, storage machine.storage, emitters (emitter_of cycle))
+    (ends (stations_emits machine.stations cycle (Row at) hub))
   where
-    stations : (cards : StationCards) (c : Cycle) → stations_emits cards c (Row at) hub ≡ false
-    stations cards RunIn = not_exit.first cards.first at
-    stations cards Card = let one = not_exit.first cards.first at in let other = not_exit.second cards.second at in λ i. one i || other i
-    stations cards (Prog level ordinal) = refl
-    stations cards (Head heading) = refl
+    ends : (a : Bool) → (a || false || false || false || false || false || false || false || false || false || false) ≡ a
+    ends true = refl
+    ends false = refl
 
     groups : (list : List Counter) → list_any (λ group. counter_emits group cycle (Row at) hub) list ≡ false
     groups [] = refl
     groups (group ∷ others) =
-        let here = shows-apart group.name (row_number at) group.digits hub (not_exit.group group.name) in
+        let here = shows-apart group.name (row_number at) group.digits hub (no_group group.name) in
         rw (here, groups others) (no-and group.controls.read_out)
       where
         no-and : (b : Bool) → ((b && false) || false) ≡ false
@@ -192,14 +184,24 @@ none-emitted machine cycle at hub not_exit =
 
     storage : (list : List StorageState) → list_any (λ unit. storage_emits unit cycle (Row at) hub) list ≡ false
     storage [] = refl
-    storage (unit ∷ others) = let here = not_exit.storage unit cycle at in let rest = storage others in λ i. here i || rest i
+    storage (unit ∷ others) = let here = no_storage unit cycle at in let rest = storage others in λ i. here i || rest i
 
     emitters : (emitter : Option ℕ) → emits_row emitter at hub ≡ false
     emitters None = refl
-    emitters (Some emitter) = hub-apart (EM emitter (row_number at)) hub (not_exit.emitter emitter (row_number at))
+    emitters (Some emitter) = hub-apart (EM emitter (row_number at)) hub (no_emitter emitter (row_number at))
+
+pub none-emitted : (machine : MachineState) (cycle : Cycle) (at : CardRow) (hub : Hub) → IsNoExit hub → emits machine cycle (Row at) hub ≡ false
+none-emitted machine cycle at hub not_exit =
+    stations-alone machine cycle at hub not_exit.group not_exit.storage not_exit.emitter ∙ stations machine.stations cycle
+  where
+    stations : (cards : StationCards) (c : Cycle) → stations_emits cards c (Row at) hub ≡ false
+    stations cards RunIn = not_exit.first cards.first at
+    stations cards Card = let one = not_exit.first cards.first at in let other = not_exit.second cards.second at in λ i. one i || other i
+    stations cards (Prog level ordinal) = refl
+    stations cards (Head heading) = refl
 
 -- a hub from which contacts lead is emitted by no unit
-common-silent : (machine : MachineState) (cycle : Cycle) (at : CardRow) (common hub : Hub) → contact_of hub ≡ Some common
+pub common-silent : (machine : MachineState) (cycle : Cycle) (at : CardRow) (common hub : Hub) → contact_of hub ≡ Some common
     → emits machine cycle (Row at) common ≡ false
 common-silent machine cycle at common hub is = none-emitted machine cycle at common (by hub is)
   where
@@ -274,11 +276,19 @@ contacts-silent machine cycle sets emitted common hub contact at = (
   emitted at hub ∙ exit-silent machine cycle at common hub contact,
 )
 
--- what a picture tells at other hubs than the exits of the reading stations
+-- what a picture tells at the entries that units sense at a row; that of wheels is given
+abbrev pub told : (ℕ → Bool) → (Hub → Bool) → Hub → Bool
+told wheels picture (CA position) = picture (CA position)
+told wheels picture (CB position) = picture (CB position)
+told wheels picture (GE group position) = picture (GE group position)
+told wheels picture (SE unit column) = picture (SE unit column)
+told wheels picture (PIX pilot) = picture (PIX pilot)
+told wheels picture (W wheel) = wheels wheel
+told wheels picture other = false
+
+-- the same with the wheels of the picture
 abbrev heard : (Hub → Bool) → Hub → Bool
-heard picture (FR column) = false
-heard picture (SR column) = false
-heard picture other = picture other
+heard picture = told (λ wheel. picture (W wheel)) picture
 
 -- the units sense no more than that at a row
 wheels-heard : (v : ℕ) (at : CardRow) (picture : Hub → Bool) (wheels : List Wheel)
@@ -287,219 +297,87 @@ wheels-heard v at picture [] = refl
 wheels-heard v at picture (wheel ∷ others) =
     ap (λ (rest : List Wheel). wheel_sensed at (picture (W v)) wheel ∷ rest) (wheels-heard (v + 1) at picture others)
 
-compared-heard : (compared : Compared) (cycle : Cycle) (at : CardRow) (picture : Hub → Bool)
-    → comparing_sensed compared cycle (Row at) picture ≡ comparing_sensed compared cycle (Row at) (heard picture)
-compared-heard compared RunIn at picture = refl
-compared-heard compared Card at picture = refl
-compared-heard compared (Prog level ordinal) at picture = refl
-compared-heard compared (Head heading) at picture = refl
+compared-told : (compared : Compared) (cycle : Cycle) (at : CardRow) (wheels : ℕ → Bool) (picture : Hub → Bool)
+    → comparing_sensed compared cycle (Row at) picture ≡ comparing_sensed compared cycle (Row at) (told wheels picture)
+compared-told compared RunIn at wheels picture = refl
+compared-told compared Card at wheels picture = refl
+compared-told compared (Prog level ordinal) at wheels picture = refl
+compared-told compared (Head heading) at wheels picture = refl
 
-program-heard : (program : ProgramState) (cycle : Cycle) (at : CardRow) (picture : Hub → Bool)
-    → program_sensed program cycle (Row at) picture ≡ program_sensed program cycle (Row at) (heard picture)
-program-heard program RunIn at picture = refl
-program-heard program Card at picture = refl
-program-heard program (Prog level ordinal) at picture = refl
-program-heard program (Head heading) at picture = refl
+program-told : (program : ProgramState) (cycle : Cycle) (at : CardRow) (wheels : ℕ → Bool) (picture : Hub → Bool)
+    → program_sensed program cycle (Row at) picture ≡ program_sensed program cycle (Row at) (told wheels picture)
+program-told program RunIn at wheels picture = refl
+program-told program Card at wheels picture = refl
+program-told program (Prog level ordinal) at wheels picture = refl
+program-told program (Head heading) at wheels picture = refl
+
+apart-told : (machine : MachineState) (cycle : Cycle) (at : CardRow) (wheels : ℕ → Bool) (picture : Hub → Bool)
+    → apart machine cycle (Row at) picture ≡ apart machine cycle (Row at) (told wheels picture)
+apart-told machine cycle at wheels picture =
+    let comparing = compared-told machine.comparing cycle at wheels picture in
+    let program = program-told machine.program cycle at wheels picture in
+    λ i. record (apart machine cycle (Row at) picture) { comparing = comparing i; program = program i }
 
 sensed-heard : (machine : MachineState) (cycle : Cycle) (at : CardRow) (picture : Hub → Bool)
     → sensed machine cycle (Row at) picture ≡ sensed machine cycle (Row at) (heard picture)
 sensed-heard machine cycle at picture =
-    let comparing = compared-heard machine.comparing cycle at picture in
+    let others = apart-told machine cycle at (λ wheel. picture (W wheel)) picture in
     let wheels = wheels-heard 1 at picture machine.wheels.wheels in
-    let program = program-heard machine.program cycle at picture in
-    λ i. record (sensed machine cycle (Row at) picture) {
-      comparing = comparing i;
-      wheels = record machine.wheels { wheels = wheels i };
-      program = program i;
-    }
+    λ i. record (others i) { wheels = record machine.wheels { wheels = wheels i } }
 
--- so are rows one after another
-rows-heard : (cycle : Cycle) (one other : Point → Hub → Bool)
-    → ((at : CardRow) (hub : Hub) → heard (one (Row at)) hub ≡ heard (other (Row at)) hub) → (list : List CardRow) (machine : MachineState)
-    → after_points sensed cycle one (map Row list) machine ≡ after_points sensed cycle other (map Row list) machine
-rows-heard cycle one other same [] machine = refl
-rows-heard cycle one other same (at ∷ list) machine =
-    let heard-same : ◌≡◌ {A = Hub → Bool} (heard (one (Row at))) (heard (other (Row at))) = λ i hub. same at hub i in
-    let step : sensed machine cycle (Row at) (one (Row at)) ≡ sensed machine cycle (Row at) (other (Row at)) =
-    sensed-heard machine cycle at (one (Row at))
-    ∙ ap (λ (picture : Hub → Bool). sensed machine cycle (Row at) picture) heard-same
-    ∙ sym (sensed-heard machine cycle at (other (Row at))) in
-    ap (λ (m : MachineState). after_points sensed cycle one (map Row list) m) step
-    ∙ rows-heard cycle one other same list (sensed machine cycle (Row at) (other (Row at)))
+-- rows one after another, where each does the same
+pub rows-alike : {State : Type 0} (sense : State → Cycle → Point → (Hub → Bool) → State) (cycle : Cycle) (one other : Point → Hub → Bool)
+    → ((at : CardRow) (state : State) → sense state cycle (Row at) (one (Row at)) ≡ sense state cycle (Row at) (other (Row at)))
+    → (list : List CardRow) (state : State)
+    → after_points sense cycle one (map Row list) state ≡ after_points sense cycle other (map Row list) state
+rows-alike sense cycle one other same [] state = refl
+rows-alike {State} sense cycle one other same (at ∷ list) state =
+    ap (λ (s : State). after_points sense cycle one (map Row list) s) (same at state)
+    ∙ rows-alike sense cycle one other same list (sense state cycle (Row at) (other (Row at)))
 
--- stations that aren't looked at emit nothing that others don't
-seen-only : (first second : Bool) (cards : StationCards) (cycle : Cycle) (at : CardRow) (hub : Hub)
-    → stations_emits cards cycle (Row at) hub ≡ false → stations_emits (seen first second cards) cycle (Row at) hub ≡ false
-seen-only first second cards RunIn at hub off = one first where
-  one : (b : Bool) → first_emits (if b then cards.first else None) at hub ≡ false
-  one true = off
-  one false = first_unseen at hub
-seen-only first second cards Card at hub off = by first second where
-  by : (b c : Bool) → (first_emits (if b then cards.first else None) at hub || second_emits (if c then cards.second else None) at hub) ≡ false
-  by true true = off
-  by true false =
-      let parts = or_parts (first_emits cards.first at hub) (second_emits cards.second at hub) off in
-      or_from (first_emits cards.first at hub) (second_emits None at hub) parts.0 (second_unseen at hub)
-  by false true =
-      let parts = or_parts (first_emits cards.first at hub) (second_emits cards.second at hub) off in
-      or_from (first_emits None at hub) (second_emits cards.second at hub) (first_unseen at hub) parts.1
-  by false false = or_from (first_emits None at hub) (second_emits None at hub) (first_unseen at hub) (second_unseen at hub)
-seen-only first second cards (Prog level ordinal) at hub off = refl
-seen-only first second cards (Head heading) at hub off = refl
+-- so it is where they tell the same
+pub rows-heard : (cycle : Cycle) (one other : Point → Hub → Bool)
+    → ((at : CardRow) (hub : Hub) → heard (one (Row at)) hub ≡ heard (other (Row at)) hub) → (machine : MachineState)
+    → after_rows sensed cycle one machine ≡ after_rows sensed cycle other machine
+rows-heard cycle one other same machine = rows-alike sensed cycle one other step rows machine where
+  step : (at : CardRow) (m : MachineState) → sensed m cycle (Row at) (one (Row at)) ≡ sensed m cycle (Row at) (other (Row at))
+  step at m =
+      let heard-same : ◌≡◌ {A = Hub → Bool} (heard (one (Row at))) (heard (other (Row at))) = λ i hub. same at hub i in
+      sensed-heard m cycle at (one (Row at)) ∙ ap (λ (picture : Hub → Bool). sensed m cycle (Row at) picture) heard-same
+      ∙ sym (sensed-heard m cycle at (other (Row at)))
 
--- and what is looked at emits as ever
-seen-first : (second : Bool) (cards : StationCards) (cycle : Cycle) (at : CardRow) (column : ℕ)
-    → stations_emits (seen true second cards) cycle (Row at) (FR column) ≡ stations_emits cards cycle (Row at) (FR column)
-seen-first second cards RunIn at column = refl
-seen-first second cards Card at column = refl
-seen-first second cards (Prog level ordinal) at column = refl
-seen-first second cards (Head heading) at column = refl
+-- what else is emitted is heard by none
+pub whole-heard : (machine : MachineState) (cycle : Cycle) (at : CardRow) (picture : Hub → Bool) (hub : Hub)
+    → heard (λ h. picture h || (is_hub_in_range h && emits machine cycle (Row at) h)) hub ≡ heard picture hub
+whole-heard machine cycle at picture hub = by hub where
+  quiet : (entry : Hub) → IsNoExit entry
+      → (picture entry || (is_hub_in_range entry && emits machine cycle (Row at) entry)) ≡ picture entry
+  quiet entry not_exit = rw (none-emitted machine cycle at entry not_exit) (ends (picture entry) (is_hub_in_range entry)) where
+    ends : (a b : Bool) → (a || (b && false)) ≡ a
+    ends true b = refl
+    ends false true = refl
+    ends false false = refl
 
-seen-second : (first : Bool) (cards : StationCards) (cycle : Cycle) (at : CardRow) (column : ℕ)
-    → stations_emits (seen first true cards) cycle (Row at) (SR column) ≡ stations_emits cards cycle (Row at) (SR column)
-seen-second first cards RunIn at column = refl
-seen-second first cards Card at column = refl
-seen-second first cards (Prog level ordinal) at column = refl
-seen-second first cards (Head heading) at column = refl
-
--- at other hubs the stations emit nothing
-abbrev is_card_exit : Hub → Bool
-is_card_exit (FR column) = true
-is_card_exit (SR column) = true
-is_card_exit other = false
-
-stations-elsewhere : (cards : StationCards) (cycle : Cycle) (at : CardRow) (hub : Hub) → is_card_exit hub ≡ false
-    → stations_emits cards cycle (Row at) hub ≡ false
-stations-elsewhere cards cycle at (FR column) other = cc
-stations-elsewhere cards cycle at (SR column) other = cc
-stations-elsewhere cards RunIn at hub other = refl
-stations-elsewhere cards Card at hub other = refl
-stations-elsewhere cards (Prog level ordinal) at hub other = refl
-stations-elsewhere cards (Head heading) at hub other = refl
-
--- what is emitted at a row, by what the stations emit
-abbrev emits_beside : MachineState → Cycle → CardRow → Hub → Bool → Bool
-emits_beside machine cycle at hub stations =
-    stations || comparing_emits machine.comparing cycle (Row at) hub
-    || list_any (λ group. counter_emits group cycle (Row at) hub) machine.groups
-    || list_any (λ storage. storage_emits storage cycle (Row at) hub) machine.storage
-    || false || false || false || emitters_emit machine.emitters cycle (Row at) hub || false || false || false
-
-module _ (first second : Bool) (machine : MachineState) (cycle : Cycle) (at : CardRow) where
-  -- what is emitted where not all is looked at is emitted
-  only-emitted : (hub : Hub) → emits (seeing first second machine) cycle (Row at) hub ≡ true → emits machine cycle (Row at) hub ≡ true
-  only-emitted hub on = by (stations_emits machine.stations cycle (Row at) hub) refl where
-    by : (b : Bool) → stations_emits machine.stations cycle (Row at) hub ≡ b → emits machine cycle (Row at) hub ≡ true
-    by true is = ap (emits_beside machine cycle at hub) is
-    by false is =
-        ap (emits_beside machine cycle at hub) is
-        ∙ sym (ap (emits_beside machine cycle at hub) (seen-only first second machine.stations cycle at hub is)) ∙ on
-
-  -- the same is emitted where the stations emit the same
-  same-emitted : (hub : Hub) → stations_emits (seen first second machine.stations) cycle (Row at) hub ≡ stations_emits machine.stations cycle (Row at) hub
-      → emits (seeing first second machine) cycle (Row at) hub ≡ emits machine cycle (Row at) hub
-  same-emitted hub same = ap (emits_beside machine cycle at hub) same
-
-  -- all is looked at that a wire leads from
-  wired-seen : (wiring : Wiring) → (first ≡ false → IsUnwired wiring FR) → (second ≡ false → IsUnwired wiring SR) → (hub entry : Hub)
-      → HasWire wiring hub entry
-      → stations_emits (seen first second machine.stations) cycle (Row at) hub ≡ stations_emits machine.stations cycle (Row at) hub
-  wired-seen wiring unread unread_too (FR column) entry wire = by first refl where
-    by : (b : Bool) → first ≡ b
-        → stations_emits (seen b second machine.stations) cycle (Row at) (FR column) ≡ stations_emits machine.stations cycle (Row at) (FR column)
-    by true is = seen-first second machine.stations cycle at column
-    by false is = absurd (unread is column entry wire)
-  wired-seen wiring unread unread_too (SR column) entry wire = by second refl where
-    by : (b : Bool) → second ≡ b
-        → stations_emits (seen first b machine.stations) cycle (Row at) (SR column) ≡ stations_emits machine.stations cycle (Row at) (SR column)
-    by true is = seen-second first machine.stations cycle at column
-    by false is = absurd (unread_too is column entry wire)
-  wired-seen wiring unread unread_too other entry wire =
-      stations-elsewhere (seen first second machine.stations) cycle at other refl ∙ sym (stations-elsewhere machine.stations cycle at other refl)
-
-  -- a picture of what is looked at, with what else is emitted, is the picture
-  pub whole-picture : (wiring : Wiring) → (first ≡ false → IsUnwired wiring FR) → (second ≡ false → IsUnwired wiring SR)
-      → (closed picture : Hub → Bool) → IsPicture wiring (emits (seeing first second machine) cycle (Row at)) closed picture
-      → IsPicture wiring (emits machine cycle (Row at)) closed (λ hub. picture hub || (is_hub_in_range hub && emits machine cycle (Row at) hub))
-  whole-picture wiring unread unread_too closed picture is =
-      picture_without wiring (emits machine cycle (Row at)) (emits (seeing first second machine) cycle (Row at)) closed picture only-emitted
-      (λ hub entry on wire. same-emitted hub (wired-seen wiring unread unread_too hub entry wire) ∙ on)
-      (λ common hub contact. common-silent machine cycle at common hub contact) is
-
-  -- they tell the same
-  pub whole-heard : (wiring : Wiring) (closed picture : Hub → Bool) → IsPicture wiring (emits (seeing first second machine) cycle (Row at)) closed picture
-      → (hub : Hub) → heard (λ h. picture h || (is_hub_in_range h && emits machine cycle (Row at) h)) hub ≡ heard picture hub
-  whole-heard wiring closed picture is (FR column) = refl
-  whole-heard wiring closed picture is (SR column) = refl
-  whole-heard wiring closed picture is other =
-      absorbed (picture other) (is_hub_in_range other) (emits machine cycle (Row at) other)
-      (λ there on.
-      (is other).1
-      (emitting other there
-      (same-emitted other
-      (stations-elsewhere (seen first second machine.stations) cycle at other refl ∙ sym (stations-elsewhere machine.stations cycle at other refl))
-      ∙ on)))
-    where
-      absorbed : (a b c : Bool) → (b ≡ true → c ≡ true → a ≡ true) → (a || (b && c)) ≡ a
-      absorbed true b c implies = refl
-      absorbed false true true implies = sym (implies refl refl)
-      absorbed false true false implies = refl
-      absorbed false false c implies = refl
-
--- rows are run where all is looked at that wires lead from
-pub rows-seen : (wiring : Wiring) (first second : Bool) (cycle : Cycle) (mid : MachineState) (pictures : Point → Hub → Bool)
-    → (first ≡ false → IsUnwired wiring FR) → (second ≡ false → IsUnwired wiring SR)
-    → ((at : CardRow) → IsPicture wiring (emits (seeing first second mid) cycle (Row at)) (closes mid cycle (Row at)) (pictures (Row at)))
-    → RunsRows wiring cycle mid (after_rows sensed cycle pictures mid)
-rows-seen wiring first second cycle mid pictures unread unread_too are =
-    let whole : Point → Hub → Bool = λ point hub. pictures point hub || (is_hub_in_range hub && emits mid cycle point hub) in
-    let runs =
-    rows-reached wiring cycle mid whole
-    (λ at. whole-picture first second mid cycle at wiring unread unread_too (closes mid cycle (Row at)) (pictures (Row at)) (are at)) in
-    subst (λ (m : MachineState). RunsRows wiring cycle mid m)
-    (rows-heard cycle whole pictures
-    (λ at hub. whole-heard first second mid cycle at wiring (closes mid cycle (Row at)) (pictures (Row at)) (are at) hub) rows mid)
-    runs
+  by : (h : Hub) → heard (λ h. picture h || (is_hub_in_range h && emits machine cycle (Row at) h)) h ≡ heard picture h
+  by (CA position) = quiet (CA position) (record { first = λ card at. refl; second = λ card at. refl; group = λ name place e. cc; storage = λ unit cycle at. refl; emitter = λ emitter at e. cc })
+  by (CB position) = quiet (CB position) (record { first = λ card at. refl; second = λ card at. refl; group = λ name place e. cc; storage = λ unit cycle at. refl; emitter = λ emitter at e. cc })
+  by (GE group position) = quiet (GE group position) (record { first = λ card at. refl; second = λ card at. refl; group = λ name place e. cc; storage = λ unit cycle at. refl; emitter = λ emitter at e. cc })
+  by (SE unit column) = quiet (SE unit column) (record { first = λ card at. refl; second = λ card at. refl; group = λ name place e. cc; storage = λ unit cycle at. refl; emitter = λ emitter at e. cc })
+  by (PIX pilot) = quiet (PIX pilot) (record { first = λ card at. refl; second = λ card at. refl; group = λ name place e. cc; storage = λ unit cycle at. refl; emitter = λ emitter at e. cc })
+  by (W wheel) = quiet (W wheel) (record { first = λ card at. refl; second = λ card at. refl; group = λ name place e. cc; storage = λ unit cycle at. refl; emitter = λ emitter at e. cc })
+  by other = refl
 
 -- what is spread of the rows that are emitted are the pictures of the rows
-pub rows-run : (wiring : Wiring) (first second : Bool) (cycle : Cycle) (closed : Closed) (mid new : MachineState) (exits final : List ℕ)
-    → (first ≡ false → IsUnwired wiring FR) → (second ≡ false → IsUnwired wiring SR)
+pub rows-run : (wiring : Wiring) (cycle : Cycle) (closed : Closed) (mid new : MachineState) (exits final : List ℕ)
     → AreInUnitOrder mid.groups → AreSteady cycle closed mid
-    → ((at : CardRow) (hub : Hub) → has_row_at exits (passing_place at) hub ≡ emits (seeing first second mid) cycle (Row at) hub)
+    → ((at : CardRow) (hub : Hub) → has_row_at exits (passing_place at) hub ≡ emits mid cycle (Row at) hub)
     → ((at : CardRow) → IsPicture wiring (pictures_of exits (Row at)) (closes_at_row closed.digits closed.zones at) (pictures_of final (Row at)))
     → new ≡ after_rows sensed cycle (pictures_of final) mid → RunsRows wiring cycle mid new
-rows-run wiring first second cycle closed mid new exits final unread unread_too ordered steady emitted spread is =
+rows-run wiring cycle closed mid new exits final ordered steady emitted spread is =
     subst (λ (m : MachineState). RunsRows wiring cycle mid m) (sym is)
-    (rows-seen wiring first second cycle mid (pictures_of final) unread unread_too are)
-  where
-    are : (at : CardRow)
-        → IsPicture wiring (emits (seeing first second mid) cycle (Row at)) (closes mid cycle (Row at)) (pictures_of final (Row at))
-    are at =
-        IsPicture-same wiring (pictures_of exits (Row at)) (emits (seeing first second mid) cycle (Row at))
-        (closes_at_row closed.digits closed.zones at) (closes mid cycle (Row at)) (pictures_of final (Row at)) (emitted at)
-        (λ hub. closed-rows cycle closed mid at hub ordered steady) (spread at)
-
--- the same where no wire leads to a contact
-pub rows-direct : (wiring : Wiring) (first second : Bool) (cycle : Cycle) (mid new : MachineState) (exits final : List ℕ)
-    → (first ≡ false → IsUnwired wiring FR) → (second ≡ false → IsUnwired wiring SR) → LeadsToNoContact wiring
-    → ((at : CardRow) (hub : Hub) → has_row_at exits (passing_place at) hub ≡ emits (seeing first second mid) cycle (Row at) hub)
-    → ((row : ℕ) (hub : Hub) → (has_row_at final row hub ≡ true) ↔ EmitsOrIsFed wiring (has_row_at exits row) hub)
-    → new ≡ after_rows sensed cycle (pictures_of final) mid → RunsRows wiring cycle mid new
-rows-direct wiring first second cycle mid new exits final unread unread_too direct emitted spread is =
-    subst (λ (m : MachineState). RunsRows wiring cycle mid m) (sym is)
-    (rows-seen wiring first second cycle mid (pictures_of final) unread unread_too are)
-  where
-    are : (at : CardRow)
-        → IsPicture wiring (emits (seeing first second mid) cycle (Row at)) (closes mid cycle (Row at)) (pictures_of final (Row at))
-    are at =
-        IsPicture-same wiring (pictures_of exits (Row at)) (emits (seeing first second mid) cycle (Row at)) (closes mid cycle (Row at))
-        (closes mid cycle (Row at)) (pictures_of final (Row at)) (emitted at) (λ hub. refl)
-        (wires_make wiring (pictures_of exits (Row at)) (closes mid cycle (Row at)) (pictures_of final (Row at)) direct.leads
-        (record {
-          silent = λ common hub contact. (contacts-silent (seeing first second mid) cycle exits emitted common hub contact at).0;
-          unwired = direct.unwired;
-        })
-        (λ hub. spread (passing_place at) hub))
+    (rows-reached wiring cycle mid (pictures_of final)
+    (λ at. IsPicture-same wiring (pictures_of exits (Row at)) (emits mid cycle (Row at)) (closes_at_row closed.digits closed.zones at)
+    (closes mid cycle (Row at)) (pictures_of final (Row at)) (emitted at) (λ hub. closed-rows cycle closed mid at hub ordered steady) (spread at)))
 
 -- contacts stay as they are through the rows
 pub rows-steady : (cycle : Cycle) (closed : Closed) (pictures : Point → Hub → Bool) (list : List Point) (old : MachineState)
@@ -561,3 +439,20 @@ units-sensed cycle pictures old new stations comparing groups storage pilots ind
       carriage = carriage i;
       program = program_stays i;
     }
+
+-- all units but the wheels after all rows, and then the wheels
+pub apart-whole : (cycle : Cycle) (pictures : Point → Hub → Bool) (machine : MachineState)
+    → record (after_rows apart cycle pictures machine) { wheels = after_rows wheels_sensed cycle pictures machine.wheels }
+    ≡ after_rows sensed cycle pictures machine
+apart-whole cycle pictures machine = refl
+
+-- pictures that tell the same but to the wheels
+pub rows-apart : (cycle : Cycle) (one other : Point → Hub → Bool)
+    → ((at : CardRow) (hub : Hub) → told (λ wheel. false) (one (Row at)) hub ≡ told (λ wheel. false) (other (Row at)) hub) → (machine : MachineState)
+    → after_rows apart cycle one machine ≡ after_rows apart cycle other machine
+rows-apart cycle one other same machine = rows-alike apart cycle one other step rows machine where
+  step : (at : CardRow) (m : MachineState) → apart m cycle (Row at) (one (Row at)) ≡ apart m cycle (Row at) (other (Row at))
+  step at m =
+      let told-same : ◌≡◌ {A = Hub → Bool} (told (λ wheel. false) (one (Row at))) (told (λ wheel. false) (other (Row at))) = λ i hub. same at hub i in
+      apart-told m cycle at (λ wheel. false) (one (Row at)) ∙ ap (λ (picture : Hub → Bool). apart m cycle (Row at) picture) told-same
+      ∙ sym (apart-told m cycle at (λ wheel. false) (other (Row at)))

@@ -1,9 +1,13 @@
 -- The control point: the exit that tells of the cycle is all that emits, and groups, storage units and the carriage are all that senses.
-use Rattle.std.proofs.Common.{◌≡◌, ◌∙◌, ◌||◌, Bool, false, map, refl, sym, subst}
-use Rattle.std.specs.List.{list_any}
+-- The closing point: comparing and groups are all that emits, and groups and the program unit all that senses.
+use Rattle.std.proofs.Common.{◌≡◌, ◌∙◌, ◌||◌, ℕ, Bool, true, false, List, get_or, map, refl, sym, subst}
+use Rattle.std.proofs.lemmas.List.{map-id}
 use Rattle.carriage.specs.Carriage.{carriage_sensed}
-use Rattle.counters.specs.Counters.{counter_emits, counter_sensed}
+use Rattle.counters.specs.Counters.{Counter, counter_sensed}
 use Rattle.hubs.specs.declared.hub.Hub.{Hub}
+use Rattle.hubs.specs.declared.hub.Hub.TheVariants.{CO}
+use Rattle.net.proofs.TellingLemmas.{in_row-none}
+use Rattle.net.specs.HubSets.{is_bit, is_in_row}
 use Rattle.net.specs.Orders.{AreOrdersOf, AreToldBy}
 use Rattle.net.specs.Tells.{tells}
 use Rattle.net.specs.declared.cycle.Cycle.{Cycle}
@@ -17,9 +21,13 @@ use Rattle.stations.specs.Comparing.{Compared, comparing_emits, comparing_sensed
 use Rattle.stations.specs.Stations.{StationCards, stations_emits}
 use Rattle.storage_units.specs.Storage.{storage_sensed}
 use Rattle.machine.specs.Cycles.{PointStep}
+use Rattle.machine.specs.Fields.{AreInUnitOrder}
 use Rattle.machine.specs.Machine.{MachineState, closes, emits, sensed}
+use Rattle.machine.specs.Steady.{carries_of}
+use Rattle.machine.proofs.CarryExits.{carries-row}
 use Rattle.machine.proofs.ClosedContacts.{none-of}
 use Rattle.machine.proofs.Pictures.{IsPicture-same}
+use Rattle.machine.proofs.Rest.{first_group}
 
 comparing-silent : (compared : Compared) (cycle : Cycle) (hub : Hub) → comparing_emits compared cycle C hub ≡ false
 comparing-silent compared RunIn hub = refl
@@ -30,7 +38,7 @@ stations-silent cards RunIn hub = refl
 stations-silent cards other hub = refl
 
 -- what is emitted there
-emits-told : (machine : MachineState) (cycle : Cycle) (hub : Hub) → emits machine cycle C hub ≡ tells cycle hub
+pub emits-told : (machine : MachineState) (cycle : Cycle) (hub : Hub) → emits machine cycle C hub ≡ tells cycle hub
 emits-told machine cycle hub =
     let stations = stations-silent machine.stations cycle hub in
     let comparing = comparing-silent machine.comparing cycle hub in
@@ -38,16 +46,18 @@ emits-told machine cycle hub =
     let storage = none-of machine.storage in
     λ i. stations i || comparing i || groups i || storage i || false || false || false || false || false || false || tells cycle hub
 
--- comparing, pilots and the program unit sense nothing there
-comparing-stays : (compared : Compared) (cycle : Cycle) (picture : Hub → Bool) → compared ≡ comparing_sensed compared cycle C picture
-comparing-stays compared RunIn picture = refl
-comparing-stays compared other picture = refl
+-- comparing, pilots and the program unit sense nothing there, and the first two nothing at the closing point either
+comparing-stays : (compared : Compared) (cycle : Cycle) (picture : Hub → Bool)
+    → (compared ≡ comparing_sensed compared cycle C picture) × (compared ≡ comparing_sensed compared cycle K picture)
+comparing-stays compared RunIn picture = (refl, refl)
+comparing-stays compared other picture = (refl, refl)
 
-pilots-stay : (pilots : PilotStates) (cycle : Cycle) (picture : Hub → Bool) → pilots ≡ pilots_sensed pilots cycle C picture
-pilots-stay pilots RunIn picture = refl
-pilots-stay pilots Card picture = refl
-pilots-stay pilots (Prog level ordinal) picture = refl
-pilots-stay pilots (Head heading) picture = refl
+pilots-stay : (pilots : PilotStates) (cycle : Cycle) (picture : Hub → Bool)
+    → (pilots ≡ pilots_sensed pilots cycle C picture) × (pilots ≡ pilots_sensed pilots cycle K picture)
+pilots-stay pilots RunIn picture = (refl, refl)
+pilots-stay pilots Card picture = (refl, refl)
+pilots-stay pilots (Prog level ordinal) picture = (refl, refl)
+pilots-stay pilots (Head heading) picture = (refl, refl)
 
 program-stays : (program : ProgramState) (cycle : Cycle) (picture : Hub → Bool) → program ≡ program_sensed program cycle C picture
 program-stays program RunIn picture = refl
@@ -60,8 +70,8 @@ pub control-sensed : (old new : MachineState) (cycle : Cycle) (picture : Hub →
     → new.indicate ≡ old.indicate → new.splits ≡ old.splits → new.emitters ≡ old.emitters → new.wheels ≡ old.wheels
     → new.carriage ≡ carriage_sensed old.carriage cycle C picture → new.program ≡ old.program → new ≡ sensed old cycle C picture
 control-sensed old new cycle picture stations comparing groups storage pilots indicate splits emitters wheels carriage program =
-    let compared = comparing ∙ comparing-stays old.comparing cycle picture in
-    let piloted = pilots ∙ pilots-stay old.pilots cycle picture in
+    let compared = comparing ∙ (comparing-stays old.comparing cycle picture).0 in
+    let piloted = pilots ∙ (pilots-stay old.pilots cycle picture).0 in
     let programmed = program ∙ program-stays old.program cycle picture in
     λ i. record {
       stations = stations i;
@@ -101,9 +111,40 @@ closing-stations : (cards : StationCards) (cycle : Cycle) (hub : Hub) → statio
 closing-stations cards RunIn hub = refl
 closing-stations cards other hub = refl
 
-pub closing-silent : (machine : MachineState) (cycle : Cycle) (hub : Hub) → comparing_emits machine.comparing cycle K hub ≡ false
-    → list_any (λ group. counter_emits group cycle K hub) machine.groups ≡ false → emits machine cycle K hub ≡ false
-closing-silent machine cycle hub comparing groups =
-    let stations = closing-stations machine.stations cycle hub in
-    let storage = none-of machine.storage in
-    λ i. stations i || comparing i || groups i || storage i || false || false || false || false || false || false || false
+-- so comparing and the carries are all that emits there
+none-more : (a b : Bool) → (a || b) ≡ (a || b || false || false || false || false || false || false || false || false)
+none-more true b = refl
+none-more false true = refl
+none-more false false = refl
+
+pub closing-emits : (machine : MachineState) (cycle : Cycle) (carrying : ℕ) (hub : Hub) → AreInUnitOrder machine.groups
+    → ((k : ℕ) → is_bit carrying k ≡ get_or (carries_of machine.groups) k false)
+    → (comparing_emits machine.comparing cycle K hub || is_in_row (CO first_group) carrying hub) ≡ emits machine cycle K hub
+closing-emits machine cycle carrying hub ordered are =
+    let stations = sym (closing-stations machine.stations cycle hub) in
+    let comparing = comparing_emits machine.comparing cycle K hub in
+    let groups = carries-row carrying machine.groups cycle hub ordered are in
+    let storage = sym (none-of machine.storage) in
+    none-more comparing (is_in_row (CO first_group) carrying hub)
+    ∙ (λ i. stations i || comparing || groups i || storage i || false || false || false || false || false || false || false)
+
+-- and nothing emits where they don't
+pub closing-silent : (machine : MachineState) (cycle : Cycle) (carrying : ℕ) (hub : Hub) → AreInUnitOrder machine.groups
+    → ((k : ℕ) → is_bit carrying k ≡ get_or (carries_of machine.groups) k false) → carrying ≡ 0
+    → comparing_emits machine.comparing cycle K hub ≡ false → emits machine cycle K hub ≡ false
+closing-silent machine cycle carrying hub ordered are none silent =
+    sym (closing-emits machine cycle carrying hub ordered are)
+    ∙ (λ i. silent i || is_in_row (CO first_group) (none i) hub) ∙ in_row-none (CO first_group) hub
+
+-- counter groups and the program unit are all that senses at the closing point
+pub closing-sensed : (machine : MachineState) (cycle : Cycle) (picture : Hub → Bool) (groups : List Counter) (program : ProgramState)
+    → groups ≡ map (λ group. counter_sensed group cycle K picture) machine.groups → program ≡ program_sensed machine.program cycle K picture
+    → record machine { groups = groups; program = program } ≡ sensed machine cycle K picture
+closing-sensed machine cycle picture groups program counted programmed = λ i.
+    record machine {
+      comparing = (comparing-stays machine.comparing cycle picture).1 i;
+      groups = counted i;
+      storage = sym (map-id machine.storage) i;
+      pilots = (pilots-stay machine.pilots cycle picture).1 i;
+      program = programmed i;
+    }

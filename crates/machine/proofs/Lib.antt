@@ -23,6 +23,8 @@ mod KeptPoints
 pub mod Pictures
 mod Points
 mod Rest
+mod StraightRows
+mod EmittingRows
 mod CarryExits
 mod Marks
 pub mod UnitOrder

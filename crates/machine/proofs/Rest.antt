@@ -9,7 +9,7 @@ use Rattle.counters.specs.Counters.{Counter, no_controls, controls_of, counter_e
 use Rattle.counters.specs.Laws.{IsCounter}
 use Rattle.counters.proofs.Idle.{idle-carries_out, idle-turned}
 use Rattle.counters.proofs.Staying.{counters-stay}
-use Rattle.counters.specs.Wheels.{turned}
+use Rattle.counters.specs.Wheels.{carries_out, turned}
 use Rattle.counters.specs.declared.controls.Controls.{Controls}
 use Rattle.hubs.specs.Hubs.{number_of}
 use Rattle.hubs.specs.Below.hub_table.Places.{group_place}
@@ -36,6 +36,12 @@ use Rattle.machine.specs.declared.groups.Busy.{Busy}
 use Rattle.machine.proofs.ClosedContacts.{AreFrom, are_from, group_units-up, unit_of-last}
 use Rattle.machine.proofs.Marks.{IsTaken}
 
+-- no carry leaves a group at rest
+pub rest-carries : (group : Counter) → IsCounter group → IsAtRest group → carries_out (wheels_in group) false ≡ false
+rest-carries group lawful rest =
+    idle-carries_out group.controls group.digits group.entered (ap (λ (c : Controls). c.read_out) rest.controls)
+    (ap (λ (c : Controls). c.minus) rest.controls) (ap (λ (c : Controls). c.plus) rest.controls) lawful.digits
+
 -- a group at rest emits nothing
 rest-silent : (group : Counter) (cycle : Cycle) (point : Point) (exit : Hub) → IsCounter group → IsAtRest group
     → counter_emits group cycle point exit ≡ false
@@ -43,9 +49,7 @@ rest-silent group cycle C exit lawful rest = refl
 rest-silent group cycle (Row row) exit lawful rest =
     ap (λ (c : Controls). c.read_out && shows group.name (row_number row) group.digits exit) rest.controls
 rest-silent group cycle K exit lawful rest =
-    ap (λ (b : Bool). b && is_hub (CO group.name) exit)
-    (idle-carries_out group.controls group.digits group.entered (ap (λ (c : Controls). c.read_out) rest.controls)
-    (ap (λ (c : Controls). c.minus) rest.controls) (ap (λ (c : Controls). c.plus) rest.controls) lawful.digits)
+    ap (λ (b : Bool). b && is_hub (CO group.name) exit) (rest-carries group lawful rest)
 
 emits-from : (busy : Busy) (k : ℕ) (groups : List Counter) (cycle : Cycle) (point : Point) (exit : Hub) → HaveNoMore busy k groups
     → any_marked busy.controlled k (λ group. counter_emits group cycle point exit) groups

@@ -1,6 +1,5 @@
 -- Helper words: what a feed adds to the lines that stand already.
-use Rattle.std.specs.Prelude.{◌≡◌, List, ◌++◌, Option}
-use Rattle.std.specs.Prelude.{ℕ}
+use Rattle.std.specs.Prelude.{◌≡◌, List, ◌++◌, Option, ℕ}
 use Rattle.page_text.specs.declared.placed_lines.placed_line.PlacedLine.{PlacedLine}
 use Rattle.setups.specs.Wiring.{Wiring}
 use Rattle.net.specs.Nets.{NetRows, IsNetOf}

@@ -3,28 +3,31 @@
 ghost use Rattle.std.specs.Prelude.{◌≡◌};
 
 use crate::closed::Closed;
-use crate::groups::{comes_to_nines, has_carry, nines};
+use crate::groups::{carrying, comes_to_nines, emit_carries, nines, sense_groups};
 use crate::units::Units;
 use card_code::Row;
-use net::{Cycle, Net, Orders, POINTS, Picture, Point, RowSets};
+use net::{Cycle, Net, Orders, POINTS, Picture, Point, RowSets, Straight, Unit};
 use selectors::{steady_contacts, with_carries, with_splits};
 
 impl Units {
-    ghost use Rattle.std.specs.Prelude.{◌≡◌, true, false, None, IfSome};
+    ghost use Rattle.std.specs.Prelude.{◌≡◌, ℕ, true, false, All, None, IfSome, slice_index_or};
     ghost use Rattle.net.specs.Orders.{AreToldBy};
     ghost use Rattle.net.specs.declared.cycle.Point.TheVariants.{C, K};
     ghost use Rattle.std.specs.Option.{ForSome};
     ghost use Rattle.setups.specs.Wiring.{Wiring};
     ghost use Rattle.net.specs.Nets.{IsNetOf};
-    ghost use Rattle.net.specs.HubSets.{has_hub};
+    ghost use Rattle.net.specs.HubSets.{has_hub, is_bit};
     ghost use Rattle.net.specs.Impulsed.{IsPicture};
     ghost use Rattle.machine.specs.Cycles.{PointStep, CycleRun, Reached};
     ghost use Rattle.machine.specs.Ends.{SensesSome, EndsCycle};
     ghost use Rattle.hubs.specs.declared.hub.Hub.{Hub};
     ghost use Rattle.machine.specs.Machine.{closes, emits};
-    ghost use Rattle.machine.specs.Steady.{AreSteady};
+    ghost use Rattle.machine.specs.Steady.{AreSteady, carries_of};
     ghost use Rattle.net.specs.RowSets.{LeadsToNoContact};
     ghost use Rattle.net.specs.declared.cycle.Cycle.{Cycle};
+    ghost use Rattle.net.specs.declared.cycle.Cycle.TheVariants.{Card};
+    ghost use Rattle.net.specs.HubRows.{has_row_at};
+    ghost use Rattle.net.specs.Straight.{AreStraight, IsInside};
     ghost use Rattle.machine.specs.Keeps.{Keeps};
     ghost use Rattle.machine.specs.AllRows.{RunsRows};
 
@@ -37,58 +40,42 @@ impl Units {
         self.end_cycle(cycle);
     }
 
-    // The points of a cycle. Where no wire leads to a contact, no closed contact is looked for.
+    // The points of a cycle. Where columns come straight to wheels no wire leads to a contact, and no closed one is looked for.
     pub(crate) fn run_points(&mut self, net: &Net, sets: &mut RowSets, cycle: Cycle)
         ensures reached { (wiring : Wiring) → IsNetOf wiring net.now → Reached wiring cycle 14 self.old self.new }
         ensures keeps { Keeps cycle self.old self.new }
     {
-        if net.is_direct() {
-            self.run_points_by(net, None, sets, cycle);
+        if let (Cycle::Card, Some(runs)) = (cycle, net.straight()) {
+            self.run_straight_points(net, runs, sets);
         } else {
             self.run_led_points(net, sets, cycle);
         }
     }
 
-    // The points of a cycle, where wires lead to contacts. The closed ones have a function of their own, since room for them is cleared in
-    // the one that has them, whether they are asked for or not.
+    // The points of a card cycle, where columns come straight to wheels.
+    fn run_straight_points(&mut self, net: &Net, runs: &[Straight], silence: &mut RowSets)
+        requires inside { All IsInside runs.now }
+        requires straight { (wiring : Wiring) → IsNetOf wiring net.now → AreStraight wiring runs.now }
+        requires direct { (wiring : Wiring) → IsNetOf wiring net.now → LeadsToNoContact wiring }
+        ensures reached { (wiring : Wiring) → IsNetOf wiring net.now → Reached wiring Card 14 self.old self.new }
+        ensures keeps { Keeps Card self.old self.new }
+    {
+        self.run_control(net, None, Cycle::Card);
+        silence.clear();
+        self.run_straight_rows(runs, silence);
+        self.run_closing(net, None, Cycle::Card);
+    }
+
+    // The points of a cycle, where wires may lead to contacts. The closed ones have a function of their own, since room for them is cleared
+    // in the one that has them, whether they are asked for or not.
     fn run_led_points(&mut self, net: &Net, sets: &mut RowSets, cycle: Cycle)
         ensures reached { (wiring : Wiring) → IsNetOf wiring net.now → Reached wiring cycle 14 self.old self.new }
         ensures keeps { Keeps cycle self.old self.new }
     {
         let closed = self.closed(cycle);
-        self.run_points_by(net, Some(&closed), sets, cycle);
-    }
-
-    // The points of a cycle, with its closed contacts, or with none where no wire leads to a contact.
-    fn run_points_by(
-        &mut self,
-        net: &Net,
-        closed: Option<&Closed>,
-        sets: &mut RowSets,
-        cycle: Cycle,
-    )
-        requires steady { ForSome closed (λ kept. AreSteady cycle kept.now self.old) }
-        requires direct { closed ≡ None → (wiring : Wiring) → IsNetOf wiring net.now → LeadsToNoContact wiring }
-        ensures reached { (wiring : Wiring) → IsNetOf wiring net.now → Reached wiring cycle 14 self.old self.new }
-        ensures keeps { Keeps cycle self.old self.new }
-    {
-        self.run_control(net, closed, cycle);
-        self.run_rows(net, closed, sets, cycle);
-        self.run_closing(net, closed, cycle);
-    }
-
-    // The points of the rows.
-    fn run_rows(&mut self, net: &Net, closed: Option<&Closed>, sets: &mut RowSets, cycle: Cycle)
-        requires steady { ForSome closed (λ kept. AreSteady cycle kept.now self.old) }
-        requires direct { closed ≡ None → (wiring : Wiring) → IsNetOf wiring net.now → LeadsToNoContact wiring }
-        ensures ran { (wiring : Wiring) → IsNetOf wiring net.now → RunsRows wiring cycle self.old self.new }
-        ensures keeps { Keeps cycle self.old self.new }
-        ensures steady { ForSome closed.entry (λ kept. AreSteady cycle kept.now self.new) }
-    {
-        match closed {
-            Some(closed) => self.run_led_rows(net, closed, sets, cycle),
-            None => self.run_direct_rows(net, sets, cycle),
-        }
+        self.run_control(net, Some(&closed), cycle);
+        self.run_rows(net, &closed, sets, cycle);
+        self.run_closing(net, Some(&closed), cycle);
     }
 
     // The control point. What is told there hangs on the cycle and on which contacts are closed alone, so the wires need not be followed,
@@ -135,47 +122,45 @@ impl Units {
         }
     }
 
-    // The closing point. Mostly nothing emits there.
+    // The closing point. Mostly nothing emits there: only comparing and the counter groups may.
     fn run_closing(&mut self, net: &Net, closed: Option<&Closed>, cycle: Cycle)
         requires { ForSome closed (λ kept. AreSteady cycle kept.now self.old) }
         ensures step { (wiring : Wiring) → IsNetOf wiring net.now → PointStep wiring cycle K self.old self.new }
         ensures senses { SensesSome cycle K self.old self.new }
     {
-        if self.emits_at_closing() {
-            self.close(net, closed, cycle);
-        } else {
+        let carrying = carrying(&self.all.groups, self.busy);
+        if carrying == 0 && !self.all.comparing.has_difference() {
             self.close_in_silence(cycle);
+        } else {
+            self.close(net, closed, cycle, carrying);
         }
     }
 
-    // Whether a unit emits at the closing point: only comparing and the counter groups may.
-    fn emits_at_closing(&self) -> bool
-        ensures { result ≡ false → (cycle : Cycle) (exit : Hub) → emits self.now cycle K exit ≡ false }
-    {
-        if self.all.comparing.has_difference() {
-            return true;
-        }
-        has_carry(&self.all.groups, self.busy)
-    }
-
-    // The closing point, where nothing is impulsed.
+    // The closing point, where nothing is impulsed. The program unit senses that, and the counter groups, in case a carry came in before. All
+    // other units stay as they are.
     fn close_in_silence(&mut self, cycle: Cycle)
         requires { (exit : Hub) → emits self.old cycle K exit ≡ false }
         ensures step { (wiring : Wiring) → PointStep wiring cycle K self.old self.new }
         ensures senses { SensesSome cycle K self.old self.new }
     {
-        self.sense(cycle, Point::K, &Picture::new());
+        let silence = Picture::new();
+        let busy = sense_groups(&mut self.all.groups, self.busy, cycle, Point::K, &silence);
+        self.busy = busy;
+        self.all.program.sense(cycle, Point::K, &silence);
     }
 
-    // The closing point, where something emits. Mostly no impulse comes to a contact there, as none does where no wire leads to one: so the
-    // closed contacts may be left out, and are looked for then alone where one comes.
-    fn close(&mut self, net: &Net, closed: Option<&Closed>, cycle: Cycle)
-        requires { ForSome closed (λ kept. AreSteady cycle kept.now self.old) }
+    // The closing point, where something emits: comparing, or the groups that a carry leaves, a bit for each. Mostly no impulse comes to a
+    // contact there, as none does where no wire leads to one: so the closed contacts may be left out, and are looked for then alone where one
+    // comes.
+    fn close(&mut self, net: &Net, closed: Option<&Closed>, cycle: Cycle, carrying: u64)
+        requires steady { ForSome closed (λ kept. AreSteady cycle kept.now self.old) }
+        requires carrying { (k : ℕ) → is_bit carrying k ≡ slice_index_or (carries_of self.old.groups) k false }
         ensures step { (wiring : Wiring) → IsNetOf wiring net.now → PointStep wiring cycle K self.old self.new }
         ensures senses { SensesSome cycle K self.old self.new }
     {
         let mut emitted = Picture::new();
-        self.emit(cycle, Point::K, &mut emitted);
+        self.all.comparing.emit(cycle, Point::K, &mut emitted);
+        emit_carries(carrying, &mut emitted);
         let mut picture = Picture::new();
         self.impulse_closing(net, closed, cycle, &emitted, &mut picture);
         self.sense(cycle, Point::K, &picture);
@@ -221,29 +206,30 @@ impl Units {
         }
     }
 
-    // The points of the rows all at once, where no wire leads to a contact.
-    fn run_direct_rows(&mut self, net: &Net, rows: &mut RowSets, cycle: Cycle)
-        requires { (wiring : Wiring) → IsNetOf wiring net.now → LeadsToNoContact wiring }
-        ensures ran { (wiring : Wiring) → IsNetOf wiring net.now → RunsRows wiring cycle self.old self.new }
-        ensures keeps { Keeps cycle self.old self.new }
+    // The points of the rows in a card cycle, where columns of the card at second reading come straight to wheels, and no other wire carries
+    // rows. All other units sense silence.
+    fn run_straight_rows(&mut self, runs: &[Straight], silence: &RowSets)
+        requires inside { All IsInside runs.now }
+        requires silent { (row : ℕ) (hub : Hub) → has_row_at silence.now row hub ≡ false }
+        ensures ran { (wiring : Wiring) → AreStraight wiring runs.now → LeadsToNoContact wiring → RunsRows wiring Card self.old self.new }
+        ensures keeps { Keeps Card self.old self.new }
     {
-        rows.clear();
-        self.emit_rows(cycle, net.reads_first(), net.reads_second(), rows);
-        net.spread(rows);
-        self.sense_rows(cycle, rows);
+        self.sense_rows_apart(Cycle::Card, silence);
+        self.all
+            .wheels
+            .receive_columns(runs, self.all.stations.second_columns());
     }
 
-    // The points of the rows, where wires lead to contacts. They are taken all at once where no impulse passes one contact behind another,
-    // else one by one.
-    fn run_led_rows(&mut self, net: &Net, closed: &Closed, sets: &mut RowSets, cycle: Cycle)
+    // The points of the rows. They are taken all at once where no impulse passes one contact behind another, else one by one.
+    fn run_rows(&mut self, net: &Net, closed: &Closed, sets: &mut RowSets, cycle: Cycle)
         requires { AreSteady cycle closed.now self.old }
         ensures ran { (wiring : Wiring) → IsNetOf wiring net.now → RunsRows wiring cycle self.old self.new }
         ensures keeps { Keeps cycle self.old self.new }
         ensures steady { AreSteady cycle closed.now self.new }
     {
         sets.clear();
-        self.emit_rows(cycle, net.reads_first(), net.reads_second(), sets);
-        if net.spread_through(&closed.digits, &closed.zones, sets) {
+        self.emit_rows(cycle, sets);
+        if net.spread_through(cycle, &closed.digits, &closed.zones, sets) {
             self.sense_rows(cycle, sets);
         } else {
             self.step_rows(net, closed, cycle);

@@ -7,12 +7,11 @@ use page_text::placed_lines::PlacedLine;
 use std::alloc::AllocError;
 
 impl Units {
-    ghost use Rattle.std.specs.Prelude.{◌≡◌, Some};
+    ghost use Rattle.std.specs.Prelude.{◌≡◌, Some, OnOk, OnErr};
     ghost use Rattle.setups.specs.Wiring.{Wiring};
     ghost use Rattle.net.specs.Nets.{IsNetOf};
     ghost use Rattle.machine.specs.Ends.{GoesOn};
     ghost use Rattle.machine.specs.Gains.{GainsFeed, GainsPrefix};
-    ghost use Rattle.std.specs.Prelude.{OnOk, OnErr};
     ghost use Rattle.machine.specs.Feeds.{begun, due_in, taken, FeedStep};
     ghost use Rattle.machine.specs.Runs.{moved_on};
 

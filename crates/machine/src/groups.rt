@@ -5,14 +5,14 @@ ghost use Rattle.std.specs.Prelude.{◌≡◌, ℕ, Bool, ◌<◌, ◌==◌, ◌
 ghost use Rattle.std.specs.List.{list_any};
 ghost use Rattle.counters.specs.Counters.{counter_at_start, counter_emits, counter_ended, counter_sensed};
 ghost use Rattle.hubs.specs.declared.hub.Hub.{Hub};
-ghost use Rattle.hubs.specs.declared.hub.Hub.TheVariants.{PL};
-ghost use Rattle.net.specs.HubSets.{GainsHubs, has_hub, is_bit};
+ghost use Rattle.hubs.specs.declared.hub.Hub.TheVariants.{CO, PL};
+ghost use Rattle.net.specs.HubSets.{GainsHubs, has_hub, is_bit, is_in_row};
 ghost use Rattle.net.specs.Orders.{IsRowOf};
 ghost use Rattle.net.specs.declared.cycle.Cycle.{Cycle};
 ghost use Rattle.net.specs.declared.cycle.Point.TheVariants.{C, K};
 ghost use Rattle.machine.specs.Fields.{AreInUnitOrder};
 ghost use Rattle.machine.specs.Machine.{group_units};
-ghost use Rattle.machine.specs.Marked.{any_marked, marked_changed};
+ghost use Rattle.machine.specs.Marked.{marked_changed};
 ghost use Rattle.machine.specs.Rest.{AreApart, AreBusy, AreCarriesMarked, AreKeptBut, AreReadOutsMarked, AreTestsMarked, AreToldMarked, ComeToNoNines};
 ghost use Rattle.machine.specs.Steady.{balance_latches, carries_of, nines_of};
 
@@ -168,34 +168,24 @@ pub(crate) fn emit_groups(
     match point {
         Point::C => {}
         Point::Row(_) => emit_marked(groups, busy.controlled, cycle, point, exits),
-        Point::K => emit_carries(groups, busy.controlled, exits),
+        Point::K => emit_carries(carrying(groups, busy), exits),
     }
 }
 
-// Whether a carry leaves a group.
-pub(crate) fn has_carry(groups: &[Group; GROUPS], busy: Busy) -> bool
-    requires ordered { AreInUnitOrder groups.now }
-    requires busy { AreBusy busy groups.now }
-    ensures { result ≡ false → (cycle : Cycle) (exit : Hub) → list_any (λ group. counter_emits group cycle K exit) groups.now ≡ false }
+// Groups emit the carries that leave them, as a row: the carry exits of all groups follow one another.
+pub(crate) fn emit_carries(carrying: u64, exits: &mut Picture)
+    ensures { GainsHubs (is_in_row (CO (record { width = 3; number = 1 })) carrying) exits.old exits.new }
 {
-    carrying(groups, busy.controlled) != 0
+    exits.insert_row(Hub::CO(FIRST), u128::from(carrying));
 }
 
-// The marked groups emit the carries that leave them, as a row: the carry exits of all groups follow one another.
-fn emit_carries(groups: &[Group; GROUPS], marks: u64, exits: &mut Picture)
-    requires { AreInUnitOrder groups.now }
-    ensures { (cycle : Cycle) → GainsHubs (λ exit. any_marked marks 0 (λ group. counter_emits group cycle K exit) groups.now)
-        exits.old exits.new }
-{
-    exits.insert_row(Hub::CO(FIRST), u128::from(carrying(groups, marks)));
-}
-
-// The marked groups that a carry leaves, a bit for each.
-fn carrying(groups: &[Group; GROUPS], marks: u64) -> u64
-    ensures { (k : ℕ) → is_bit result k ≡ (is_bit marks k && slice_index_or (carries_of groups.now) k false) }
+// The groups that a carry leaves, a bit for each. None leaves one that is under no control.
+pub(crate) fn carrying(groups: &[Group; GROUPS], busy: Busy) -> u64
+    requires { AreBusy busy groups.now }
+    ensures { (k : ℕ) → is_bit result k ≡ slice_index_or (carries_of groups.now) k false }
 {
     let mut bits = 0;
-    let mut left = marks;
+    let mut left = busy.controlled;
     while let Some(place) = take_lowest(&mut left) {
         if place < GROUPS {
             bits |= bit_where(place, groups[place].carries_out());

@@ -59,13 +59,12 @@ impl Model for Machine {
 }
 
 impl Machine {
-    ghost use Rattle.std.specs.Prelude.{◌≡◌, ◌⊎◌, Some, None, Ok, Err, IfOk, IfErr, OnOk, true};
+    ghost use Rattle.std.specs.Prelude.{◌≡◌, ◌⊎◌, Some, None, Ok, Err, IfOk, IfErr, OnOk, true, IfSome};
     ghost use Rattle.machine.specs.Running.{IsStarted, refusal, fed};
     ghost use Rattle.machine.specs.Gains.{GainsFeed, GainsPrefix};
     ghost use Rattle.machine.specs.Kept.{FeedsPast, GainsKept, GainsSome, PlacedInFeed};
     ghost use Rattle.net.specs.Nets.{IsNetOf};
     ghost use Rattle.setups.specs.Wiring.{Wiring};
-    ghost use Rattle.std.specs.Prelude.{IfSome};
     ghost use Rattle.machine.specs.declared.fault.FeedFault.{FeedFault};
     ghost use Rattle.machine.specs.declared.fault.FeedFault.TheVariants.{Memory};
 

@@ -39,7 +39,7 @@ impl Units {
     ghost use Rattle.net.specs.HubSets.{GainsHubs, has_hub};
     ghost use Rattle.net.specs.Orders.{AreOrdersOf};
     ghost use Rattle.net.specs.declared.cycle.Cycle.{Cycle};
-    ghost use Rattle.machine.specs.AllRows.{seeing};
+    ghost use Rattle.machine.specs.AllRows.{apart};
     ghost use Rattle.machine.specs.Fields.{AreInUnitOrder};
     ghost use Rattle.machine.specs.Machine.{machine_at_start, emits, sensed, ended};
     ghost use Rattle.net.specs.RowSets.{GainsRows, after_rows, pictures_of};
@@ -93,12 +93,12 @@ impl Units {
         self.all.carriage.sense_controls(orders.carriage);
     }
 
-    // Adds to the sets of the exits the rows at whose points they emit, those of first and of second reading where these are looked at.
-    pub(crate) fn emit_rows(&self, cycle: Cycle, first: bool, second: bool, sets: &mut RowSets)
-        ensures rows { GainsRows (λ row. emits (seeing first second self.now) cycle (AtRow row)) sets.old sets.new }
+    // Adds to the sets of the exits the rows at whose points they emit.
+    pub(crate) fn emit_rows(&self, cycle: Cycle, sets: &mut RowSets)
+        ensures rows { GainsRows (λ row. emits self.now cycle (AtRow row)) sets.old sets.new }
         ensures ordered { AreInUnitOrder self.now.groups }
     {
-        self.all.stations.emit_rows(cycle, first, second, sets);
+        self.all.stations.emit_rows(cycle, sets);
         emit_group_rows(&self.all.groups, self.busy, cycle, sets);
         emit_storage_rows(&self.all.storage, cycle, sets);
         self.all.emitters.emit_rows(cycle, sets);
@@ -108,11 +108,18 @@ impl Units {
     pub(crate) fn sense_rows(&mut self, cycle: Cycle, pictures: &RowSets)
         ensures { self.new ≡ after_rows sensed cycle (pictures_of pictures.now) self.old }
     {
+        self.sense_rows_apart(cycle, pictures);
+        self.all.wheels.sense_rows(cycle, pictures);
+    }
+
+    // Each unit but the wheels senses the points of all rows at once.
+    pub(crate) fn sense_rows_apart(&mut self, cycle: Cycle, pictures: &RowSets)
+        ensures { self.new ≡ after_rows apart cycle (pictures_of pictures.now) self.old }
+    {
         self.all.comparing.sense_rows(cycle, pictures);
         sense_group_rows(&mut self.all.groups, self.busy, cycle, pictures);
         sense_storage_rows(&mut self.all.storage, cycle, pictures);
         self.all.pilots.sense_rows(cycle, pictures);
-        self.all.wheels.sense_rows(cycle, pictures);
     }
 
     // Each unit ends the cycle.

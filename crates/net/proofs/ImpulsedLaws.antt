@@ -1,11 +1,11 @@
 -- Laws of impulsed hubs, for those who show hubs impulsed or not.
-use Rattle.std.proofs.Common.{◌≡◌, ◌∙◌, refl, sym, Bool, true, false, not, ◌&&◌, ◌||◌, ◌↔◌, Some, inl, inr}
-use Rattle.std.proofs.lemmas.Bool.{and_from, and_parts, false≢true, or_cases, or_left, or_right}
+use Rattle.std.proofs.Common.{◌≡◌, ◌∙◌, refl, sym, Bool, true, false, not, ◌&&◌, ◌↔◌, Some, inl, inr}
+use Rattle.std.proofs.lemmas.Bool.{and_parts, false≢true}
 use Rattle.hub_table.specs.HubTable.{row_of}
 use Rattle.hubs.specs.Hubs.{is_entry_hub, is_exit_hub, is_hub_in_range, letters_of}
-use Rattle.setups.specs.Wiring.{HasWire, LeadsToEntries, Wiring}
+use Rattle.setups.specs.Wiring.{LeadsToEntries, Wiring}
 use Rattle.hubs.specs.declared.hub.Hub.{Hub}
-use Rattle.net.specs.Impulsed.{IsImpulsed, IsPicture, LeadsOn}
+use Rattle.net.specs.Impulsed.{IsImpulsed, IsPicture}
 use Rattle.net.specs.Impulsed.IsImpulsed.{emitting, led_on}
 use Rattle.net.specs.Laws.{AreAllOpen, EmitsOrIsFed, FollowsLeads, HoldsHubs, IsLeastSet, WiresMakeThePicture}
 use Rattle.net.specs.Panel.{contact_of}
@@ -116,33 +116,3 @@ wires_make wiring exits closed picture to_entries reaches is =
 
       open_fed : (hub : Hub) → IsImpulsed wiring exits (λ other. false) hub ↔ EmitsOrIsFed wiring exits hub
       open_fed hub = impulsed_fed wiring exits (λ other. false) hub to_entries (λ other. refl)
-
--- Exits from which no wire leads may be left out: what else is impulsed stays so, and they themselves alone are not.
-pub picture_without : (wiring : Wiring) (exits some closed picture : Hub → Bool) → ((hub : Hub) → some hub ≡ true → exits hub ≡ true)
-    → ((hub entry : Hub) → exits hub ≡ true → HasWire wiring hub entry → some hub ≡ true)
-    → ((common hub : Hub) → contact_of hub ≡ Some common → exits common ≡ false) → IsPicture wiring some closed picture
-    → IsPicture wiring exits closed (λ hub. picture hub || (is_hub_in_range hub && exits hub))
-picture_without wiring exits some closed picture only wired silent is hub = (
-  λ on. elim (or_cases (picture hub) (is_hub_in_range hub && exits hub) on) [
-    | inl there ↦ impulsed_more wiring some exits closed closed only (λ h shut. shut) ((is hub).0 there)
-    | inr own ↦ let both = and_parts (is_hub_in_range hub) (exits hub) own in emitting hub both.0 both.1
-  ],
-  λ at. impulsed_within wiring exits closed (λ h. picture h || (is_hub_in_range h && exits h))
-      (λ h there emits. or_right (picture h) _ (and_from (is_hub_in_range h) (exits h) there emits)) follows at,
-)
-  where
-    -- a hub that leads on is impulsed also where some alone emit
-    before : (from to : Hub) → (picture from || (is_hub_in_range from && exits from)) ≡ true → LeadsOn wiring closed from to → picture from ≡ true
-    before from to on leads = elim (or_cases (picture from) (is_hub_in_range from && exits from) on) [
-      | inl there ↦ there
-      | inr own ↦
-          let both = and_parts (is_hub_in_range from) (exits from) own in
-          by both.0 both.1 leads
-    ]
-      where
-        by : is_hub_in_range from ≡ true → exits from ≡ true → LeadsOn wiring closed from to → picture from ≡ true
-        by there emits (inl wire) = (is from).1 (emitting from there (wired from to emits wire))
-        by there emits (inr contact) = absurd (false≢true (sym (silent from to contact.0) ∙ emits))
-
-    follows : FollowsLeads wiring closed (λ h. picture h || (is_hub_in_range h && exits h))
-    follows from to on leads = or_left (picture to) _ ((is to).1 (led_on from to ((is from).0 (before from to on leads)) leads))

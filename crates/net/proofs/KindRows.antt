@@ -88,7 +88,7 @@ by_part before parts thing n = by (is_within n parts) where
   by false = refl
 
 -- the numbers of the parts of a thing in range
-by_two : (before things parts thing n : ℕ) → is_within thing things ≡ true
+pub by_two : (before things parts thing n : ℕ) → is_within thing things ≡ true
     → option_map (λ (place : ℕ). before + place) (part_place parts (up_to things thing) (up_to parts n))
     ≡ numbered_at (before + (thing - 1) * parts) parts n
 by_two before things parts thing n within =

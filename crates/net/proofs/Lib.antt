@@ -17,3 +17,7 @@ pub mod PassedHubs
 pub mod WiredPictures
 pub mod TellingLemmas
 pub mod ToldPictures
+pub mod KindExits
+pub mod KindPlans
+pub mod StraightRuns
+pub mod StraightRows

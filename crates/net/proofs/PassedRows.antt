@@ -27,7 +27,8 @@ same-row old new same row hub = by (number_of hub) where
   by (Some n) = same (n - 1) row
   by None = refl
 
-module _ (wiring : Wiring) (digits zones : HubSet) (row : CardRow) (first : List ℕ) (leads : LeadsToEntries wiring) where
+module _ (wiring : Wiring) (test : Hub → Bool) (digits zones : HubSet) (row : CardRow) (first : List ℕ) (leads : LeadsToEntries wiring)
+    (all : (hub : Hub) → has_row_at first (passing_place row) hub ≡ true → test hub ≡ true) where
   abbrev exits : Hub → Bool
   exits hub = has_row_at first (passing_place row) hub
 
@@ -63,7 +64,7 @@ module _ (wiring : Wiring) (digits zones : HubSet) (row : CardRow) (first : List
     by (inl emits) = before hub emits.1
     by (inr fed) = led_on fed.exit hub (before fed.exit fed.emits) (inl fed.wire)
 
-  passed-impulsed : (old new : List ℕ) → PassesOn wiring digits zones old new → AreImpulsed old → AreImpulsed new
+  passed-impulsed : (old new : List ℕ) → PassesOn wiring test digits zones old new → AreImpulsed old → AreImpulsed new
   passed-impulsed old new passes before hub on = by (passes.only row hub on) where
     by : (has_row_at old (passing_place row) hub ≡ true) ⊎ IsPassedOn digits zones old row hub → IsImpulsed wiring exits closed hub
     by (inl at) = before hub at
@@ -95,7 +96,7 @@ module _ (wiring : Wiring) (digits zones : HubSet) (row : CardRow) (first : List
 
   -- where nothing is passed on
   once : (spread passed : List ℕ) → AreContactsSilent first → SpreadsRows wiring first spread
-      → PassesOn wiring digits zones spread passed → SameSets spread passed
+      → PassesOn wiring test digits zones spread passed → SameSets spread passed
       → IsPicture wiring exits closed (has_row_at spread (passing_place row))
   once spread passed silent spreads passes same =
       picture-of spread (first-impulsed spread spreads)
@@ -110,11 +111,11 @@ module _ (wiring : Wiring) (digits zones : HubSet) (row : CardRow) (first : List
       by common hub contact shut on (inl emits) =
           absurd (false≢true (sym (silent common hub contact row).0 ∙ emits.1))
       by common hub contact shut on (inr fed) =
-          passes.passed row fed.exit hub (record { common = common; contact = contact; closed = shut; on = on }) fed.wire
+          passes.passed row fed.exit hub (record { common = common; contact = contact; closed = shut; on = on }) (all fed.exit fed.emits) fed.wire
 
   -- what is passed on once is spread on by the wires from the exits of contacts alone
   spread-on : (spread passed spread_on : List ℕ) → AreContactsSilent first → SpreadsRows wiring first spread
-      → PassesOn wiring digits zones spread passed → SpreadsOn wiring passed spread_on → SpreadsRow passed spread_on
+      → PassesOn wiring test digits zones spread passed → SpreadsOn wiring test passed spread_on → SpreadsRow passed spread_on
   spread-on spread passed spread_on silent spreads passes on hub = (on.only (passing_place row) hub, by) where
     from-spread : (exit : Hub) → has_row_at spread (passing_place row) exit ≡ true → HasWire wiring exit hub
         → has_row_at spread_on (passing_place row) hub ≡ true
@@ -133,12 +134,12 @@ module _ (wiring : Wiring) (digits zones : HubSet) (row : CardRow) (first : List
             → has_row_at spread_on (passing_place row) hub ≡ true
         wired contact (inl emits) = absurd (false≢true (sym (silent contact.common fed.exit contact.contact row).0 ∙ emits.1))
         wired contact (inr before) =
-            on.fed (passing_place row) fed.exit contact.common hub before.exit contact.contact before.wire fed.wire fed.emits
+            on.fed (passing_place row) fed.exit contact.common hub before.exit contact.contact (all before.exit before.emits) before.wire fed.wire fed.emits
 
   -- where what is passed on once passes no further contact
   twice : (spread passed spread_on passed_on : List ℕ) → AreContactsSilent first → SpreadsRows wiring first spread
-      → PassesOn wiring digits zones spread passed → SpreadsRow passed spread_on
-      → PassesBehind wiring digits zones spread_on passed_on → SameSets spread_on passed_on
+      → PassesOn wiring test digits zones spread passed → SpreadsRow passed spread_on
+      → PassesBehind wiring test digits zones spread_on passed_on → SameSets spread_on passed_on
       → IsPicture wiring exits closed (has_row_at spread_on (passing_place row))
   twice spread passed spread_on passed_on silent spreads passes spreads_on passes_on same =
       picture-of spread_on
@@ -163,7 +164,7 @@ module _ (wiring : Wiring) (digits zones : HubSet) (row : CardRow) (first : List
           arrived (inl emits) = absurd (false≢true (sym (silent common hub contact row).0 ∙ emits.1))
           arrived (inr fed) =
               stays hub
-              (passes.passed row fed.exit hub (record { common = common; contact = contact; closed = shut; on = at }) fed.wire)
+              (passes.passed row fed.exit hub (record { common = common; contact = contact; closed = shut; on = at }) (all fed.exit fed.emits) fed.wire)
 
       by : (common hub : Hub) → contact_of hub ≡ Some common → closed hub ≡ true
           → has_row_at spread_on (passing_place row) common ≡ true → EmitsOrIsFed wiring (has_row_at passed (passing_place row)) common
@@ -182,7 +183,8 @@ module _ (wiring : Wiring) (digits zones : HubSet) (row : CardRow) (first : List
           through other (inr first_wire) =
               sym (same-row spread_on passed_on same (passing_place row) hub)
               ∙ passes_on.passed row first_wire.exit other.common fed.exit hub
-              (record { common = common; contact = contact; closed = shut; on = on }) first_wire.wire other.contact fed.wire
+              (record { common = common; contact = contact; closed = shut; on = on }) (all first_wire.exit first_wire.emits) first_wire.wire
+              other.contact fed.wire
 
 -- a picture by other sets that are the same
 picture-same : (wiring : Wiring) (exits closed : Hub → Bool) (old new : List ℕ) (row : ℕ) → SameSets old new
@@ -192,43 +194,33 @@ picture-same wiring exits closed old new row same is hub = (
   λ at. same-row old new same row hub ∙ (is hub).1 at,
 )
 
-pub passed_once : (wiring : Wiring) (digits zones : HubSet) (row : CardRow) (first spread passed : List ℕ) → LeadsToEntries wiring → AreContactsSilent first
-    → SpreadsRows wiring first spread → PassesOn wiring digits zones spread passed → SameSets spread passed
+pub passed_once : (wiring : Wiring) (test : Hub → Bool) (digits zones : HubSet) (row : CardRow) (first spread passed : List ℕ) → LeadsToEntries wiring
+    → ((hub : Hub) → has_row_at first (passing_place row) hub ≡ true → test hub ≡ true) → AreContactsSilent first
+    → SpreadsRows wiring first spread → PassesOn wiring test digits zones spread passed → SameSets spread passed
     → IsPicture wiring (pictures_of first (Row row)) (closes_at_row digits zones row) (pictures_of passed (Row row))
-passed_once wiring digits zones row first spread passed leads silent spreads passes same =
-    picture-same wiring _ _ spread passed (passing_place row) same (once wiring digits zones row first leads spread passed silent spreads passes same)
+passed_once wiring test digits zones row first spread passed leads all silent spreads passes same =
+    picture-same wiring _ _ spread passed (passing_place row) same (once wiring test digits zones row first leads all spread passed silent spreads passes same)
 
 -- where no place has a row nothing is impulsed
-pub passed_none : (wiring : Wiring) (digits zones : HubSet) (row : CardRow) (sets : List ℕ) → LeadsToEntries wiring → AreContactsSilent sets
-    → ((place r : ℕ) → has_at sets place r ≡ false)
+pub passed_none : (wiring : Wiring) (digits zones : HubSet) (row : CardRow) (sets : List ℕ) → ((place r : ℕ) → has_at sets place r ≡ false)
     → IsPicture wiring (pictures_of sets (Row row)) (closes_at_row digits zones row) (pictures_of sets (Row row))
-passed_none wiring digits zones row sets leads silent none =
-    passed_once wiring digits zones row sets sets sets leads silent
-    (λ r hub. (λ at. absurd (nowhere (passing_place r) hub at), λ way. no_way r hub way))
-    (record {
-      kept = λ r hub at. at;
-      only = λ r hub at. inl at;
-      passed = λ r before hub passed wire. absurd (nowhere (passing_place r) passed.common passed.on);
-      commons = λ r common hub contact at. at;
-    })
-    (λ place r. refl)
+passed_none wiring digits zones row sets none hub = (
+  λ on. absurd (nowhere hub on),
+  λ at. impulsed_within wiring _ _ (has_row_at sets (passing_place row)) (λ h there emits. emits) (λ from to on way. absurd (nowhere from on)) at,
+)
   where
-    by : (r : ℕ) (number : Option ℕ) → has_at_number sets r number ≡ false
-    by r (Some number) = none (number - 1) r
-    by r None = refl
+    by : (number : Option ℕ) → has_at_number sets (passing_place row) number ≡ false
+    by (Some number) = none (number - 1) (passing_place row)
+    by None = refl
 
-    nowhere : (r : ℕ) (hub : Hub) → has_row_at sets r hub ≡ true → ⊥
-    nowhere r hub at = false≢true (sym (by r (number_of hub)) ∙ at)
+    nowhere : (h : Hub) → has_row_at sets (passing_place row) h ≡ true → ⊥
+    nowhere h at = false≢true (sym (by (number_of h)) ∙ at)
 
-    no_way : (r : CardRow) (hub : Hub) → EmitsOrIsFed wiring (has_row_at sets (passing_place r)) hub → has_row_at sets (passing_place r) hub ≡ true
-    no_way r hub (inl emits) = emits.1
-    no_way r hub (inr fed) = absurd (nowhere (passing_place r) fed.exit fed.emits)
-
-pub passed_twice : (wiring : Wiring) (digits zones : HubSet) (row : CardRow) (first spread passed spread_on passed_on : List ℕ)
-    → LeadsToEntries wiring → AreContactsSilent first → SpreadsRows wiring first spread → PassesOn wiring digits zones spread passed
-    → SpreadsOn wiring passed spread_on → PassesBehind wiring digits zones spread_on passed_on → SameSets spread_on passed_on
+pub passed_twice : (wiring : Wiring) (test : Hub → Bool) (digits zones : HubSet) (row : CardRow) (first spread passed spread_on passed_on : List ℕ)
+    → LeadsToEntries wiring → ((hub : Hub) → has_row_at first (passing_place row) hub ≡ true → test hub ≡ true) → AreContactsSilent first → SpreadsRows wiring first spread → PassesOn wiring test digits zones spread passed
+    → SpreadsOn wiring test passed spread_on → PassesBehind wiring test digits zones spread_on passed_on → SameSets spread_on passed_on
     → IsPicture wiring (pictures_of first (Row row)) (closes_at_row digits zones row) (pictures_of passed_on (Row row))
-passed_twice wiring digits zones row first spread passed spread_on passed_on leads silent spreads passes spreads_on passes_on same =
+passed_twice wiring test digits zones row first spread passed spread_on passed_on leads all silent spreads passes spreads_on passes_on same =
     picture-same wiring _ _ spread_on passed_on (passing_place row) same
-    (twice wiring digits zones row first leads spread passed spread_on passed_on silent spreads passes
-    (spread-on wiring digits zones row first leads spread passed spread_on silent spreads passes spreads_on) passes_on same)
+    (twice wiring test digits zones row first leads all spread passed spread_on passed_on silent spreads passes
+    (spread-on wiring test digits zones row first leads all spread passed spread_on silent spreads passes spreads_on) passes_on same)

@@ -9,7 +9,7 @@ use Rattle.setups.specs.Wiring.{Wiring, HasWire}
 use Rattle.bit_sets.specs.Rows.{leads}
 use Rattle.net.specs.Laws.{EmitsOrIsFed}
 use Rattle.net.specs.HubRows.{has_at_number, has_row_at}
-use Rattle.spreads.specs.Links.{IsInRange, Spreads, has_at, is_fed_at, is_linked}
+use Rattle.spreads.specs.Links.{IsInRange, has_at, is_fed_at, is_linked}
 use Rattle.net.specs.Nets.{IsNetOf, NetRows, leads_by}
 use Rattle.spreads.specs.declared.links.Link.{Link}
 use Rattle.spreads.proofs.LinkLemmas.{fed-found, fed-from}
@@ -70,10 +70,3 @@ row-fed wiring net links old new row is_net range agree spreads hub = by (number
     no_way : EmitsOrIsFed wiring (has_row_at old row) hub → ⊥
     no_way (inl emits) = false≢true (sym (ap is_some is) ∙ emits.0)
     no_way (inr fed) = let n = fed.wire.entry_numbered in cc
-
--- so it is of all rows that are spread
-pub spread-fed : (wiring : Wiring) (net : NetRows) (links : List Link) (old new : List ℕ) → IsNetOf wiring net
-    → All IsInRange links → ((from to : ℕ) → is_linked links from to ≡ leads net.rows from to) → Spreads links old new
-    → (row : ℕ) (hub : Hub) → (has_row_at new row hub ≡ true) ↔ EmitsOrIsFed wiring (has_row_at old row) hub
-spread-fed wiring net links old new is_net range agree spreads row hub =
-    row-fed wiring net links old new row is_net range agree (λ place. spreads place row) hub

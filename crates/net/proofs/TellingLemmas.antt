@@ -22,12 +22,7 @@ use Rattle.bit_sets.specs.Reached.{IsReached}
 use Rattle.bit_sets.specs.Reached.IsReached.{emitting, by_row, by_contact}
 use Rattle.bit_sets.specs.Rows.{leads}
 use Rattle.net.specs.HubSets.{has_hub, has_number, is_bit, is_bit_from, is_in_row, is_same_number}
-use Rattle.setups.specs.Wiring.{Wiring}
-use Rattle.spreads.proofs.LinkLemmas.{linked-more}
-use Rattle.spreads.specs.Links.{is_linked}
-use Rattle.spreads.specs.declared.links.Link.{Link}
-use Rattle.net.specs.Laws.{IsUnwired}
-use Rattle.net.specs.Nets.{IsNetOf, NetRows, leads_by}
+use Rattle.net.specs.Nets.{leads_by}
 use Rattle.net.specs.Orders.{AreOrdersOf, IsRowOf, ordered}
 use Rattle.net.specs.Panel.{contact_of}
 use Rattle.net.specs.Tellings.{AddsBranch, AreBranches, AreLast, IsBranch, IsTelling, is_branch, is_led_at, is_passed_to, is_told}
@@ -310,39 +305,3 @@ pub AreBranches-same : (number : ℕ) (rows : List (List ℕ)) (one other : Hub 
 AreBranches-same number rows one other branches same are =
     let is : ◌≡◌ {A = Hub → Bool} one other = λ i hub. same hub i in
     subst (λ (base : Hub → Bool). AreBranches number rows base branches) is are
-
--- one link more, none of which leads from some places
-pub none-linked-more : (links : List Link) (i : ℕ) (d : Link) (first end : ℕ) → i < length links
-    → (first ≤ (get_or links i d).from → (get_or links i d).from < end → ⊥)
-    → ((from to : ℕ) → first ≤ from → from < end → is_linked (take i links) from to ≡ false)
-    → (from to : ℕ) → first ≤ from → from < end → is_linked (take (i + 1) links) from to ≡ false
-none-linked-more links i d first end inside other before from to low high =
-    ap (λ (some : List Link). is_linked some from to) (take_at_read links i d inside).1
-    ∙ linked-more (take i links) (get_or links i d) from to
-    ∙ both _ _ (before from to low high) (by (from == (get_or links i d).from) refl)
-  where
-    both : (a b : Bool) → a ≡ false → b ≡ false → (a || b) ≡ false
-    both a b e f = grind (arith, nat_tests, e, f)
-
-    by : (b : Bool) → (from == (get_or links i d).from) ≡ b → ((from == (get_or links i d).from) && (to == (get_or links i d).to)) ≡ false
-    by false is = ap (λ b. b && (to == (get_or links i d).to)) is
-    by true is =
-        let same : from ≡ (get_or links i d).from = grind (arith, nat_tests, is) in
-        absurd (other (omega (arith, low, same)) (omega (arith, high, same)))
-
--- no wire leads from the hubs of a kind if no row of their places leads anywhere
-pub unwired : (wiring : Wiring) (net : NetRows) (kind : ℕ → Hub) (first end : ℕ) → IsNetOf wiring net
-    → ((n number : ℕ) → number_of (kind n) ≡ Some number → (first < number) × (number ≤ end))
-    → ((from to : ℕ) → first ≤ from → from < end → leads net.rows from to ≡ false) → IsUnwired wiring kind
-unwired wiring net kind first end is_net within none n entry wire =
-    let range = within n wire.number wire.numbered in
-    let on : leads net.rows (wire.number - 1) (wire.to - 1) ≡ true =
-    sym (ap (λ m. leads_by net.rows m (number_of entry)) wire.numbered ∙ ap (leads_by net.rows (Some wire.number)) wire.entry_numbered)
-    ∙ (is_net (kind n) entry).1 wire in
-    false≢true (sym (none (wire.number - 1) (wire.to - 1) (low wire.number range.0) (high wire.number range.0 range.1)) ∙ on)
-  where
-    low : (m : ℕ) → first < m → first ≤ m - 1
-    low m e = omega (arith, e)
-
-    high : (m : ℕ) → first < m → m ≤ end → m - 1 < end
-    high m e f = omega (arith, e, f)

@@ -1,5 +1,5 @@
 -- What the impulsed hubs are as a set, that there is a picture of them, and where one wire is all that leads to a hub.
-use Rattle.std.specs.Prelude.{◌≡◌, ◌↔◌, ℕ, Bool, true, false, ◌⊎◌, Some}
+use Rattle.std.specs.Prelude.{◌≡◌, ◌↔◌, Bool, true, false, ◌⊎◌, Some}
 use Rattle.hubs.specs.declared.hub.Hub.{Hub}
 use Rattle.hubs.specs.Hubs.{is_hub_in_range}
 use Rattle.setups.specs.Wiring.{Wiring, HasWire, LeadsToEntries}
@@ -47,10 +47,6 @@ AreAllOpen closed = (hub : Hub) → closed hub ≡ false
 pub record ReachesNoContact (wiring : Wiring) (exits : Hub → Bool) : Type 0 where
   pub silent : (common hub : Hub) → contact_of hub ≡ Some common → exits common ≡ false
   pub unwired : (common hub exit : Hub) → contact_of hub ≡ Some common → HasWire wiring exit common → ⊥
-
--- no wire leads from the hubs of a kind that has one number
-abbrev pub IsUnwired : Wiring → (ℕ → Hub) → Type 0
-IsUnwired wiring kind = (number : ℕ) (entry : Hub) → HasWire wiring (kind number) entry → ⊥
 
 -- Where no contact is reached, what emits and what wires lead to from there is the picture, whichever contacts are closed.
 abbrev pub WiresMakeThePicture : Type 0

@@ -10,9 +10,12 @@ pub mod Panel
 pub mod Passing
 pub mod Printing
 pub mod RowSets
+pub mod Straight
 pub mod WholeCycles
 pub mod Nothing
 pub mod Units
 pub mod Orders
 pub mod Tells
+pub mod Kinds
 pub mod Tellings
+pub mod Plans

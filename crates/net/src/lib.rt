@@ -4,6 +4,7 @@
 mod bits;
 mod contacts;
 mod cycle;
+mod kinds;
 mod laws;
 mod links;
 mod net;
@@ -11,6 +12,7 @@ mod orders;
 mod picture;
 mod printing;
 mod row_sets;
+mod straight;
 mod tellings;
 mod unit;
 
@@ -25,4 +27,5 @@ pub use orders::Orders;
 pub use picture::{Contacts, HUBS, Picture};
 pub use printing::Printing;
 pub use row_sets::RowSets;
+pub use straight::Straight;
 pub use unit::Unit;

@@ -42,15 +42,3 @@ pub(crate) fn leads_to_any(links: &[Link], places: &[u64; WORDS]) -> bool
     }
     false
 }
-
-// Whether a link leads from a place of these: from a first one up to one before an end.
-pub(crate) fn leads_from_any(links: &[Link], first: u16, end: u16) -> bool
-    ensures { result ≡ false → (from to : ℕ) → first ≤ from → from < end → is_linked links.now from to ≡ false }
-{
-    for link in links {
-        if first <= link.from && link.from < end {
-            return true;
-        }
-    }
-    false
-}

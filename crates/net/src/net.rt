@@ -1,16 +1,28 @@
 //! The wires of a setup, made ready for pictures.
 
-ghost use Rattle.std.specs.Prelude.{◌≡◌, ◌<◌, All, IfOk, length};
+ghost use Rattle.std.specs.Prelude.{◌≡◌, ◌<◌, All, IfOk, length, true};
 ghost use Rattle.setups.specs.Wiring.{IsEntryNumber};
 ghost use Rattle.net.specs.NetInside.{IsWiredFor};
 ghost use Rattle.net.specs.AddedWires.{AddsRow};
+ghost use Rattle.card_code.specs.declared.row.Row.{Row as CardRow};
+ghost use Rattle.setups.specs.Wiring.{Wiring};
+ghost use Rattle.net.specs.Impulsed.{IsPicture};
+ghost use Rattle.net.specs.Kinds.{MayHaveRows};
+ghost use Rattle.net.specs.Nets.{IsNetOf, NetRows};
+ghost use Rattle.net.specs.Passing.{AreContactsSilent, closes_at_row};
+ghost use Rattle.net.specs.Plans.{Serves};
+ghost use Rattle.net.specs.RowSets.{pictures_of};
+ghost use Rattle.net.specs.declared.cycle.Cycle.{Cycle};
+ghost use Rattle.net.specs.declared.cycle.Point.TheVariants.{Row};
 
 use crate::contacts::CONTACTS;
 use crate::cycle::Cycle;
-use crate::links::{add_links, leads_from_any, leads_to_any};
+use crate::kinds::{Plan, emitting_in_run_in, plans_of};
+use crate::links::add_links;
 use crate::orders::Orders;
 use crate::picture::{Contacts, Picture, cut_after_hubs};
 use crate::row_sets::RowSets;
+use crate::straight::{Straight, straight_of};
 use crate::tellings::{Telling, kind_of, tellings_of, told_through};
 use bit_sets::{EXITS, Rows, WORDS, commons_of, meet, reach, reach_by_rows};
 use hubs::Hub;
@@ -18,9 +30,6 @@ use setups::Setup;
 use spreads::{Link, Paths};
 use std::alloc::{AllocError, Global};
 use std::marker::Model;
-
-// The most wires along which sets of rows are spread through contacts.
-const MOST_LINKS: usize = 4096;
 
 /// The wires of one setup, made ready for pictures at every point of a run.
 pub struct Net {
@@ -30,17 +39,13 @@ pub struct Net {
     commons: [u64; WORDS],
     // The same without the carry entries.
     others: [u64; WORDS],
-    // The wires, as the rows have them, and the contacts of the panel to which they lead.
-    paths: Paths,
-    // Whether the wires are too many for sets of rows to be spread along them through contacts.
-    has_many: bool,
-    // Whether no wire leads to a common hub.
-    is_direct: bool,
     // What each of the exits that tell of cycles makes at the control point.
     tellings: Vec<Telling>,
-    // Whether a wire leads from an exit of first reading, and from one of second reading.
-    reads_first: bool,
-    reads_second: bool,
+    // For each of these exits the paths of rows in the cycles that it tells of, and those in the run-in.
+    plans: Vec<Plan>,
+    run_in: Paths,
+    // The wires that lead from second reading to wheels, if no others may carry rows and none leads to a common hub.
+    straight: Option<Vec<Straight>>,
 }
 
 // By hand, so that a function that drops one calls this, and doesn't drop its parts one by one.
@@ -48,14 +53,12 @@ impl Drop for Net {
     fn drop(self) {
         let Net {
             rows: _rows,
-            paths: _paths,
-            has_many: _has_many,
             commons: _commons,
             others: _others,
-            is_direct: _is_direct,
             tellings: _tellings,
-            reads_first: _reads_first,
-            reads_second: _reads_second,
+            plans: _plans,
+            run_in: _run_in,
+            straight: _straight,
         } = self;
     }
 }
@@ -70,25 +73,23 @@ impl Model for Net {
 
     ghost use Rattle.net.specs.NetInside.{IsNetInside};
 
-    ghost invariant = { λ net. IsNetInside CONTACTS net.commons net.others net.paths net.is_direct net.tellings.items net.reads_first net.reads_second net.rows };
+    ghost invariant = { λ net. IsNetInside CONTACTS net.commons net.others net.tellings.items net.plans.items net.run_in net.straight net.rows };
 }
 
 impl Net {
-    ghost use Rattle.std.specs.Prelude.{IfOk, IfSome};
-    ghost use Rattle.setups.specs.Wiring.{Wiring};
+    ghost use Rattle.std.specs.Prelude.{◌≡◌, ℕ, All, Bool, IfOk, IfSome, false, true};
+    ghost use Rattle.setups.specs.Wiring.{LeadsToEntries, Wiring};
     ghost use Rattle.net.specs.HubSets.{has_hub};
     ghost use Rattle.net.specs.Orders.{AreToldBy};
-    ghost use Rattle.hubs.specs.declared.hub.Hub.TheVariants.{FR, SR};
-    ghost use Rattle.net.specs.Laws.{IsUnwired};
     ghost use Rattle.net.specs.Impulsed.{IsPicture};
     ghost use Rattle.net.specs.Nets.{IsNetOf};
-    ghost use Rattle.std.specs.Prelude.{◌≡◌, ℕ, Bool, true};
     ghost use Rattle.hubs.specs.declared.hub.Hub.{Hub};
-    ghost use Rattle.net.specs.Passing.{PassesNoCarry};
-    ghost use Rattle.std.specs.Prelude.{false};
     ghost use Rattle.card_code.specs.declared.row.Row.{Row as CardRow};
-    ghost use Rattle.net.specs.Passing.{AreContactsSilent, PassesBehind, PassesOn, SpreadsOn, SpreadsRow, SpreadsRows, closes_at_row};
-    ghost use Rattle.spreads.specs.Passing.{SameSets};
+    ghost use Rattle.net.specs.Passing.{AreContactsSilent, PassesNoCarry, closes_at_row};
+    ghost use Rattle.net.specs.Kinds.{MayHaveRows};
+    ghost use Rattle.net.specs.Plans.{Serves};
+    ghost use Rattle.net.specs.declared.cycle.Cycle.{Cycle};
+    ghost use Rattle.net.specs.Straight.{AreStraight, IsInside};
     ghost use Rattle.net.specs.RowSets.{LeadsToNoContact, pictures_of};
     ghost use Rattle.net.specs.declared.cycle.Point.TheVariants.{Row};
 
@@ -97,24 +98,20 @@ impl Net {
         ensures { IfOk result (IsNetOf setup.now) }
     {
         let Wired { rows, links } = wired_for(alloc, setup)?;
-        let paths = Paths::of(alloc, &CONTACTS, links.as_slice())?;
         let commons = commons_of(&CONTACTS);
         let others = commons_of(&CONTACTS[1..]);
-        let has_many = links.len() > MOST_LINKS;
-        let is_direct = !leads_to_any(links.as_slice(), &commons);
         let tellings = tellings_of(alloc, &rows, &commons)?;
-        let reads_first = leads_from_any(links.as_slice(), 0, 80);
-        let reads_second = leads_from_any(links.as_slice(), 80, 160);
+        let plans = plans_of(alloc, tellings.as_slice(), links.as_slice())?;
+        let run_in = Paths::of(alloc, &CONTACTS, links.as_slice(), &emitting_in_run_in())?;
+        let straight = straight_of(alloc, links.as_slice(), &commons)?;
         Ok(Net {
             rows,
             commons,
             others,
-            paths,
-            has_many,
-            is_direct,
             tellings,
-            reads_first,
-            reads_second,
+            plans,
+            run_in,
+            straight,
         })
     }
 
@@ -180,99 +177,78 @@ impl Net {
         }
     }
 
-    /// Whether no wire leads to a hub from which contacts lead: then no impulse of an exit passes a contact.
-    pub fn is_direct(&self) -> bool
-        ensures { result ≡ true → (wiring : Wiring) → IsNetOf wiring self.now → LeadsToNoContact wiring }
+    /// The wires from second reading to wheels in runs, if no others may carry rows and none leads to a contact; else `None`.
+    pub fn straight(&self) -> Option<&[Straight]>
+        ensures inside { IfSome result (λ runs. All IsInside runs.now) }
+        ensures straight { IfSome result (λ runs. (wiring : Wiring) → IsNetOf wiring self.now → AreStraight wiring runs.now) }
+        ensures direct { IfSome result (λ _. (wiring : Wiring) → IsNetOf wiring self.now → LeadsToNoContact wiring) }
     {
-        self.is_direct
+        match &self.straight {
+            Some(runs) => Some(runs.as_slice()),
+            None => None,
+        }
     }
 
-    /// Whether a wire leads from an exit of first reading. If none does, what is emitted there comes nowhere.
-    pub fn reads_first(&self) -> bool
-        ensures { result ≡ false → (wiring : Wiring) → IsNetOf wiring self.now → IsUnwired wiring FR }
-    {
-        self.reads_first
-    }
-
-    /// The same of second reading.
-    pub fn reads_second(&self) -> bool
-        ensures { result ≡ false → (wiring : Wiring) → IsNetOf wiring self.now → IsUnwired wiring SR }
-    {
-        self.reads_second
-    }
-
-    /// Spreads rows along the wires, all rows at once: each entry gains the rows of all exits that lead to it. Contacts pass on nothing
-    /// here.
-    pub fn spread(&self, sets: &mut RowSets)
-        ensures { (wiring : Wiring) → IsNetOf wiring self.now → (row : ℕ) → SpreadsRow wiring row sets.old sets.new }
-    {
-        self.paths.follow(&mut sets.places);
-    }
-
-    /// Spreads rows along the wires and the closed contacts, all rows at once: each hub gains the rows at which it is impulsed. The
-    /// contacts closed at the rows 9 to 0 are those of `digits`, at 11 and 12 those of `zones`. No hub from which contacts lead, and none
-    /// to which they lead, has a row at first.
+    /// Spreads rows along the wires and the closed contacts, all rows at once: each hub gains the rows at which it is impulsed, where none
+    /// but what may emit in the cycle has any at first. The contacts closed at the rows 9 to 0 are those of `digits`, at 11 and 12 those of
+    /// `zones`. No hub from which contacts lead, and none to which they lead, has a row at first.
     ///
-    /// Answers false where impulses may pass one contact behind another: then the sets are not yet complete. It also does where there are
-    /// more than 4,096 wires, since so many are followed faster by the words of their rows, point by point.
-    pub fn spread_through(&self, digits: &Contacts, zones: &Contacts, sets: &mut RowSets) -> bool
+    /// Answers false if impulses may pass one contact behind another, at a row or at the control point: then the sets may lack rows.
+    pub fn spread_through(
+        &self,
+        cycle: Cycle,
+        digits: &Contacts,
+        zones: &Contacts,
+        sets: &mut RowSets,
+    ) -> bool
         requires { AreContactsSilent sets.old }
         ensures { result ≡ true
             → (wiring : Wiring)
             → IsNetOf wiring self.now
+            → MayHaveRows wiring cycle sets.old
             → (row : CardRow)
             → IsPicture wiring (pictures_of sets.old (Row row)) (closes_at_row digits.now zones.now row) (pictures_of sets.new (Row row)) }
     {
-        if self.has_many {
-            return false;
-        }
         if sets.places.are_empty() {
             return true;
         }
-        self.spread_outer(sets);
-        if !self.pass(digits, zones, sets) {
-            return true;
+        match self.paths_in(cycle) {
+            Some(paths) => spread_by(paths, digits, zones, sets),
+            None => false,
         }
-        self.spread_on(sets);
-        !self.pass_behind(digits, zones, sets)
     }
 
-    // Spreads rows along the wires, where no exit of a contact has any.
-    fn spread_outer(&self, sets: &mut RowSets)
-        requires { AreContactsSilent sets.old }
-        ensures { (wiring : Wiring) → IsNetOf wiring self.now → SpreadsRows wiring sets.old sets.new }
+    // The paths of rows in a cycle. None where an impulse may pass one contact and come to another at its control point.
+    fn paths_in(&self, cycle: Cycle) -> Option<&Paths>
+        ensures { (wiring : Wiring) → IsNetOf wiring self.now → IfSome result (λ paths. Serves wiring self.now cycle paths.now) }
     {
-        self.paths.follow_outer(&mut sets.places);
+        match kind_of(cycle) {
+            Some(kind) => match &self.plans[kind].paths {
+                Some(paths) => Some(paths),
+                None => None,
+            },
+            None => Some(&self.run_in),
+        }
     }
+}
 
-    // Passes rows on along the closed contacts that wires lead to. Answers whether one passed any on.
-    fn pass(&self, digits: &Contacts, zones: &Contacts, sets: &mut RowSets) -> bool
-        ensures passes { (wiring : Wiring)
-            → IsNetOf wiring self.now
-            → PassesOn wiring digits.now zones.now sets.old sets.new }
-        ensures same { result ≡ false → SameSets sets.old sets.new }
-    {
-        self.paths
-            .pass(digits.words(), zones.words(), &mut sets.places)
+// Spreads rows along paths and closed contacts.
+fn spread_by(paths: &Paths, digits: &Contacts, zones: &Contacts, sets: &mut RowSets) -> bool
+    requires { AreContactsSilent sets.old }
+    ensures { result ≡ true
+        → (wiring : Wiring) (net : NetRows) (cycle : Cycle)
+        → IsNetOf wiring net
+        → Serves wiring net cycle paths.now
+        → MayHaveRows wiring cycle sets.old
+        → (row : CardRow)
+        → IsPicture wiring (pictures_of sets.old (Row row)) (closes_at_row digits.now zones.now row) (pictures_of sets.new (Row row)) }
+{
+    paths.follow_outer(&mut sets.places);
+    if !paths.pass(digits.words(), zones.words(), &mut sets.places) {
+        return true;
     }
-
-    // Spreads rows along the wires from the exits of the contacts that wires lead to.
-    fn spread_on(&self, sets: &mut RowSets)
-        ensures { (wiring : Wiring) → IsNetOf wiring self.now → SpreadsOn wiring sets.old sets.new }
-    {
-        self.paths.follow_further(&mut sets.places);
-    }
-
-    // Passes rows on along the closed contacts to which wires from the exits of contacts lead. Answers whether a hub may have gained any.
-    fn pass_behind(&self, digits: &Contacts, zones: &Contacts, sets: &mut RowSets) -> bool
-        ensures passes { (wiring : Wiring)
-            → IsNetOf wiring self.now
-            → PassesBehind wiring digits.now zones.now sets.old sets.new }
-        ensures same { result ≡ false → SameSets sets.old sets.new }
-    {
-        self.paths
-            .pass_behind(digits.words(), zones.words(), &mut sets.places)
-    }
+    paths.follow_further(&mut sets.places);
+    !paths.pass_behind(digits.words(), zones.words(), &mut sets.places)
 }
 
 // The wires of a setup, as rows and one by one.

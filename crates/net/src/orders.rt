@@ -6,7 +6,7 @@ use crate::picture::Picture;
 use hubs::{Group, Hub};
 
 // The first of the counter groups.
-const FIRST_GROUP: Group = Group {
+pub(crate) const FIRST_GROUP: Group = Group {
     width: 3,
     number: 1,
 };

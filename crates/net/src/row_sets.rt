@@ -65,8 +65,18 @@ impl RowSets {
             ≡ (has_row_at self.old row hub || is_in_sets first sets.now row hub) }
     {
         if let Some(number) = first.number() {
-            self.places.insert_sets(number as usize - 1, sets);
+            self.insert_sets_at(first, number, sets);
         }
+    }
+
+    /// The same, where the number of the first hub is known, and needn't be looked up.
+    #[inline(always)]
+    pub fn insert_sets_at(&mut self, _first: Hub, number: u32, sets: &[u16])
+        requires { number_of _first ≡ Some number }
+        ensures { (row : ℕ) (hub : Hub) → has_row_at self.new row hub
+            ≡ (has_row_at self.old row hub || is_in_sets _first sets.now row hub) }
+    {
+        self.places.insert_sets(number as usize - 1, sets);
     }
 
     /// The sets of the hubs that follow one another from the first one to the last one of the panel; none from a hub out of range.

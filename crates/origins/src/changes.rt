@@ -12,7 +12,7 @@ use crate::holding::hold_same;
 use card_code::Card;
 use ledgers::{card_in, make_ready, move_on};
 use machine::SteppedMachine;
-use net::{Cycle, Unit};
+use net::Cycle;
 use setups::Setup;
 use std::alloc::{AllocError, Global};
 use storage_units::Storage;
@@ -32,9 +32,7 @@ pub struct PassedCycle {
 fn is_changed(storage: &Storage, cycle: Cycle) -> bool
     ensures { result ≡ is_changed cycle storage.now }
 {
-    let mut ended = *storage;
-    ended.end_cycle(cycle);
-    !hold_same(storage, &ended)
+    !hold_same(storage, &storage.behind_end(cycle))
 }
 
 // Whether a cycle sets the pilots anew.

@@ -1,5 +1,5 @@
 -- Wheels printed eight at a time.
-use Rattle.std.proofs.Common.{⊎_elim, ◌≡◌, ◌≢◌, ◌∙◌, ℕ, ◌+◌, ◌<◌, ◌≤◌, ap, arith, sym, subst, List, bit_or, slice_index_or, slice_set}
+use Rattle.std.proofs.Common.{⊎_elim, ◌≡◌, ◌≢◌, ◌∙◌, ℕ, ◌+◌, ◌<◌, ◌≤◌, ap, arith, refl, sym, subst, List, bit_or, slice_index_or, slice_set}
 use Rattle.std.proofs.lemmas.Bool.{cases_eq}
 use Rattle.std.proofs.lemmas.List.{length-set}
 use Rattle.std.proofs.lemmas.Nat.{le_or_l, le_or_r}
@@ -7,6 +7,8 @@ use Rattle.print_unit.proofs.Ranges.{places-more}
 use Rattle.print_unit.specs.RowSets.{rows_in}
 use Rattle.print_unit.specs.WheelWords.{HasPrinted, received_at}
 use Rattle.print_unit.specs.ZeroControl.{character_of}
+use Rattle.card_code.specs.CardCode.{print_character, deck_character, code}
+use Rattle.net.specs.HubSets.{is_bit}
 
 -- no set has more than all of them joined
 pub bound-more : (sets : List ℕ) (from count rows : ℕ)
@@ -33,7 +35,11 @@ printed-more sets line k character below is before =
       wheels = length-set line k character ∙ long;
     }
 
--- a wheel that received nothing prints what no rows print
-pub blank-printed : (sets : List ℕ) (k blank : ℕ) → blank ≡ character_of (rows_in 0) → slice_index_or sets k 0 ≡ 0
-    → blank ≡ character_of (received_at sets k)
-blank-printed sets k blank is none = is ∙ ap (λ (set : ℕ). character_of (rows_in set)) (sym none)
+-- where no row is received a blank is printed
+blank : 32 ≡ character_of (rows_in 0)
+unfolding print_character deck_character code is_bit
+blank = refl
+
+-- so is it by a wheel that received nothing
+pub blank-printed : (sets : List ℕ) (k : ℕ) → slice_index_or sets k 0 ≡ 0 → 32 ≡ character_of (received_at sets k)
+blank-printed sets k none = blank ∙ ap (λ (set : ℕ). character_of (rows_in set)) (sym none)

@@ -1,5 +1,5 @@
 -- An emitter's rows, all at once: the sets of its twelve exits, which follow one another.
-use Rattle.std.proofs.Common.{◌≡◌, ◌∙◌, refl, sym, ap, ℕ, ◌+◌, ◌-◌, ◌*◌, ◌<◌, ◌≤◌, ◌==◌, ◌&&◌, nat_le, Bool, true, false, inl, inr, ◌⊎◌, length, Option, Some, None, arith, if◌then◌else◌}
+use Rattle.std.proofs.Common.{◌≡◌, ◌∙◌, refl, sym, ap, ℕ, ◌+◌, ◌-◌, ◌*◌, ◌<◌, ◌≤◌, ◌==◌, ◌&&◌, nat_le, Bool, true, false, inl, inr, ◌⊎◌, length, Option, Some, None, arith}
 use Rattle.std.specs.List.{list_all, range_with_len}
 use Rattle.std.proofs.lemmas.Bool.{cases_lt}
 use Rattle.std.proofs.lemmas.Bool.Decides.{nat_tests}
@@ -47,42 +47,35 @@ placed first number place p m is has = ap (λ b. nat_le first m && b) (has (m - 
     by first number place m is = grind (arith, nat_tests, is)
 
 -- the number of an emitter's exit, by the place of its row
-numbered : (emitter n place : ℕ) → row_place n ≡ Some (place + 1) → (within : Bool) → is_within emitter 8 ≡ within
-    → number_of (EM emitter n) ≡ (if within then Some (928 + ((emitter - 1) * 12 + (place + 1))) else None)
-numbered emitter n place is_place true is = rw (is, is_place) refl
-numbered emitter n place is_place false is = rw (is) refl
+numbered : (emitter n place : ℕ) → row_place n ≡ Some (place + 1) → is_within emitter 8 ≡ true
+    → number_of (EM emitter n) ≡ Some (928 + ((emitter - 1) * 12 + (place + 1)))
+numbered emitter n place is_place is = rw (is, is_place) refl
 
 -- an exit of the emitter has the row that it is for
-exit-set : (emitter n place p : ℕ) (given : Option ℕ) → place < 12 → row_place n ≡ Some (place + 1) → is_alone p place ≡ true
+exit-set : (emitter n place p : ℕ) (given : Option ℕ) → is_within emitter 8 ≡ true → place < 12 → row_place n ≡ Some (place + 1)
+    → is_alone p place ≡ true
     → is_set_from (number_of (EM emitter 0)) ROW_SETS p given ≡ is_same_number (number_of (EM emitter n)) given
-exit-set emitter n place p given low is_place all = by (is_within emitter 8) refl given
-  where
-    by : (within : Bool) → is_within emitter 8 ≡ within → (given : Option ℕ)
-        → is_set_from (number_of (EM emitter 0)) ROW_SETS p given ≡ is_same_number (number_of (EM emitter n)) given
-    by true is (Some m) =
-        ap (λ (o : Option ℕ). is_set_from o ROW_SETS p (Some m)) (numbered emitter 0 0 refl true is)
-        ∙ placed (928 + ((emitter - 1) * 12 + (0 + 1))) (928 + ((emitter - 1) * 12 + (place + 1))) place p m (omega arith) (alone p place low all)
-        ∙ sym (ap (λ (o : Option ℕ). is_same_number o (Some m)) (numbered emitter n place is_place true is))
-    by true is None =
-        ap (λ (o : Option ℕ). is_set_from o ROW_SETS p None) (numbered emitter 0 0 refl true is)
-        ∙ sym (ap (λ (o : Option ℕ). is_same_number o None) (numbered emitter n place is_place true is))
-    by false is given =
-        ap (λ (o : Option ℕ). is_set_from o ROW_SETS p given) (numbered emitter 0 0 refl false is)
-        ∙ sym (ap (λ (o : Option ℕ). is_same_number o given) (numbered emitter n place is_place false is))
+exit-set emitter n place p (Some m) is low is_place all =
+    ap (λ (o : Option ℕ). is_set_from o ROW_SETS p (Some m)) (numbered emitter 0 0 refl is)
+    ∙ placed (928 + ((emitter - 1) * 12 + (0 + 1))) (928 + ((emitter - 1) * 12 + (place + 1))) place p m (omega arith) (alone p place low all)
+    ∙ sym (ap (λ (o : Option ℕ). is_same_number o (Some m)) (numbered emitter n place is_place is))
+exit-set emitter n place p None is low is_place all =
+    ap (λ (o : Option ℕ). is_set_from o ROW_SETS p None) (numbered emitter 0 0 refl is)
+    ∙ sym (ap (λ (o : Option ℕ). is_same_number o None) (numbered emitter n place is_place is))
 
 -- the sets of an emitter's exits
-pub emitted-sets : (emitter : ℕ) (at : CardRow) (hub : Hub)
+pub emitted-sets : (emitter : ℕ) (at : CardRow) (hub : Hub) → is_within emitter 8 ≡ true
     → is_in_sets (EM emitter 0) ROW_SETS (passing_place at) hub ≡ emits_row (Some emitter) at hub
 unfolding is_alone is_bit same_answer
-emitted-sets emitter row.Zero hub = exit-set emitter 0 0 9 (number_of hub) (omega arith) refl refl
-emitted-sets emitter row.One hub = exit-set emitter 1 1 8 (number_of hub) (omega arith) refl refl
-emitted-sets emitter row.Two hub = exit-set emitter 2 2 7 (number_of hub) (omega arith) refl refl
-emitted-sets emitter row.Three hub = exit-set emitter 3 3 6 (number_of hub) (omega arith) refl refl
-emitted-sets emitter row.Four hub = exit-set emitter 4 4 5 (number_of hub) (omega arith) refl refl
-emitted-sets emitter row.Five hub = exit-set emitter 5 5 4 (number_of hub) (omega arith) refl refl
-emitted-sets emitter row.Six hub = exit-set emitter 6 6 3 (number_of hub) (omega arith) refl refl
-emitted-sets emitter row.Seven hub = exit-set emitter 7 7 2 (number_of hub) (omega arith) refl refl
-emitted-sets emitter row.Eight hub = exit-set emitter 8 8 1 (number_of hub) (omega arith) refl refl
-emitted-sets emitter row.Nine hub = exit-set emitter 9 9 0 (number_of hub) (omega arith) refl refl
-emitted-sets emitter row.Eleven hub = exit-set emitter 11 10 10 (number_of hub) (omega arith) refl refl
-emitted-sets emitter row.Twelve hub = exit-set emitter 12 11 11 (number_of hub) (omega arith) refl refl
+emitted-sets emitter row.Zero hub is = exit-set emitter 0 0 9 (number_of hub) is (omega arith) refl refl
+emitted-sets emitter row.One hub is = exit-set emitter 1 1 8 (number_of hub) is (omega arith) refl refl
+emitted-sets emitter row.Two hub is = exit-set emitter 2 2 7 (number_of hub) is (omega arith) refl refl
+emitted-sets emitter row.Three hub is = exit-set emitter 3 3 6 (number_of hub) is (omega arith) refl refl
+emitted-sets emitter row.Four hub is = exit-set emitter 4 4 5 (number_of hub) is (omega arith) refl refl
+emitted-sets emitter row.Five hub is = exit-set emitter 5 5 4 (number_of hub) is (omega arith) refl refl
+emitted-sets emitter row.Six hub is = exit-set emitter 6 6 3 (number_of hub) is (omega arith) refl refl
+emitted-sets emitter row.Seven hub is = exit-set emitter 7 7 2 (number_of hub) is (omega arith) refl refl
+emitted-sets emitter row.Eight hub is = exit-set emitter 8 8 1 (number_of hub) is (omega arith) refl refl
+emitted-sets emitter row.Nine hub is = exit-set emitter 9 9 0 (number_of hub) is (omega arith) refl refl
+emitted-sets emitter row.Eleven hub is = exit-set emitter 11 10 10 (number_of hub) is (omega arith) refl refl
+emitted-sets emitter row.Twelve hub is = exit-set emitter 12 11 11 (number_of hub) is (omega arith) refl refl

@@ -1,10 +1,12 @@
 -- Wheels in lanes: masks of characters and of sets.
-use Rattle.std.proofs.Common.{◌≡◌, ◌∙◌, ℕ, ◌+◌, ◌-◌, ◌*◌, ◌%◌, ◌^◌, ◌<◌, ◌≤◌, arith, refl, sym, ap, Bool, true, false, not, ◌&&◌, ◌||◌, ◌==◌, nat_eq, nat_lt, List, length, get_or, map, replicate, slice_index_or, bit_and, bit_or, cond, eqb, leb, ltb}
+use Rattle.std.proofs.Common.{◌≡◌, ◌∙◌, ◌⊎◌, inl, inr, ℕ, ◌+◌, ◌-◌, ◌*◌, ◌%◌, ◌^◌, ◌<◌, ◌≤◌, arith, refl, sym, ap, Bool, true, false, not, ◌&&◌, ◌||◌, ◌==◌, nat_eq, nat_lt, List, length, get_or, map, replicate, slice_index_or, bit_and, bit_or, cond, eqb, leb, ltb}
 use Rattle.std.specs.Prelude.{nat_le}
+use Rattle.std.proofs.lemmas.Bool.{cases_lt}
 use Rattle.std.proofs.lemmas.Bool.Decides.{nat_tests}
 use Rattle.std.proofs.lemmas.List.{get_or_past, get_or-map, length-map}
-use Rattle.std.proofs.lemmas.Simd.{bitmask_splat, bit_mask_l, get_or-chunk, get_or-replicate, get_or-zip2, length-chunk, length-replicate, map-map, mask_l-mod, none_from_empty_mask, zip2_of_maps, zip2_splat, zip2_splat_left}
-use Rattle.net.proofs.Below.bit_sets.BitLemmas.{is_bit-low, is_bit-or, is_bit-shl}
+use Rattle.std.proofs.lemmas.Nat.{le_or_l, le_or_r}
+use Rattle.std.proofs.lemmas.Simd.{bitmask_splat, bit_mask_l, get_or-chunk, get_or-replicate, get_or-zip2, length-chunk, length-replicate, length-zip2, map-map, mask_l-mod, zip2_of_maps, zip2_splat, zip2_splat_left}
+use Rattle.net.proofs.Below.bit_sets.BitLemmas.{is_bit-low, is_bit-or, is_bit-shl, is_bit-zero}
 use Rattle.net.specs.HubSets.{is_bit}
 use Rattle.print_unit.proofs.Sets.{rows_in-low}
 use Rattle.print_unit.specs.RowSets.{rows_in}
@@ -113,21 +115,80 @@ wheels-masked left right k test below one other =
         wrong : (k : ℕ) → nat_le 56 k ≡ false → nat_lt k 64 ≡ false → ⊥
         wrong k a b = grind (arith, nat_tests, a, b)
 
--- eight sets whose mask is empty are empty
-pub none-received : (sets : List ℕ) (from k : ℕ) → from + 8 ≤ length sets
-    → nat_eq (mask_l (map (top 15) (zip2 (λ a b. cond (not (eqb a b)) (2 ^ 16 - 1) 0) (chunk from 8 sets) (replicate 8 0))) % 2 ^ 64) 0 ≡ true
-    → from ≤ k → k < from + 8 → slice_index_or sets k 0 ≡ 0
-none-received sets from k within empty low high =
-    nothing (slice_index_or sets k 0)
-    (none_from_empty_mask (λ set. not (eqb set 0)) sets from 8 0 within
-    (sym (bitmask_splat w16 (λ a b. not (eqb a b)) (chunk from 8 sets) 8 0 (length-chunk from 8 sets within) (omega arith))
-    ∙ zero-is _ empty) k low high)
+-- what is empty when it is joined with another was empty, and so was the other
+nothing-joined : (one other : ℕ) → bit_or one other ≡ 0 → (one ≡ 0) × (other ≡ 0)
+nothing-joined one other none =
+    let left = le_or_l one other in
+    let right = le_or_r one other in
+    (omega (arith, left, none), omega (arith, right, none))
+
+-- three times eight sets, joined lane by lane
+abbrev pub joined_eights : List ℕ → ℕ → List ℕ
+joined_eights sets from =
+    zip2 bit_or (zip2 bit_or (chunk from 8 sets) (chunk (from + 8) 8 sets)) (chunk (from + 16) 8 sets)
+
+-- three times eight sets are empty where the mask of them joined is
+pub none-received : (sets : List ℕ) (from k : ℕ) → from + 24 ≤ length sets
+    → nat_eq (mask_l (map (top 15) (zip2 (λ a b. cond (not (eqb a b)) (2 ^ 16 - 1) 0) (joined_eights sets from) (replicate 8 0))) % 2 ^ 64) 0 ≡ true
+    → from ≤ k → k < from + 24 → slice_index_or sets k 0 ≡ 0
+none-received sets from k within empty low high = by (cases_lt k (from + 8)) (cases_lt k (from + 16))
   where
-    nothing : (set : ℕ) → not (eqb set 0) ≡ false → set ≡ 0
-    nothing set e = grind (arith, nat_tests, e)
+    first : length (chunk from 8 sets) ≡ 8
+    first = length-chunk from 8 sets (omega (arith, within))
+
+    second : length (chunk (from + 8) 8 sets) ≡ 8
+    second = length-chunk (from + 8) 8 sets (omega (arith, within))
+
+    third : length (chunk (from + 16) 8 sets) ≡ 8
+    third = length-chunk (from + 16) 8 sets (omega (arith, within))
+
+    pair : length (zip2 bit_or (chunk from 8 sets) (chunk (from + 8) 8 sets)) ≡ 8
+    pair = length-zip2 bit_or (chunk from 8 sets) (chunk (from + 8) 8 sets) (first ∙ sym second) ∙ first
+
+    long : length (joined_eights sets from) ≡ 8
+    long = length-zip2 bit_or (zip2 bit_or (chunk from 8 sets) (chunk (from + 8) 8 sets)) (chunk (from + 16) 8 sets) (pair ∙ sym third) ∙ pair
 
     zero-is : (n : ℕ) → nat_eq n 0 ≡ true → n ≡ 0
     zero-is n e = grind (arith, nat_tests, e)
+
+    nothing : (set : ℕ) → not (eqb set 0) ≡ false → set ≡ 0
+    nothing set e = grind (arith, nat_tests, e)
+
+    mask : mask_l (map (λ set. not (eqb set 0)) (joined_eights sets from)) ≡ 0
+    mask = sym (bitmask_splat w16 (λ a b. not (eqb a b)) (joined_eights sets from) 8 0 long (omega arith)) ∙ zero-is _ empty
+
+    lane : (j : ℕ) → j < 8 → get_or (joined_eights sets from) j 0 ≡ 0
+    lane j below = nothing (get_or (joined_eights sets from) j 0)
+        (sym (get_or-map (λ set. not (eqb set 0)) (joined_eights sets from) j 0 false (omega (arith, below, long)))
+        ∙ sym (is_bit-mask (map (λ set. not (eqb set 0)) (joined_eights sets from)) j)
+        ∙ ap (λ (word : ℕ). is_bit word j) mask ∙ is_bit-zero j)
+
+    values : (j : ℕ) → j < 8 → get_or (joined_eights sets from) j 0
+        ≡ bit_or (bit_or (slice_index_or sets (from + j) 0) (slice_index_or sets (from + 8 + j) 0)) (slice_index_or sets (from + 16 + j) 0)
+    values j below =
+        get_or-zip2 bit_or (zip2 bit_or (chunk from 8 sets) (chunk (from + 8) 8 sets)) (chunk (from + 16) 8 sets) j 0 0 0
+        (omega (arith, below, pair)) (omega (arith, below, third))
+        ∙ ap (λ (set : ℕ). bit_or set (get_or (chunk (from + 16) 8 sets) j 0))
+        (get_or-zip2 bit_or (chunk from 8 sets) (chunk (from + 8) 8 sets) j 0 0 0 (omega (arith, below, first)) (omega (arith, below, second)))
+        ∙ (λ i. bit_or (bit_or (get_or-chunk from 8 sets j 0 below i) (get_or-chunk (from + 8) 8 sets j 0 below i)) (get_or-chunk (from + 16) 8 sets j 0 below i))
+
+    joined : (j : ℕ) → j < 8
+        → bit_or (bit_or (slice_index_or sets (from + j) 0) (slice_index_or sets (from + 8 + j) 0)) (slice_index_or sets (from + 16 + j) 0) ≡ 0
+    joined j below = sym (values j below) ∙ lane j below
+
+    by : (k < from + 8) ⊎ (from + 8 ≤ k) → (k < from + 16) ⊎ (from + 16 ≤ k) → slice_index_or sets k 0 ≡ 0
+    by (inl here) other =
+        let place : k ≡ from + (k - from) = omega (arith, low) in
+        let one = nothing-joined _ _ (joined (k - from) (omega (arith, low, here))) in
+        ap (λ (j : ℕ). slice_index_or sets j 0) place ∙ (nothing-joined _ _ one.0).0
+    by (inr past) (inl here) =
+        let place : k ≡ from + 8 + (k - (from + 8)) = omega (arith, past) in
+        let one = nothing-joined _ _ (joined (k - (from + 8)) (omega (arith, past, here))) in
+        ap (λ (j : ℕ). slice_index_or sets j 0) place ∙ (nothing-joined _ _ one.0).1
+    by (inr before) (inr past) =
+        let place : k ≡ from + 16 + (k - (from + 16)) = omega (arith, past) in
+        let one = nothing-joined _ _ (joined (k - (from + 16)) (omega (arith, past, high))) in
+        ap (λ (j : ℕ). slice_index_or sets j 0) place ∙ one.1
 
 -- a lane of eight sets that were cut to the twelve rows has the rows of its wheel
 pub lane-received : (sets : List ℕ) (from k d : ℕ) → from + 8 ≤ length sets → k < 8

@@ -1,12 +1,16 @@
 -- Sets of rows as numbers: how they are gathered from the words of the wheels, and the characters that they print.
-use Rattle.std.proofs.Common.{◌≡◌, ◌≢◌, ◌∙◌, refl, sym, ap, ℕ, ◌+◌, ◌*◌, ◌%◌, ◌^◌, ◌-◌, ◌<◌, ◌==◌, ◌&&◌, ◌||◌, not, ◌⊎◌, inl, inr, nat_lt, Bool, true, false, List, length, slice_index_or, slice_set, bit_and, bit_or, arith}
+use Rattle.std.proofs.Common.{◌≡◌, ◌≢◌, ◌∙◌, refl, sym, ap, subst, ℕ, ◌+◌, ◌*◌, ◌%◌, ◌^◌, ◌-◌, ◌<◌, ◌==◌, ◌&&◌, ◌||◌, not, ◌⊎◌, inl, inr, nat_le, nat_lt, Bool, true, false, List, [], length, take, drop, slice_index_or, slice_set, bit_and, bit_or, arith}
 use Rattle.std.proofs.lemmas.Bool.Decides.{eqb_tells, nat_tests}
-use Rattle.std.proofs.lemmas.List.{get_or-set_same, get_or-set_other, length-set}
+use Rattle.std.proofs.Math.Bool.{or-false}
+use Rattle.std.proofs.lemmas.List.{get_or-drop, get_or-set_same, get_or-set_other, length-set, take_rest}
+use Rattle.std.proofs.lemmas.List.Folds.{list_any_more}
 use Rattle.std.proofs.lemmas.Nat.{and_le_l}
 use Rattle.std.proofs.lemmas.Nat.Bits.{bit_at-trailing_zeros}
 use Rattle.std.specs.Int.{bit_not, w128, trailing_zeros}
 use Rattle.net.specs.HubSets.{is_bit}
-use Rattle.print_unit.specs.RowSets.{rows_in, Receives, TakesRow, TakesLeft}
+use Rattle.net.specs.Straight.{is_brought_by}
+use Rattle.net.specs.declared.straight.Straight.{Straight}
+use Rattle.print_unit.specs.RowSets.{rows_in, Receives, ReceivesRuns, TakesRow, TakesLeft}
 use Rattle.print_unit.proofs.Bits.{is_bit-zero, is_bit-and, is_bit-or, is_bit-joined, is_bit-cleared, is_bit-ones}
 use Rattle.print_unit.proofs.Ranges.{map-same}
 
@@ -74,29 +78,55 @@ takes-lowest word left place old now some small narrow takes =
     takes-bit word left (bit_and left (bit_not w128 (1 * 2 ^ k % 2 ^ 128))) place k old now at.0 narrow at.1 (λ j wide. is_bit-cleared left k j at.0 wide) takes
 
 -- nothing is received yet
-pub receives-none : (received sets : List ℕ) → Receives 0 received sets sets
-receives-none received sets k below p = none (is_bit (slice_index_or sets k 0) p) (is_bit (slice_index_or received k 0) p)
+pub receives-none : (first : ℕ) (received sets : List ℕ) → Receives first 0 received sets sets
+receives-none first received sets k below p =
+    none (is_bit (slice_index_or sets k 0) p) (is_bit (slice_index_or received (k - first) 0) p)
   where
-    none : (a b : Bool) → a ≡ (a || nat_lt k 0 && b)
+    none : (a b : Bool) → a ≡ (a || nat_le first k && (nat_lt (k - first) 0 && b))
     none a b = grind (arith, nat_tests)
 
 -- a wheel more receives
-pub receives-more : (count : ℕ) (received old now : List ℕ) → length now ≡ 128 → count < 120 → Receives count received old now
-    → Receives (count + 1) received old (slice_set now count (bit_or (slice_index_or now count 0) (slice_index_or received count 0)))
-receives-more count received old now long inside before k below p = by (eqb_tells k count)
+pub receives-more : (first count : ℕ) (received old now : List ℕ) → length now ≡ 128 → first + count < 120
+    → Receives first count received old now
+    → Receives first (count + 1) received old
+    (slice_set now (first + count) (bit_or (slice_index_or now (first + count) 0) (slice_index_or received count 0)))
+receives-more first count received old now long inside before k below p = by (eqb_tells k (first + count))
   where
-    by : ((k == count) ≡ true) × (k ≡ count) ⊎ ((k == count) ≡ false) × (k ≢ count)
-        → is_bit (slice_index_or (slice_set now count (bit_or (slice_index_or now count 0) (slice_index_or received count 0))) k 0) p
-        ≡ (is_bit (slice_index_or old k 0) p || nat_lt k (count + 1) && is_bit (slice_index_or received k 0) p)
+    joined : ℕ
+    joined = bit_or (slice_index_or now (first + count) 0) (slice_index_or received count 0)
+
+    by : ((k == first + count) ≡ true) × (k ≡ first + count) ⊎ ((k == first + count) ≡ false) × (k ≢ first + count)
+        → is_bit (slice_index_or (slice_set now (first + count) joined) k 0) p
+        ≡ (is_bit (slice_index_or old k 0) p
+        || nat_le first k && (nat_lt (k - first) (count + 1) && is_bit (slice_index_or received (k - first) 0) p))
     by (inl same) =
-        let was = before count inside p in
-        rw (same.1, get_or-set_same now count (bit_or (slice_index_or now count 0) (slice_index_or received count 0)) 0 (omega (arith, long, inside)), is_bit-or (slice_index_or now count 0) (slice_index_or received count 0) p, was)
+        let was = before (first + count) inside p in
+        let place : first + count - first ≡ count = omega arith in
+        rw (same.1, get_or-set_same now (first + count) joined 0 (omega (arith, long, inside)), is_bit-or (slice_index_or now (first + count) 0) (slice_index_or received count 0) p, was, place)
         (grind (arith, nat_tests))
     by (inr other) =
         let apart = other.1 in
         let was = before k below p in
-        rw (get_or-set_other now count k (bit_or (slice_index_or now count 0) (slice_index_or received count 0)) 0 apart, was)
-        (grind (arith, nat_tests, apart))
+        rw (get_or-set_other now (first + count) k joined 0 apart, was) (grind (arith, nat_tests, apart))
+
+-- no run has brought anything yet
+pub runs-none : (columns sets : List ℕ) → ReceivesRuns columns [] sets sets
+runs-none columns sets k below p = sym (or-false (is_bit (slice_index_or sets k 0) p))
+
+-- a run more brings rows of its columns
+pub runs-more : (columns old now new : List ℕ) (runs : List Straight) (index : ℕ) (d run : Straight) → index < length runs
+    → run ≡ slice_index_or runs index d
+    → length columns ≡ 80
+    → ReceivesRuns columns (take index runs) old now
+    → Receives run.wheel run.count (take (80 - run.column) (drop run.column columns)) now new
+    → ReceivesRuns columns (take (index + 1) runs) old new
+runs-more columns old now new runs index d run inside is long before receives k below p =
+    let rest =
+    subst (λ (n : ℕ). take (n - run.column) (drop run.column columns) ≡ drop run.column columns) long (take_rest columns run.column) in
+    receives k below p
+    ∙ ap (λ (set : ℕ). is_bit (slice_index_or now k 0) p || nat_le run.wheel k && (nat_lt (k - run.wheel) run.count && is_bit set p))
+    (ap (λ (sets : List ℕ). slice_index_or sets (k - run.wheel) 0) rest ∙ get_or-drop run.column columns (k - run.wheel) 0)
+    ∙ rw (before k below p, list_any_more (is_brought_by columns k p) runs index d inside, sym is) (grind (arith, nat_tests))
 
 -- the lowest twelve bits of a set
 pub rows_in-low : (number : ℕ) → rows_in (bit_and number (2 ^ 12 - 1)) ≡ rows_in number

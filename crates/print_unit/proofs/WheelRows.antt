@@ -1,5 +1,5 @@
 -- Rows of wheels, each made by the bit that stands for it.
-use Rattle.std.proofs.Common.{◌≡◌, ◌≢◌, ◌∙◌, ◌⊎◌, ◌==◌, inl, inr, nat_lt, drop, Some, [], ◌∷◌, refl, sym, ap, ℕ, suc, zero, ◌+◌, ◌-◌, ◌<◌, ◌≤◌, ◌&&◌, ◌||◌, Bool, true, false, List, map, replicate, length, slice_index_or, slice_set, arith}
+use Rattle.std.proofs.Common.{◌≡◌, ◌≢◌, ◌∙◌, ◌⊎◌, ◌==◌, inl, inr, nat_le, nat_lt, drop, Some, [], ◌∷◌, refl, sym, ap, ℕ, suc, zero, ◌+◌, ◌-◌, ◌<◌, ◌≤◌, ◌&&◌, ◌||◌, Bool, true, false, List, map, replicate, length, slice_index_or, slice_set, arith}
 use Rattle.std.proofs.lemmas.Bool.Decides.{eqb_tells, nat_tests}
 use Rattle.std.proofs.lemmas.List.{get_or-replicate, get_or-set_same, get_or-set_other, length-set}
 use Rattle.std.proofs.lemmas.List.FromFn.{get_or-map-range_with_len, length-map-range_with_len}
@@ -221,13 +221,13 @@ state-rows words new cycle pictures received =
 
 -- what a wheel receives of sets that are read from W.1 on
 pub receives-picture : (sets received old new : List ℕ) (k : ℕ) (at : CardRow) → k < 120 → received ≡ drop 1798 sets
-    → Receives 120 received old new
+    → Receives 0 120 received old new
     → is_bit (slice_index_or new k 0) (passing_place at)
     ≡ (is_bit (slice_index_or old k 0) (passing_place at) || pictures_of sets (Row at) (W (k + 1)))
 receives-picture sets received old new k at below is receives =
     receives k below (passing_place at)
     ∙ ap (λ b. is_bit (slice_index_or old k 0) (passing_place at) || b)
-    (inside (is_bit (slice_index_or received k 0) (passing_place at))
+    (inside (k - 0) (omega arith)
     ∙ ap (λ (rs : List ℕ). is_bit (slice_index_or rs k 0) (passing_place at)) is
     ∙ set-read sets (W (k + 1)) 1799 k (passing_place at) (omega arith)
     (number_of-W (k + 1) (omega arith) (omega (arith, below)) ∙ ap (λ (n : ℕ). Some n) index))
@@ -235,5 +235,7 @@ receives-picture sets received old new k at below is receives =
     index : 1798 + (k + 1) ≡ 1799 + k
     index = omega arith
 
-    inside : (b : Bool) → (nat_lt k 120 && b) ≡ b
-    inside b = grind (arith, nat_tests, below)
+    inside : (j : ℕ) → j ≡ k
+        → (nat_le 0 k && (nat_lt j 120 && is_bit (slice_index_or received j 0) (passing_place at)))
+        ≡ is_bit (slice_index_or received k 0) (passing_place at)
+    inside j same = rw same (grind (arith, nat_tests, below))

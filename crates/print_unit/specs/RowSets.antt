@@ -3,6 +3,8 @@
 use Rattle.std.specs.Prelude.{◌≡◌, ℕ, ◌-◌, ◌^◌, ◌<◌, ◌==◌, ◌&&◌, ◌||◌, not, nat_le, nat_lt, length, slice_index_or, Bool, List, map, if◌then◌else◌}
 use Rattle.std.specs.List.{range_with_len}
 use Rattle.net.specs.HubSets.{is_bit}
+use Rattle.net.specs.Straight.{is_brought}
+use Rattle.net.specs.declared.straight.Straight.{Straight}
 use Rattle.print_unit.specs.ZeroControl.{character_of}
 
 -- the rows of a set, by their places in the order of the points
@@ -20,12 +22,19 @@ TakesRow word place old new =
     (k : ℕ) → k < 128 → (p : ℕ)
     → is_bit (slice_index_or new k 0) p ≡ (is_bit (slice_index_or old k 0) p || (p == place) && is_bit word k)
 
--- of so many wheels each has what its old set has, and what it receives
-abbrev pub Receives : ℕ → List ℕ → List ℕ → List ℕ → Type 0
-Receives count received old new =
+-- each wheel has what its old set has, and so many from one on have what they receive
+abbrev pub Receives : ℕ → ℕ → List ℕ → List ℕ → List ℕ → Type 0
+Receives first count received old new =
     (k : ℕ) → k < 120 → (p : ℕ)
     → is_bit (slice_index_or new k 0) p
-    ≡ (is_bit (slice_index_or old k 0) p || nat_lt k count && is_bit (slice_index_or received k 0) p)
+    ≡ (is_bit (slice_index_or old k 0) p
+    || nat_le first k && (nat_lt (k - first) count && is_bit (slice_index_or received (k - first) 0) p))
+
+-- each wheel has what its old set has, and what the runs bring to it from columns
+abbrev pub ReceivesRuns : List ℕ → List Straight → List ℕ → List ℕ → Type 0
+ReceivesRuns columns runs old new =
+    (k : ℕ) → k < 120 → (p : ℕ)
+    → is_bit (slice_index_or new k 0) p ≡ (is_bit (slice_index_or old k 0) p || is_brought columns runs k p)
 
 -- The wheels of a word that are no longer left have taken the row of a place.
 pub record TakesLeft (word left place : ℕ) (old new : List ℕ) : Type 0 where

@@ -1,6 +1,6 @@
 //! The emitters, unit 42: exits that emit a row at its point in the cycles of their kind.
 
-ghost use Rattle.std.specs.Prelude.{◌≡◌, Some};
+ghost use Rattle.std.specs.Prelude.{◌≡◌, ◌≤◌, IfSome, Some};
 ghost use Rattle.net.specs.RowSets.{GainsRows};
 ghost use Rattle.print_unit.specs.Emitters.{emitter_of, emits_row};
 
@@ -40,11 +40,17 @@ impl Emitters {
 // The sets of the exits of an emitter, for the rows 0 to 9, 11 and 12: each has its own row alone, by its place among the points.
 const ROW_SETS: [u16; 12] = [512, 256, 128, 64, 32, 16, 8, 4, 2, 1, 1024, 2048];
 
+// The hub number of the first exit of all emitters.
+const FIRST_EXIT: u32 = 929;
+
 // Adds each row to the set of an emitter's exit for it: its exits follow one another.
 fn emit_each(emitter: u8, sets: &mut RowSets)
+    requires from { 1 ≤ emitter }
+    requires to { emitter ≤ 8 }
     ensures { GainsRows (emits_row (Some emitter)) sets.old sets.new }
 {
-    sets.insert_sets(Hub::EM(emitter, 0), &ROW_SETS);
+    let number = FIRST_EXIT + 12 * (u32::from(emitter) - 1);
+    sets.insert_sets_at(Hub::EM(emitter, 0), number, &ROW_SETS);
 }
 
 impl Unit for Emitters {
@@ -84,7 +90,8 @@ impl Unit for Emitters {
 
 // The emitter of a cycle, if it has one.
 fn emitter_of(cycle: Cycle) -> Option<u8>
-    ensures { result ≡ emitter_of cycle }
+    ensures value { result ≡ emitter_of cycle }
+    ensures range { IfSome result (λ emitter. (1 ≤ emitter) × (emitter ≤ 8)) }
 {
     match cycle {
         Cycle::Card => Some(4),

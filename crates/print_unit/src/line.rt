@@ -1,13 +1,15 @@
 //! The line: the characters of the wheels, by the sets of the rows that they received.
 
-ghost use Rattle.std.specs.Prelude.{◌≡◌, ℕ, ◌+◌, ◌-◌, ◌<◌, ◌≤◌, ◌&&◌, nat_le, true, length, slice_index_or, if◌then◌else◌};
+ghost use Rattle.std.specs.Prelude.{◌≡◌, ℕ, All, ◌+◌, ◌-◌, ◌<◌, ◌≤◌, ◌&&◌, nat_le, true, length, slice_index_or, if◌then◌else◌};
 ghost use Rattle.net.specs.HubSets.{is_bit};
-ghost use Rattle.print_unit.specs.RowSets.{rows_in, Receives, TakesRow};
-ghost use Rattle.print_unit.specs.ZeroControl.{character_of};
+ghost use Rattle.net.specs.Straight.{IsInside};
+ghost use Rattle.print_unit.specs.RowSets.{rows_in, Receives, ReceivesRuns, TakesRow};
 ghost use Rattle.print_unit.specs.WheelWords.{received_at, HasPrinted};
 
 use crate::characters::Characters;
 use crate::wheel_words::WHEELS;
+use card_code::CARD_COLUMNS;
+use net::Straight;
 use std::simd::prelude::*;
 
 /// A place for each bit of a word of wheels.
@@ -20,35 +22,37 @@ const LOW_HALF: u128 = (1 << 64) - 1;
 pub fn print(characters: &Characters, sets: &[u16; BITS], line: &mut [u8; WHEELS])
     ensures { HasPrinted sets.now 120 line.new }
 {
-    let blank = characters.of(0);
-    for block in 0..15 {
-        if is_empty(sets, 8 * block) {
-            put_blanks(sets, blank, 8 * block, line);
+    for block in 0..5 {
+        if is_empty(sets, 24 * block) {
+            put_blanks(sets, 24 * block, line);
         } else {
-            print_wheels(characters, sets, 8 * block, line);
+            print_wheels(characters, sets, 24 * block, line);
+            print_wheels(characters, sets, 24 * block + 8, line);
+            print_wheels(characters, sets, 24 * block + 16, line);
         }
     }
 }
 
-// Whether none of eight wheels received anything. Most do not: few wheels are wired.
+// Whether none of twenty-four wheels received anything. Most do not: few wheels are wired.
 fn is_empty(sets: &[u16], from: usize) -> bool
-    requires { from + 8 ≤ length sets.now }
-    ensures { result ≡ true → (k : ℕ) → from ≤ k → k < from + 8 → slice_index_or sets.now k 0 ≡ 0 }
+    requires { from + 24 ≤ length sets.now }
+    ensures { result ≡ true → (k : ℕ) → from ≤ k → k < from + 24 → slice_index_or sets.now k 0 ≡ 0 }
 {
-    let eight = u16x8::from_slice(&sets[from..]);
-    eight.simd_ne(u16x8::splat(0)).to_bitmask() == 0
+    let eights = u16x8::from_slice(&sets[from..])
+        | u16x8::from_slice(&sets[from + 8..])
+        | u16x8::from_slice(&sets[from + 16..]);
+    eights.simd_ne(u16x8::splat(0)).to_bitmask() == 0
 }
 
-// Prints eight wheels after those on the line, none of which received anything.
-fn put_blanks(sets: &[u16; BITS], blank: u8, from: usize, line: &mut [u8; WHEELS])
-    requires within { from + 8 ≤ 120 }
-    requires blank { blank ≡ character_of (rows_in 0) }
-    requires empty { (k : ℕ) → from ≤ k → k < from + 8 → slice_index_or sets.now k 0 ≡ 0 }
+// Prints twenty-four wheels after those on the line, none of which received anything.
+fn put_blanks(sets: &[u16; BITS], from: usize, line: &mut [u8; WHEELS])
+    requires within { from + 24 ≤ 120 }
+    requires empty { (k : ℕ) → from ≤ k → k < from + 24 → slice_index_or sets.now k 0 ≡ 0 }
     requires before { HasPrinted sets.now from line.old }
-    ensures { HasPrinted sets.now (from + 8) line.new }
+    ensures { HasPrinted sets.now (from + 24) line.new }
 {
-    for k in from..from + 8 {
-        line[k] = blank;
+    for k in from..from + 24 {
+        line[k] = b' ';
     }
 }
 
@@ -101,14 +105,25 @@ fn hide_half(hidden: u64, from: usize, line: &mut [u8; WHEELS])
     }
 }
 
-/// Each wheel takes the rows that it receives.
-pub fn receive(sets: &mut [u16; BITS], received: &[u16])
-    requires { 120 ≤ length received.now }
-    ensures received { Receives 120 received.now sets.old sets.new }
+/// The wheels of each run take the rows of its columns.
+pub fn receive_runs(sets: &mut [u16; BITS], runs: &[Straight], columns: &[u16; CARD_COLUMNS])
+    requires { All IsInside runs.now }
+    ensures { ReceivesRuns columns.now runs.now sets.old sets.new }
+{
+    for run in runs {
+        receive(sets, run.wheel, run.count, &columns[run.column..]);
+    }
+}
+
+/// So many wheels from one on take the rows that they receive.
+pub fn receive(sets: &mut [u16; BITS], first: usize, count: usize, received: &[u16])
+    requires wheels { first + count ≤ 120 }
+    requires received { count ≤ length received.now }
+    ensures received { Receives first count received.now sets.old sets.new }
     ensures bits { length sets.new ≡ 128 }
 {
-    for k in 0..WHEELS {
-        sets[k] |= received[k];
+    for k in 0..count {
+        sets[first + k] |= received[k];
     }
 }
 

@@ -6,11 +6,12 @@ ghost use Rattle.print_unit.specs.WheelWords.{hides, received_at, HasPrinted};
 ghost use Rattle.print_unit.specs.ZeroControl.{has_zero_control};
 
 use crate::characters::Characters;
-use crate::line::{BITS, hide, print, receive, take_row};
+use crate::line::{BITS, hide, print, receive, receive_runs, take_row};
 use crate::wheel_words::{WHEELS, WheelJack, plugged};
 use crate::zero_control::hidden;
+use card_code::CARD_COLUMNS;
 use hubs::Hub;
-use net::{Cycle, Picture, Point, RowSets, Unit};
+use net::{Cycle, Picture, Point, RowSets, Straight, Unit};
 use setups::Setup;
 use std::marker::Model;
 
@@ -43,8 +44,13 @@ impl Model for Wheels {
 }
 
 impl Wheels {
-    ghost use Rattle.std.specs.Prelude.{◌≡◌};
+    ghost use Rattle.std.specs.Prelude.{◌≡◌, ℕ, ◌+◌, ◌<◌, All, Bool};
+    ghost use Rattle.card_code.specs.Rows.{passing_place};
+    ghost use Rattle.card_code.specs.declared.row.Row.{Row as CardRow};
+    ghost use Rattle.hubs.specs.declared.hub.Hub.TheVariants.{W};
     ghost use Rattle.net.specs.RowSets.{after_rows, pictures_of};
+    ghost use Rattle.net.specs.Straight.{IsInside, is_brought};
+    ghost use Rattle.net.specs.declared.cycle.Point.TheVariants.{Row};
     ghost use Rattle.print_unit.specs.Wheels.{wheels_at_start, wheels_sensed};
 
     /// The wheels of a setup with nothing received, and a blank line.
@@ -72,7 +78,18 @@ impl Wheels {
     pub fn sense_rows(&mut self, _cycle: Cycle, pictures: &RowSets)
         ensures { self.new ≡ after_rows wheels_sensed _cycle (pictures_of pictures.now) self.old }
     {
-        receive(&mut self.sets, pictures.from(Hub::W(1)));
+        receive(&mut self.sets, 0, WHEELS, pictures.from(Hub::W(1)));
+    }
+
+    /// The same, if rows come to the wheels from columns alone, by runs of wires.
+    pub fn receive_columns(&mut self, runs: &[Straight], columns: &[u16; CARD_COLUMNS])
+        requires { All IsInside runs.now }
+        ensures { (cycle : Cycle) (pictures : Point → Hub → Bool)
+            → ((row : CardRow) (wheel : ℕ) → wheel < 120
+            → pictures (Row row) (W (wheel + 1)) ≡ is_brought columns.now runs.now wheel (passing_place row))
+            → self.new ≡ after_rows wheels_sensed cycle pictures self.old }
+    {
+        receive_runs(&mut self.sets, runs, columns);
     }
 }
 

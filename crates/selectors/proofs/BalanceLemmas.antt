@@ -1,13 +1,12 @@
 -- The row of the transferred balance positions, four of each group.
-use Rattle.std.proofs.Common.{◌≡◌, ◌≢◌, ◌<◌, ◌+◌, ◌-◌, ◌*◌, ◌/◌, ◌%◌, ◌^◌, ◌∙◌, ap, refl, sym, arith, ℕ, Bool, true, false, not, ◌&&◌, ◌||◌, List, length, slice_index_or, slice_set, ◌⊎◌, inl, inr, if◌then◌else◌}
+use Rattle.std.proofs.Common.{◌≡◌, ◌≢◌, ◌<◌, ◌+◌, ◌-◌, ◌*◌, ◌%◌, ◌^◌, ◌∙◌, ap, refl, sym, arith, ℕ, Bool, true, false, not, ◌&&◌, ◌||◌, List, length, slice_index_or, slice_set, ◌⊎◌, inl, inr, if◌then◌else◌}
 use Rattle.std.specs.Prelude.{◌==◌, nat_le, nat_lt}
-use Rattle.std.specs.Int.{bit_at, bit_not, w128}
+use Rattle.std.specs.Int.{bit_not, w128}
 use Rattle.std.specs.Int.Bits.{bit_and, bit_or}
 use Rattle.std.proofs.lemmas.Bool.{cases_eq}
 use Rattle.std.proofs.lemmas.Bool.Decides.{nat_tests}
 use Rattle.std.proofs.lemmas.List.{get_or-set_same, get_or-set_other, length-set}
-use Rattle.std.proofs.lemmas.Nat.Bits.{bit_at-lt, same_from_bits_below}
-use Rattle.std.proofs.lemmas.Nat.{and_le_l, or_lt, div-add-mod'}
+use Rattle.std.proofs.lemmas.Nat.{and_le_l, or_lt}
 use Rattle.std.proofs.Math.Nat.{mod-lt}
 use Rattle.net.proofs.Below.bit_sets.BitLemmas.{is_bit-and, is_bit-low, is_bit-not, is_bit-ones, is_bit-or, is_bit-shl}
 use Rattle.net.specs.HubSets.{is_bit}
@@ -15,7 +14,7 @@ use Rattle.selectors.specs.Fields.{latches_in}
 use Rattle.selectors.specs.Numbered.{tests_to}
 use Rattle.selectors.specs.Spread.{spread}
 use Rattle.selectors.proofs.NumberedLemmas.{all-tests}
-use Rattle.selectors.proofs.SpreadLemmas.{spread-below, spread-bit}
+use Rattle.selectors.proofs.SpreadLemmas.{same-parts, spread-below, spread-bit}
 
 -- there is a latch for each group
 pub latches-long : (row : ℕ) → length (latches_in row) ≡ 32
@@ -68,30 +67,13 @@ cleared-bit row place j low =
     by : (a b : Bool) → (a && not b) ≡ (if b then false else a)
     by a b = grind (arith, nat_tests)
 
--- rows with the same positions are the same
-same-rows : (one other : ℕ) → one < 2 ^ 128 → other < 2 ^ 128
-    → ((t p : ℕ) → t < 32 → p < 4 → is_bit one (t * 4 + p) ≡ is_bit other (t * 4 + p)) → one ≡ other
-unfolding is_bit
-same-rows one other small less same = same_from_bits_below 128 one other small less bit
-  where
-    as_numbers : (x y : ℕ) → x < 2 → y < 2 → (x == 1) ≡ (y == 1) → x ≡ y
-    as_numbers x y small less same = grind (arith, nat_tests, small, less, same)
-
-    bit : (i : ℕ) → i < 128 → bit_at one i ≡ bit_at other i
-    bit i low =
-        let place : i / 4 * 4 + i % 4 ≡ i = div-add-mod' i 4 in
-        let part : i % 4 < 4 = mod-lt i (omega arith) in
-        let there : i / 4 < 32 = omega (arith, place, low) in
-        as_numbers (bit_at one i) (bit_at other i) (bit_at-lt one i) (bit_at-lt other i)
-        (ap (λ j. bit_at one j == 1) (sym place) ∙ same (i / 4) (i % 4) there part ∙ ap (λ j. bit_at other j == 1) place)
-
 -- the row of the latches where one is set or reset
 row-set : (row new place : ℕ) (latch : Bool) (latches : List Bool) → length latches ≡ 32 → place < 32
     → row ≡ spread 4 latches → new < 2 ^ 128
     → ((j : ℕ) → j < 128 → is_bit new j ≡ (if is_position place j then latch else is_bit row j))
     → new ≡ spread 4 (slice_set latches place latch)
 row-set row new place latch latches long within is small bits =
-    same-rows new (spread 4 changed) small below at
+    same-parts 4 32 new (spread 4 changed) (omega arith) small below at
   where
     changed : List Bool
     changed = slice_set latches place latch

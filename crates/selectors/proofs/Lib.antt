@@ -3,6 +3,7 @@ pub mod ContactLemmas
 pub mod LawLemmas
 pub mod NumberedLemmas
 pub mod PickupLemmas
+pub mod PositionLemmas
 pub mod RowLemmas
 pub mod SpreadLemmas
 pub mod RowPickups

@@ -1,6 +1,5 @@
--- The pilots, with all rows of a cycle at once.
-use Rattle.std.proofs.Common.{◌≡◌, ◌∙◌, refl, ap, ℕ, zero, suc, map, ◌+◌, ◌-◌, ◌≤◌, ◌<◌, Bool, true, false, List, drop, Some, arith}
-use Rattle.std.specs.List.{range_with_len}
+-- The pilots, with all rows of a cycle at once, and at its end.
+use Rattle.std.proofs.Common.{◌≡◌, ◌∙◌, refl, ap, ℕ, ◌+◌, ◌-◌, ◌≤◌, Bool, true, false, List, drop, Some, arith}
 use Rattle.std.proofs.lemmas.Bool.Decides.{nat_tests}
 use Rattle.card_code.specs.declared.row.Row.TheVariants.{Eleven}
 use Rattle.hub_table.specs.Ranges.{is_within}
@@ -15,24 +14,14 @@ use Rattle.net.specs.declared.cycle.Cycle.TheVariants.{RunIn, Card, Prog, Head}
 use Rattle.net.specs.declared.cycle.Point.{Point}
 use Rattle.net.specs.declared.cycle.Point.TheVariants.{Row}
 use Rattle.selectors.specs.Numbered.{tests_to}
-use Rattle.selectors.specs.Pilots.{PilotStates, moves_pilots, pickups, pilots_sensed}
-
--- tests that agree on the numbers 1 to 16
-tests-same : (one other : ℕ → Bool) → ((n : ℕ) → 1 ≤ n → n ≤ 16 → one n ≡ other n) → tests_to 16 one ≡ tests_to 16 other
-unfolding tests_to
-tests-same one other same = by 1 16 (λ n low high. same n low (omega (arith, high)))
-  where
-    by : (from count : ℕ) → ((n : ℕ) → from ≤ n → n < from + count → one n ≡ other n)
-        → map one (range_with_len from count) ≡ map other (range_with_len from count)
-    by from zero alike = refl
-    by from (suc count) alike =
-        rw (alike from (omega arith) (omega arith), by (from + 1) count (λ n low high. alike n (omega (arith, low)) (omega (arith, high)))) refl
+use Rattle.selectors.proofs.NumberedLemmas.{tests-same}
+use Rattle.selectors.specs.Pilots.{PilotStates, moves_pilots, no_pilots, pickups, pilots_ended, pilots_sensed}
 
 -- the pickups that are read are those of the point of row 11
 pub pickups-read : (sets read : List ℕ) → read ≡ drop 1604 sets
     → tests_to 16 (λ pilot. has_at read (pilot - 1) 10) ≡ pickups (pictures_of sets (Row Eleven))
 pickups-read sets read is =
-    tests-same (λ pilot. has_at read (pilot - 1) 10) (λ pilot. pictures_of sets (Row Eleven) (PIX pilot))
+    tests-same 16 (λ pilot. has_at read (pilot - 1) 10) (λ pilot. pictures_of sets (Row Eleven) (PIX pilot))
     (λ n low high.
     ap (λ (rs : List ℕ). has_at rs (n - 1) 10) is ∙ set-read sets (PIX n) 1605 (n - 1) 10 (omega arith) (numbered n low high))
   where
@@ -56,3 +45,8 @@ rows-resting RunIn pictures pilots rests = cc
 rows-resting Card pictures pilots rests = cc
 rows-resting (Prog level ordinal) pictures pilots rests = refl
 rows-resting (Head heading) pictures pilots rests = refl
+
+-- the pilots after the end of a cycle that moves them
+pub ended-moving : (pilots : PilotStates) (cycle : Cycle) → moves_pilots cycle ≡ true
+    → ◌≡◌ {A = PilotStates} (record { transferred = pilots.picked_up; picked_up = no_pilots }) (pilots_ended pilots cycle)
+ended-moving pilots cycle moves = rw moves refl

@@ -1,11 +1,13 @@
 -- Words that have as many bits for each thing of a list.
-use Rattle.std.proofs.Common.{◌≡◌, ◌≤◌, ◌<◌, ◌+◌, ◌-◌, ◌*◌, ◌^◌, ◌%◌, ◌∙◌, ap, refl, subst, sym, arith, ℕ, zero, suc, Bool, true, false, not, ◌==◌, bit_or, List, [], ◌∷◌, length, map, drop, get_or, slice_index_or}
+use Rattle.std.proofs.Common.{◌≡◌, ◌≤◌, ◌<◌, ◌+◌, ◌-◌, ◌*◌, ◌/◌, ◌^◌, ◌%◌, ◌∙◌, ◌⊎◌, inl, inr, ap, refl, subst, sym, arith, ℕ, zero, suc, Bool, true, false, not, ◌==◌, bit_or, List, [], ◌∷◌, length, map, drop, get_or, slice_index_or}
 use Rattle.std.specs.Prelude.{if◌then◌else◌}
 use Rattle.std.specs.Int.{bit_at}
+use Rattle.std.proofs.lemmas.Bool.{cases_lt}
+use Rattle.std.proofs.lemmas.Bool.Decides.{nat_tests}
 use Rattle.std.proofs.lemmas.List.{get_or-map, length-drop, length-map}
-use Rattle.std.proofs.lemmas.Nat.{pow_pos, pow-add, or_shifted}
-use Rattle.std.proofs.lemmas.Nat.Bits.{bit_at-zero, bit_at_ones, bit_at_cat_low, bit_at_cat_high}
-use Rattle.std.proofs.Math.Nat.{mod-eq_of_lt, mul-le-mul_right, pow-le-pow_right}
+use Rattle.std.proofs.lemmas.Nat.{div-add-mod', pow_pos, pow-add, or_shifted}
+use Rattle.std.proofs.lemmas.Nat.Bits.{bit_at-lt, same_from_bits_below, bit_at-zero, bit_at_ones, bit_at_cat_low, bit_at_cat_high}
+use Rattle.std.proofs.Math.Nat.{mod-eq_of_lt, mod-lt, mul-le-mul_right, pow-le-pow_right}
 use Rattle.std.proofs.Math.Seq.{drop-cons}
 use Rattle.net.specs.HubSets.{is_bit}
 use Rattle.std.specs.List.{list_any}
@@ -184,3 +186,25 @@ unfolding spread
 none-set parts [] none = refl
 none-set parts (true ∷ things) none = cc
 none-set parts (false ∷ things) none = let before = none-set parts things none in rw before (omega arith)
+
+-- rows that have the same parts of the same things are the same
+pub same-parts : (parts things one other : ℕ) → 0 < parts → one < 2 ^ (things * parts) → other < 2 ^ (things * parts)
+    → ((t p : ℕ) → t < things → p < parts → is_bit one (t * parts + p) ≡ is_bit other (t * parts + p)) → one ≡ other
+unfolding is_bit
+same-parts parts things one other some small less same = same_from_bits_below (things * parts) one other small less bit
+  where
+    as_numbers : (x y : ℕ) → x < 2 → y < 2 → (x == 1) ≡ (y == 1) → x ≡ y
+    as_numbers x y small less same = grind (arith, nat_tests, small, less, same)
+
+    there : (i thing part : ℕ) → thing * parts + part ≡ i → i < things * parts → (thing < things) ⊎ (things ≤ thing) → thing < things
+    there i thing part is low (inl below) = below
+    there i thing part is low (inr past) =
+        let more = mul-le-mul_right {m = things} {n = thing} parts past in absurd (omega (arith, is, low, more))
+
+    bit : (i : ℕ) → i < things * parts → bit_at one i ≡ bit_at other i
+    bit i low =
+        let place = div-add-mod' i parts in
+        as_numbers (bit_at one i) (bit_at other i) (bit_at-lt one i) (bit_at-lt other i)
+        (ap (λ j. bit_at one j == 1) (sym place)
+        ∙ same (i / parts) (i % parts) (there i (i / parts) (i % parts) place low (cases_lt (i / parts) things)) (mod-lt i some)
+        ∙ ap (λ j. bit_at other j == 1) place)

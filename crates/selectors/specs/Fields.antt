@@ -6,12 +6,13 @@ use Rattle.selectors.specs.Spread.{spread}
 use Rattle.selectors.specs.declared.balance.BalanceLatches.TheInside as balance
 use Rattle.selectors.specs.Indicate.{Latches}
 use Rattle.selectors.specs.Pilots.{PilotStates}
+use Rattle.selectors.specs.PilotWords.{pilots_in}
 use Rattle.selectors.specs.declared.indicate.Indicate.TheInside as indicate
 use Rattle.selectors.specs.declared.pilots.Pilots.TheInside as pilots
 
 -- the pilots by their fields
 abbrev pub pilots_of : pilots.Inside → PilotStates
-pilots_of p = record { transferred = p.transferred; picked_up = p.picked_up }
+pilots_of p = record { transferred = pilots_in p.transferred; picked_up = pilots_in p.picked_up }
 
 -- the latches by their fields
 abbrev pub indicate_latches : indicate.Inside → Latches

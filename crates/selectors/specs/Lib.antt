@@ -3,6 +3,7 @@ pub mod Fields
 pub mod Indicate
 pub mod Numbered
 pub mod Pilots
+pub mod PilotWords
 pub mod Splits
 pub mod Spread
 pub mod Steady

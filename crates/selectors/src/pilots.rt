@@ -1,16 +1,19 @@
 //! The pilots.
 
-ghost use Rattle.std.specs.Prelude.{◌≡◌, ◌-◌, ◌≤◌, length};
+ghost use Rattle.std.specs.Prelude.{◌≡◌, ◌-◌, ◌^◌, ◌≤◌, ◌<◌, length};
 ghost use Rattle.net.specs.HubRows.{has_at};
 ghost use Rattle.selectors.specs.Numbered.{tests_to};
 ghost use Rattle.net.specs.HubSets.{has_hub};
 ghost use Rattle.selectors.specs.Pilots.{moves_pilots, pickups};
+ghost use Rattle.selectors.specs.PilotWords.{pilots_in};
+ghost use Rattle.selectors.specs.Spread.{spread};
 
-use crate::spread::spread;
 use card_code::Row;
 use hubs::Hub;
 use net::{Contacts, Cycle, Picture, Point, RowSets, Unit, has_bit};
 use std::marker::Model;
+use std::mem;
+use std::simd::prelude::*;
 
 /// How many pilots there are.
 pub const PILOTS: usize = 16;
@@ -22,11 +25,12 @@ const ALL_POSITIONS: u128 = (1 << 48) - 1;
 ///
 /// A pilot is picked up at row 11 of the run-in or of a card cycle. At the end of such a cycle it is transferred
 /// exactly where it was picked up in it, else normal.
-#[derive(Clone, Copy, Debug, PartialEq, Eq)]
+#[derive(Debug, Drop)]
 pub struct Pilots {
-    transferred: [bool; PILOTS],
-    // Whether the pickup was sensed since the last end of a cycle that moves pilots.
-    picked_up: [bool; PILOTS],
+    // A bit for each pilot, that of the first one the lowest.
+    transferred: u16,
+    // Those whose pickup was sensed since the last end of a cycle that moves pilots.
+    picked_up: u16,
 }
 
 impl Model for Pilots {
@@ -37,25 +41,25 @@ impl Model for Pilots {
     ghost use Rattle.selectors.specs.Fields.{pilots_of};
 
     ghost view = { pilots_of };
-
-    ghost inverse = { λ p. record { transferred = p.transferred; picked_up = p.picked_up } };
 }
 
 impl Pilots {
-    ghost use Rattle.std.specs.Prelude.{◌≡◌};
+    ghost use Rattle.std.specs.Prelude.{◌≡◌, Bool};
+    ghost use Rattle.hubs.specs.declared.hub.Hub.{Hub};
     ghost use Rattle.net.specs.HubSets.{GainsHubs};
     ghost use Rattle.net.specs.declared.cycle.Cycle.{Cycle};
     ghost use Rattle.net.specs.declared.cycle.Point.{Point};
     ghost use Rattle.net.specs.RowSets.{after_rows, pictures_of};
     ghost use Rattle.selectors.specs.Pilots.{pilots_at_start, is_transferred, pilots_closes, pilots_sensed};
+    ghost use Rattle.selectors.specs.WholeCycles.{HaveNoPickups};
 
     /// All pilots are normal.
     pub fn new() -> Self
         ensures { result ≡ pilots_at_start }
     {
         Pilots {
-            transferred: [false; PILOTS],
-            picked_up: [false; PILOTS],
+            transferred: 0,
+            picked_up: 0,
         }
     }
 
@@ -63,7 +67,9 @@ impl Pilots {
     pub fn is_transferred(&self, pilot: u8) -> bool
         ensures { result ≡ is_transferred self.now pilot }
     {
-        1 <= pilot && pilot <= PILOTS as u8 && self.transferred[pilot as usize - 1]
+        1 <= pilot
+            && pilot <= PILOTS as u8
+            && has_bit(u128::from(self.transferred), pilot as usize - 1)
     }
 
     /// Closes the contacts of the pilots' positions: the normal ones of the pilots that are normal, the transferred ones of
@@ -72,7 +78,7 @@ impl Pilots {
     pub fn close(&self, contacts: &mut Contacts)
         ensures { (cycle : Cycle) (point : Point) → GainsHubs (pilots_closes self.now cycle point) contacts.old contacts.new }
     {
-        let transferred = spread(&self.transferred, 3);
+        let transferred = positions_of(self.transferred);
         contacts.insert_row(Hub::PIN(1, 1), ALL_POSITIONS - transferred);
         contacts.insert_row(Hub::PIT(1, 1), transferred);
     }
@@ -83,6 +89,15 @@ impl Pilots {
     {
         if moves_pilots(cycle) {
             self.picked_up = pickups_in(pictures.from(Hub::PIX(1)));
+        }
+    }
+
+    /// Senses the points of all rows at once, where no pickup is impulsed at row 11.
+    pub fn sense_no_rows(&mut self, cycle: Cycle)
+        ensures { (pictures : Point → Hub → Bool) → HaveNoPickups pictures → self.new ≡ after_rows pilots_sensed cycle pictures self.old }
+    {
+        if moves_pilots(cycle) {
+            self.picked_up = 0;
         }
     }
 }
@@ -115,8 +130,7 @@ impl Unit for Pilots {
 
     fn end_cycle(&mut self, cycle: Cycle) {
         if moves_pilots(cycle) {
-            self.transferred = self.picked_up;
-            self.picked_up = [false; PILOTS];
+            self.transferred = mem::replace(&mut self.picked_up, 0);
         }
     }
 
@@ -138,25 +152,33 @@ fn moves_pilots(cycle: Cycle) -> bool
 }
 
 // The pilots whose pickups are impulsed.
-fn pickups(picture: &Picture) -> [bool; PILOTS]
-    ensures { result ≡ pickups (has_hub picture.now) }
+fn pickups(picture: &Picture) -> u16
+    ensures { pilots_in result ≡ pickups (has_hub picture.now) }
 {
-    let bits = picture.row(Hub::PIX(1));
-    let mut picked_up = [false; PILOTS];
-    for index in 0..PILOTS {
-        picked_up[index] = has_bit(bits, index);
-    }
-    picked_up
+    (picture.row(Hub::PIX(1)) & 0xffff) as u16
 }
 
 // The pilots whose pickups have row 11, by the sets of their rows: it stands at place 10 among the points.
-fn pickups_in(sets: &[u16]) -> [bool; PILOTS]
+fn pickups_in(sets: &[u16]) -> u16
     requires { 16 ≤ length sets.now }
-    ensures { result ≡ tests_to 16 (λ pilot. has_at sets.now (pilot - 1) 10) }
+    ensures { pilots_in result ≡ tests_to 16 (λ pilot. has_at sets.now (pilot - 1) 10) }
 {
-    let mut picked_up = [false; PILOTS];
-    for index in 0..PILOTS {
-        picked_up[index] = has_bit(u128::from(sets[index]), 10);
+    let eleven = u16x16::from_slice(sets) & u16x16::splat(1 << 10);
+    (eleven.simd_ne(u16x16::splat(0)).to_bitmask() & 0xffff) as u16
+}
+
+// The row of the positions of these pilots, three of each. Mostly there are none: few pilots are transferred.
+#[inline(always)]
+fn positions_of(pilots: u16) -> u128
+    ensures value { result ≡ spread 3 (pilots_in pilots) }
+    ensures below { result < 2 ^ 48 }
+{
+    let mut left = u64::from(pilots);
+    let mut row = 0;
+    while left != 0 {
+        let place = left.trailing_zeros() as usize;
+        row |= 7 << (3 * place);
+        left &= !(1 << place);
     }
-    picked_up
+    row
 }

@@ -24,29 +24,24 @@ cleared-none first old long = record { rows = λ place row. by (has_at old place
 
 pub cleared-more : (k first : ℕ) (old now : List ℕ) → first + k < 1936 → length (slice_set now (first + k) 0) ≡ 1936
     → AreCleared k first old now → AreCleared (k + 1) first old (slice_set now (first + k) 0)
-cleared-more k first old now inside long before = record { rows = rows; long = long } where
-  rows : (place row : ℕ) → has_at (slice_set now (first + k) 0) place row
-      ≡ (has_at old place row && not (nat_le first place && nat_lt place (first + (k + 1))))
-  rows place row = ⊎_elim here other (cases_eq place (first + k)) where
-    cut : (a : Bool) → place ≡ first + k → false ≡ (a && not (nat_le first place && nat_lt place (first + (k + 1))))
-    cut a same = grind (arith, nat_tests, same)
+cleared-more k first old now inside long before = record {
+  rows = λ place row. ⊎_elim
+      (λ (same : place ≡ first + k).
+      ap (λ (p : ℕ). has_at (slice_set now (first + k) 0) p row) same
+      ∙ ap (λ (w : ℕ). is_bit w row) (get_or-set_same now (first + k) 0 0 (let was = before.long in omega (arith, was, inside)))
+      ∙ is_bit-zero row ∙ cut place (has_at old place row) same)
+      (λ (apart : place ≢ first + k).
+      ap (λ (w : ℕ). is_bit w row) (get_or-set_other now (first + k) place 0 0 apart)
+      ∙ before.rows place row ∙ wider place (has_at old place row) apart)
+      (cases_eq place (first + k));
+  long = long;
+} where
+  cut : (place : ℕ) (a : Bool) → place ≡ first + k → false ≡ (a && not (nat_le first place && nat_lt place (first + (k + 1))))
+  cut place a same = grind (arith, nat_tests, same)
 
-    here : place ≡ first + k → has_at (slice_set now (first + k) 0) place row
-        ≡ (has_at old place row && not (nat_le first place && nat_lt place (first + (k + 1))))
-    here same =
-        ap (λ (p : ℕ). has_at (slice_set now (first + k) 0) p row) same
-        ∙ ap (λ (w : ℕ). is_bit w row) (get_or-set_same now (first + k) 0 0 (let was = before.long in omega (arith, was, inside)))
-        ∙ is_bit-zero row ∙ cut (has_at old place row) same
-
-    wider : (a : Bool) → place ≢ first + k → (a && not (nat_le first place && nat_lt place (first + k)))
-        ≡ (a && not (nat_le first place && nat_lt place (first + (k + 1))))
-    wider a apart = grind (arith, nat_tests, apart)
-
-    other : place ≢ first + k → has_at (slice_set now (first + k) 0) place row
-        ≡ (has_at old place row && not (nat_le first place && nat_lt place (first + (k + 1))))
-    other apart =
-        ap (λ (w : ℕ). is_bit w row) (get_or-set_other now (first + k) place 0 0 apart)
-        ∙ before.rows place row ∙ wider (has_at old place row) apart
+  wider : (place : ℕ) (a : Bool) → place ≢ first + k → (a && not (nat_le first place && nat_lt place (first + k)))
+      ≡ (a && not (nat_le first place && nat_lt place (first + (k + 1))))
+  wider place a apart = grind (arith, nat_tests, apart)
 
 -- sixteen of them
 pub cleared-sixteen : (sixteen : ℕ) (old now : List ℕ) → AreCleared 16 (16 * sixteen) old now
@@ -60,31 +55,22 @@ past-last : (sets : List ℕ) (place row : ℕ) → length sets ≡ 1936 → 193
 past-last sets place row long past =
     ap (λ (w : ℕ). is_bit w row) (get_or_past sets place 0 (omega (arith, long, past))) ∙ is_bit-zero row
 
--- of the last block there are sixteen places
+-- of the last block there are sixteen places, and none of those behind it
 pub cleared-last : (block place row : ℕ) (sets : List ℕ) → block ≡ 60 → length sets ≡ 1936
     → (has_at sets place row && not (place / 16 == 2 * block)) ≡ (has_at sets place row && not (place / 32 == block))
-cleared-last block place row sets last long = ⊎_elim inside beyond (cases_lt place 1936) where
-  inside : place < 1936 → (has_at sets place row && not (place / 16 == 2 * block)) ≡ (has_at sets place row && not (place / 32 == block))
-  inside low = by (has_at sets place row) where
-    by : (a : Bool) → (a && not (place / 16 == 2 * block)) ≡ (a && not (place / 32 == block))
-    by a = grind (arith, nat_tests, low, last)
+cleared-last block place row sets last long = by (has_at sets place row) (λ past. past-last sets place row long past) where
+  by : (a : Bool) → (1936 ≤ place → a ≡ false) → (a && not (place / 16 == 2 * block)) ≡ (a && not (place / 32 == block))
+  by a none = ⊎_elim
+      (λ (low : place < 1936). grind (arith, nat_tests, low, last))
+      (λ (past : 1936 ≤ place). let off = none past in grind (arith, nat_tests, off)) (cases_lt place 1936)
 
-  beyond : 1936 ≤ place → (has_at sets place row && not (place / 16 == 2 * block)) ≡ (has_at sets place row && not (place / 32 == block))
-  beyond past =
-      let none = past-last sets place row long past in
-      ap (λ b. b && not (place / 16 == 2 * block)) none ∙ sym (ap (λ b. b && not (place / 32 == block)) none)
-
--- and none of those behind it
 pub cleared-beyond : (block place row : ℕ) (sets : List ℕ) → 60 < block → length sets ≡ 1936
     → has_at sets place row ≡ (has_at sets place row && not (place / 32 == block))
-cleared-beyond block place row sets past long = ⊎_elim inside beyond (cases_lt place 1936) where
-  inside : place < 1936 → has_at sets place row ≡ (has_at sets place row && not (place / 32 == block))
-  inside low = by (has_at sets place row) where
-    by : (a : Bool) → a ≡ (a && not (place / 32 == block))
-    by a = grind (arith, nat_tests, low, past)
-
-  beyond : 1936 ≤ place → has_at sets place row ≡ (has_at sets place row && not (place / 32 == block))
-  beyond high = let none = past-last sets place row long high in none ∙ sym (ap (λ b. b && not (place / 32 == block)) none)
+cleared-beyond block place row sets high long = by (has_at sets place row) (λ past. past-last sets place row long past) where
+  by : (a : Bool) → (1936 ≤ place → a ≡ false) → a ≡ (a && not (place / 32 == block))
+  by a none = ⊎_elim
+      (λ (low : place < 1936). grind (arith, nat_tests, low, high))
+      (λ (past : 1936 ≤ place). let off = none past in grind (arith, nat_tests, off)) (cases_lt place 1936)
 
 -- a block that is cleared may have no rows
 pub cleared-touched : (left : ℕ) (old now : List ℕ) → 0 < left → left < 2 ^ 64 → AreTouched left old → length now ≡ 1936

@@ -1,40 +1,30 @@
 -- Runs of contacts: which of them are closed, what eight of them pass on at once, and a run eight by eight.
-use Rattle.std.proofs.Common.{⊎_elim, ◌≡◌, ◌∙◌, ◌⊎◌, inl, inr, ℕ, zero, suc, ◌+◌, ◌-◌, ◌*◌, ◌/◌, ◌%◌, ◌^◌, ◌<◌, ◌≤◌, ◌&&◌, ◌||◌, not, Bool, true, false, cond, eqb, List, [], ◌∷◌, ◌++◌, All, sym, ap, refl, subst, arith, length, take, drop, slice_index_or, bit_and, bit_or}
+use Rattle.std.proofs.Common.{⊎_elim, ◌≡◌, ◌∙◌, ◌⊎◌, inl, inr, ℕ, zero, suc, ◌+◌, ◌-◌, ◌*◌, ◌/◌, ◌%◌, ◌^◌, ◌<◌, ◌≤◌, ◌&&◌, ◌||◌, not, Bool, true, false, cond, eqb, List, [], ◌∷◌, All, sym, ap, refl, subst, arith, length, take, drop, slice_index_or, bit_and, bit_or}
 use Rattle.std.specs.Prelude.{◌==◌, nat_le, nat_lt}
 use Rattle.std.specs.List.{list_any}
 use Rattle.std.proofs.Math.Bool.{or-false}
-use Rattle.std.proofs.lemmas.Bool.{and_from, and_parts, cases_lt, false≢true, or_cases, or_left, or_right}
+use Rattle.std.proofs.lemmas.Bool.{and_from, and_parts, cases_lt}
 use Rattle.std.proofs.lemmas.Bool.Decides.{nat_tests}
-use Rattle.std.proofs.lemmas.Nat.{pow_pos}
+use Rattle.std.proofs.lemmas.Nat.{one_shl, pow_pos}
 use Rattle.std.proofs.lemmas.Nat.Bits.{and_pow, bit_at-lt}
 use Rattle.std.specs.Int.{bit_at}
 use lib.Lanes.{put_chunk, top, zip2}
-use borrow.Rule.Slice.PartMut.{mid_of, post_of, put_mid, same_len_mid}
-use Rattle.std.proofs.lemmas.Grind.{take_at_read}
-use Rattle.std.proofs.lemmas.List.Folds.{list_any-append}
-use Rattle.std.proofs.lemmas.List.{take_all, get_or_append_left, get_or-append-add, get_or-drop, get_or_past, get_or-take, length-drop, length-take-le}
-use Rattle.std.proofs.lemmas.Simd.{get_or-put_chunk_above, get_or-put_chunk_at, get_or-zip2, length-put_chunk, length-zip2}
+use borrow.Rule.Slice.PartMut.{mid_of, put_mid}
+use Rattle.std.proofs.lemmas.List.Folds.{list_any_more}
+use Rattle.std.proofs.lemmas.List.{take_all, append-nil, drop_all, get_or-drop, get_or-take, length-drop, length-take-le}
+use Rattle.std.proofs.lemmas.Simd.{get_or-put_chunk_above, get_or-put_chunk_at, get_or-put_chunk_below, get_or-zip2, length-zip2, put_chunk_is}
 use Rattle.spreads.specs.Links.{HasEntriesOf, HasRoom, IsEight, has_at}
-use Rattle.std.proofs.lemmas.List.Elements.{All-head, All-tail}
 use Rattle.bit_sets.specs.Contacts.{is_any_contact, is_contact}
 use Rattle.bit_sets.specs.declared.contacts.Run.{Run}
 use Rattle.spreads.specs.Passing.{IsRunPassed, RunsPass, SameSets, is_closed_at, is_passed_in}
-use Rattle.spreads.proofs.PassLemmas.{closed-by}
+use Rattle.spreads.proofs.LinkLemmas.{equal, itself, picked, regrouped}
+use Rattle.spreads.proofs.PassLemmas.{any-contact, closed-by}
 use Rattle.bit_sets.proofs.BitLemmas.{is_bit-above, is_bit-and, is_bit-low, is_bit-ones, is_bit-or, is_bit-shl, is_bit-shr, is_bit-zero}
 use Rattle.bit_sets.specs.Bits.{has_place, is_bit}
 
 -- a row of ones, as it is made of a power
 pub ones : (count k : ℕ) → count ≤ 8 → is_bit (1 * 2 ^ count % 2 ^ 128 - 1) k ≡ nat_lt k count
-ones zero k few = is_bit-ones 0 k
-ones (suc zero) k few = is_bit-ones 1 k
-ones (suc (suc zero)) k few = is_bit-ones 2 k
-ones (suc (suc (suc zero))) k few = is_bit-ones 3 k
-ones (suc (suc (suc (suc zero)))) k few = is_bit-ones 4 k
-ones (suc (suc (suc (suc (suc zero))))) k few = is_bit-ones 5 k
-ones (suc (suc (suc (suc (suc (suc zero)))))) k few = is_bit-ones 6 k
-ones (suc (suc (suc (suc (suc (suc (suc zero))))))) k few = is_bit-ones 7 k
-ones (suc (suc (suc (suc (suc (suc (suc (suc zero)))))))) k few = is_bit-ones 8 k
-ones (suc (suc (suc (suc (suc (suc (suc (suc (suc count))))))))) k few = absurd (omega (arith, few))
+ones count k few = ap (λ (n : ℕ). is_bit (n - 1) k) (one_shl count 128 (omega (arith, few))) ∙ is_bit-ones count k
 
 -- two words, the second one behind the first
 pub words-joined : (low high k : ℕ) → k < 128 → is_bit (bit_or low (high * 2 ^ 64 % 2 ^ 128)) k ≡ (is_bit low k || (nat_le 64 k && is_bit high (k - 64)))
@@ -124,9 +114,6 @@ chosen-lanes bits rows (suc (suc (suc (suc (suc (suc (suc (suc k)))))))) row low
 pub eight-joined : (one other : List ℕ) → length one ≡ 8 → length other ≡ 8 → length (zip2 bit_or one other) ≡ 8
 eight-joined one other is_one is_other = length-zip2 bit_or one other (is_one ∙ sym is_other) ∙ is_one
 
-pub eight-common : (one other : List ℕ) → length one ≡ 8 → length other ≡ 8 → length (zip2 bit_and one other) ≡ 8
-eight-common one other is_one is_other = length-zip2 bit_and one other (is_one ∙ sym is_other) ∙ is_one
-
 lane-joined : (one other : List ℕ) (k row : ℕ) → length one ≡ 8 → length other ≡ 8 → k < 8
     → is_bit (slice_index_or (zip2 bit_or one other) k 0) row ≡ (is_bit (slice_index_or one k 0) row || is_bit (slice_index_or other k 0) row)
 lane-joined one other k row is_one is_other low =
@@ -156,108 +143,69 @@ closed-lanes digits zones exits count k row one other tens twos low is_one is_ot
     regrouped c d z t u = grind (arith, nat_tests)
 
 -- eight sets that are written from a place on
-module _ (sets lanes : List ℕ) (first : ℕ) (long : length sets ≡ 1936) (within : first + 8 ≤ 1936) (eight : length lanes ≡ 8) where
-  abbrev pub written : List ℕ
-  written = put_mid first (1936 - first) sets (put_chunk 0 (mid_of first (1936 - first) sets) lanes)
-
-  abbrev pub part : List ℕ
-  part = put_chunk 0 (mid_of first (1936 - first) sets) lanes
-
-  length-mid : length (mid_of first (1936 - first) sets) ≡ 1936 - first
-  length-mid = length-take-le (1936 - first) (drop first sets) (let l = length-drop first sets in omega (arith, long, l))
-
-  length-part : length part ≡ 1936 - first
-  length-part = length-put_chunk 0 (mid_of first (1936 - first) sets) lanes ∙ length-mid
-
-  pub length-written : length written ≡ 1936
-  length-written =
-      same_len_mid first (1936 - first) sets part (length-part ∙ sym length-mid) ∙ long
-
-  read-before : (place : ℕ) → place < first → slice_index_or written place 0 ≡ slice_index_or sets place 0
-  read-before place low =
-      let l = length-take-le first sets (omega (arith, long, within)) in
-      get_or_append_left (take first sets) (part ++ post_of first (1936 - first) sets) 0 place (omega (arith, l, low))
-      ∙ get_or-take first sets place 0 low
-
-  read-behind : (k : ℕ) → slice_index_or written (first + k) 0 ≡ slice_index_or (part ++ post_of first (1936 - first) sets) k 0
-  read-behind k =
-      let l = length-take-le first sets (omega (arith, long, within)) in
-      ap (λ (n : ℕ). slice_index_or written (n + k) 0) (sym l)
-      ∙ get_or-append-add (take first sets) (part ++ post_of first (1936 - first) sets) k 0
-
-  pub read-lane : (k : ℕ) → k < 8 → slice_index_or written (first + k) 0 ≡ slice_index_or lanes k 0
-  read-lane k low =
-      read-behind k
-      ∙ get_or_append_left part (post_of first (1936 - first) sets) 0 k (let l = length-part in omega (arith, l, low, within))
-      ∙ ap (λ (n : ℕ). slice_index_or part n 0) (let sum : k ≡ 0 + k = omega arith in sum)
-      ∙ get_or-put_chunk_at 0 (mid_of first (1936 - first) sets) lanes k 0 (omega (arith, eight, low))
-      (let l = length-mid in omega (arith, eight, l, within))
-
-  pub read-other : (k : ℕ) → 8 ≤ k → slice_index_or written (first + k) 0 ≡ slice_index_or sets (first + k) 0
-  read-other k high = by (cases_lt k (1936 - first))
-    where
-      by : (k < 1936 - first) ⊎ (1936 - first ≤ k) → slice_index_or written (first + k) 0 ≡ slice_index_or sets (first + k) 0
-      by (inl inside) =
-          read-behind k
-          ∙ get_or_append_left part (post_of first (1936 - first) sets) 0 k (let l = length-part in omega (arith, l, inside))
-          ∙ get_or-put_chunk_above 0 (mid_of first (1936 - first) sets) lanes k 0 (omega (arith, eight, high))
-          ∙ get_or-take (1936 - first) (drop first sets) k 0 inside
-          ∙ get_or-drop first sets k 0
-      by (inr past) =
-          get_or_past written (first + k) 0 (let l = length-written in omega (arith, l, past, within))
-          ∙ sym (get_or_past sets (first + k) 0 (omega (arith, long, past, within)))
+pub is-written : (sets lanes : List ℕ) (first : ℕ) → length sets ≡ 1936 → first + 8 ≤ 1936 → length lanes ≡ 8
+    → put_mid first (1936 - first) sets (put_chunk 0 (mid_of first (1936 - first) sets) lanes) ≡ put_chunk first sets lanes
+is-written sets lanes first long within eight =
+    let behind = length-drop first sets in
+    rw (
+      take_all (1936 - first) (drop first sets) (omega (arith, long, behind)),
+      put_chunk_is 0 (drop first sets) lanes (omega (arith, long, behind, within, eight)),
+      drop_all (1936 - first) (drop first sets) (omega (arith, long, behind)),
+      append-nil,
+      put_chunk_is first sets lanes (omega (arith, long, within, eight)),
+    ) refl
 
 -- eight sets that gain the rows of lanes
 module _ (sets rows : List ℕ) (first place row : ℕ) (long : length sets ≡ 1936) (within : first + 8 ≤ 1936) (eight : length rows ≡ 8) where
   abbrev pub gained : List ℕ
   gained = zip2 bit_or (take 8 (drop first sets)) rows
 
-  pub is_eight : length (take 8 (drop first sets)) ≡ 8
+  is_eight : length (take 8 (drop first sets)) ≡ 8
   is_eight = length-take-le 8 (drop first sets) (let l = length-drop first sets in omega (arith, l, long, within))
 
   pub are_eight : length gained ≡ 8
   are_eight = eight-joined (take 8 (drop first sets)) rows is_eight eight
 
   abbrev pub at : ℕ → ℕ
-  at p = slice_index_or (written sets gained first long within are_eight) p 0
+  at p = slice_index_or (put_chunk first sets gained) p 0
 
-  abbrev pub gains : Bool
-  gains = nat_le first place && (nat_lt (place - first) 8 && is_bit (slice_index_or rows (place - first) 0) row)
+  index : first ≤ place → first + (place - first) ≡ place
+  index from = omega (arith, from)
 
-  no-more : gains ≡ false → has_at sets place row ≡ (has_at sets place row || gains)
-  no-more none = sym (ap (λ b. has_at sets place row || b) none ∙ or-false (has_at sets place row))
-
-  before : place < first → is_bit (at place) row ≡ (has_at sets place row || gains)
-  before low =
-      let no : nat_le first place ≡ false = grind (arith, nat_tests, low) in
-      ap (λ (w : ℕ). is_bit w row) (read-before sets gained first long within are_eight place low)
-      ∙ no-more (ap (λ b. b && (nat_lt (place - first) 8 && is_bit (slice_index_or rows (place - first) 0) row)) no)
-
-  there : first ≤ place → place - first < 8 → is_bit (at place) row ≡ (has_at sets place row || gains)
-  there from low =
-      let index : first + (place - first) ≡ place = omega (arith, from) in
-      let yes : nat_le first place ≡ true = grind (arith, nat_tests, from) in
-      let inside : nat_lt (place - first) 8 ≡ true = grind (arith, nat_tests, low) in
-      ap (λ (p : ℕ). is_bit (at p) row) (sym index)
-      ∙ ap (λ (w : ℕ). is_bit w row) (read-lane sets gained first long within are_eight (place - first) low)
+  pub eight-gained : is_bit (at place) row
+      ≡ (has_at sets place row
+      || (nat_le first place && (nat_lt (place - first) 8 && is_bit (slice_index_or rows (place - first) 0) row)))
+  eight-gained = by (is_bit (at place) row) (has_at sets place row) (is_bit (slice_index_or rows (place - first) 0) row)
+      (λ low. ap (λ (w : ℕ). is_bit w row) (get_or-put_chunk_below first sets gained place 0 low))
+      (λ from low.
+      ap (λ (p : ℕ). is_bit (at p) row) (sym (index from))
+      ∙ ap (λ (w : ℕ). is_bit w row)
+      (get_or-put_chunk_at first sets gained (place - first) 0 (omega (arith, are_eight, low)) (omega (arith, are_eight, long, within)))
       ∙ lane-joined (take 8 (drop first sets)) rows (place - first) row is_eight eight low
       ∙ ap (λ (w : ℕ). is_bit w row || is_bit (slice_index_or rows (place - first) 0) row)
       (get_or-take 8 (drop first sets) (place - first) 0 low ∙ get_or-drop first sets (place - first) 0
-      ∙ ap (λ (p : ℕ). slice_index_or sets p 0) index)
-      ∙ (λ i. has_at sets place row || (sym yes i && (sym inside i && is_bit (slice_index_or rows (place - first) 0) row)))
+      ∙ ap (λ (p : ℕ). slice_index_or sets p 0) (index from)))
+      (λ from high. ap (λ (w : ℕ). is_bit w row) (get_or-put_chunk_above first sets gained place 0 (omega (arith, are_eight, from, high))))
+    where
+      by : (new a b : Bool) → (place < first → new ≡ a) → (first ≤ place → place - first < 8 → new ≡ (a || b))
+          → (first ≤ place → 8 ≤ place - first → new ≡ a) → new ≡ (a || (nat_le first place && (nat_lt (place - first) 8 && b)))
+      by new a b before there behind = ⊎_elim
+          (λ (low : place < first). let same = before low in grind (arith, nat_tests, low, same))
+          (λ (from : first ≤ place). ⊎_elim
+          (λ (low : place - first < 8). let joined = there from low in grind (arith, nat_tests, from, low, joined))
+          (λ (high : 8 ≤ place - first). let same = behind from high in grind (arith, nat_tests, high, same)) (cases_lt (place - first) 8))
+          (cases_lt place first)
 
-  behind : first ≤ place → 8 ≤ place - first → is_bit (at place) row ≡ (has_at sets place row || gains)
-  behind from high =
-      let index : first + (place - first) ≡ place = omega (arith, from) in
-      let yes : nat_le first place ≡ true = grind (arith, nat_tests, from) in
-      let past : nat_lt (place - first) 8 ≡ false = grind (arith, nat_tests, high) in
-      ap (λ (p : ℕ). is_bit (at p) row) (sym index)
-      ∙ ap (λ (w : ℕ). is_bit w row) (read-other sets gained first long within are_eight (place - first) high)
-      ∙ ap (λ (p : ℕ). has_at sets p row) index
-      ∙ no-more (λ i. yes i && (past i && is_bit (slice_index_or rows (place - first) 0) row))
-
-  pub eight-gained : is_bit (at place) row ≡ (has_at sets place row || gains)
-  eight-gained = ⊎_elim before (λ from. ⊎_elim (there from) (behind from) (cases_lt (place - first) 8)) (cases_lt place first)
+-- a lane that is read at the places of an eight alone
+lane-of : (exits count place : ℕ) (b s d : Bool) → count ≤ 8
+    → (exits ≤ place → place - exits < 8 → b ≡ (s && (nat_lt (place - exits) count && d)))
+    → (nat_le exits place && (nat_lt (place - exits) 8 && b)) ≡ (nat_le exits place && (nat_lt (place - exits) count && (s && d)))
+lane-of exits count place b s d few is = ⊎_elim
+    (λ (before : place < exits). grind (arith, nat_tests, before))
+    (λ (from : exits ≤ place). ⊎_elim
+    (λ (low : place - exits < 8). let same = is from low in grind (arith, nat_tests, same))
+    (λ (high : 8 ≤ place - exits). grind (arith, nat_tests, high, few)) (cases_lt (place - exits) 8))
+    (cases_lt place exits)
 
 -- what is passed on at once is what the contacts of an eight pass on
 module _ (digits zones sets near closed : List ℕ) (run : Run) (eight : IsEight run) (long : length sets ≡ 1936)
@@ -279,39 +227,16 @@ module _ (digits zones sets near closed : List ℕ) (run : Run) (eight : IsEight
       → (nat_le run.exits place
       && (nat_lt (place - run.exits) 8 && is_bit (slice_index_or (zip2 bit_and near closed) (place - run.exits) 0) row))
       ≡ is_passed_in digits zones sets place row run
-  passed-lane place row = by (cases_lt place run.exits)
+  passed-lane place row =
+      lane-of run.exits run.count place _ (has_at sets (run.common + (place - run.exits)) row) (is_closed_at digits zones row place) eight.few
+      (λ from low.
+      lane-common near closed (place - run.exits) row near-eight is_closed low
+      ∙ (λ i. near-read (place - run.exits) row low i && rows (place - run.exits) row low i)
+      ∙ ap (λ (p : ℕ). has_at sets (run.common + (place - run.exits)) row && (nat_lt (place - run.exits) run.count && is_closed_at digits zones row p))
+      (index run.exits place from))
     where
-      by : (place < run.exits) ⊎ (run.exits ≤ place)
-          → (nat_le run.exits place
-          && (nat_lt (place - run.exits) 8 && is_bit (slice_index_or (zip2 bit_and near closed) (place - run.exits) 0) row))
-          ≡ is_passed_in digits zones sets place row run
-      by (inl before) = let no : nat_le run.exits place ≡ false = grind (arith, nat_tests, before) in rw no refl
-      by (inr from) = inside (cases_lt (place - run.exits) 8)
-        where
-          index : run.exits + (place - run.exits) ≡ place
-          index = omega (arith, from)
-
-          inside : (place - run.exits < 8) ⊎ (8 ≤ place - run.exits)
-              → (nat_le run.exits place
-              && (nat_lt (place - run.exits) 8 && is_bit (slice_index_or (zip2 bit_and near closed) (place - run.exits) 0) row))
-              ≡ is_passed_in digits zones sets place row run
-          inside (inl low) =
-              let lane =
-              lane-common near closed (place - run.exits) row near-eight is_closed low
-              ∙ (λ i. near-read (place - run.exits) row low i && rows (place - run.exits) row low i)
-              ∙ ap (λ (p : ℕ). has_at sets (run.common + (place - run.exits)) row && (nat_lt (place - run.exits) run.count && is_closed_at digits zones row p))
-              index in
-              rw lane
-              (least (nat_le run.exits place) (place - run.exits) run.count (has_at sets (run.common + (place - run.exits)) row)
-              (is_closed_at digits zones row place) low)
-            where
-              least : (a : Bool) (k count : ℕ) (b c : Bool) → k < 8
-                  → (a && (nat_lt k 8 && (b && (nat_lt k count && c)))) ≡ (a && (nat_lt k count && (b && c)))
-              least a k count b c less = grind (arith, nat_tests, less)
-          inside (inr high) =
-              let no : nat_lt (place - run.exits) 8 ≡ false = grind (arith, nat_tests, high) in
-              let none : nat_lt (place - run.exits) run.count ≡ false = let few = eight.few in grind (arith, nat_tests, high, few) in
-              rw (no, none) refl
+      index : (exits p : ℕ) → exits ≤ p → exits + (p - exits) ≡ p
+      index exits p from = omega (arith, from)
 
   -- the sets that gain it
   pub eight-passed : (new : List ℕ)
@@ -322,64 +247,35 @@ module _ (digits zones sets near closed : List ℕ) (run : Run) (eight : IsEight
       → IsRunPassed digits zones run sets new
   eight-passed new gains place row = gains place row ∙ ap (λ b. has_at sets place row || b) (passed-lane place row)
 
-  -- where no contact passes any on nothing is gained
-  pub none-passed : (new : List ℕ)
-      → ((place row : ℕ) → has_at new place row
-      ≡ (has_at sets place row
-      || (nat_le run.exits place
-      && (nat_lt (place - run.exits) 8 && is_bit (slice_index_or (zip2 bit_and near closed) (place - run.exits) 0) row))))
-      → ((k row : ℕ) → k < 8 → is_bit (slice_index_or (zip2 bit_and near closed) k 0) row ≡ false) → SameSets sets new
-  none-passed new gains none place row = gains place row ∙ ⊎_elim low high (cases_lt (place - run.exits) 8)
-    where
-      nothing : (a b c : Bool) → (a || (b && (c && false))) ≡ a
-      nothing a b c = grind (arith, nat_tests)
-
-      low : place - run.exits < 8
-          → (has_at sets place row
-          || (nat_le run.exits place
-          && (nat_lt (place - run.exits) 8 && is_bit (slice_index_or (zip2 bit_and near closed) (place - run.exits) 0) row)))
-          ≡ has_at sets place row
-      low less =
-          ap (λ b. has_at sets place row || (nat_le run.exits place && (nat_lt (place - run.exits) 8 && b))) (none (place - run.exits) row less)
-          ∙ nothing (has_at sets place row) (nat_le run.exits place) (nat_lt (place - run.exits) 8)
-
-      high : 8 ≤ place - run.exits
-          → (has_at sets place row
-          || (nat_le run.exits place
-          && (nat_lt (place - run.exits) 8 && is_bit (slice_index_or (zip2 bit_and near closed) (place - run.exits) 0) row)))
-          ≡ has_at sets place row
-      high many =
-          let no : nat_lt (place - run.exits) 8 ≡ false = grind (arith, nat_tests, many) in
-          ap (λ b. has_at sets place row || (nat_le run.exits place && (b && is_bit (slice_index_or (zip2 bit_and near closed) (place - run.exits) 0) row))) no
-          ∙ no-and (has_at sets place row) (nat_le run.exits place)
-        where
-          no-and : (a b : Bool) → (a || (b && false)) ≡ a
-          no-and a b = grind (arith, nat_tests)
+-- where no lane has a row nothing is gained
+pub none-gained : (lanes sets new : List ℕ) (exits : ℕ)
+    → ((place row : ℕ) → has_at new place row
+    ≡ (has_at sets place row
+    || (nat_le exits place && (nat_lt (place - exits) 8 && is_bit (slice_index_or lanes (place - exits) 0) row))))
+    → ((k row : ℕ) → k < 8 → is_bit (slice_index_or lanes k 0) row ≡ false) → SameSets sets new
+none-gained lanes sets new exits gains none place row =
+    gains place row ∙ by (has_at sets place row) (nat_le exits place) (cases_lt (place - exits) 8)
+  where
+    by : (a b : Bool) → (place - exits < 8) ⊎ (8 ≤ place - exits)
+        → (a || (b && (nat_lt (place - exits) 8 && is_bit (slice_index_or lanes (place - exits) 0) row))) ≡ a
+    by a b (inl low) = let off = none (place - exits) row low in grind (arith, nat_tests, off)
+    by a b (inr high) = grind (arith, nat_tests, high)
 
 -- where none of the near ends has a row nothing is passed on
-pub idle-passed : (digits zones sets near : List ℕ) (run : Run) → IsEight run → length sets ≡ 1936 → near ≡ take 8 (drop run.common sets)
+pub idle-passed : (digits zones sets near : List ℕ) (run : Run) → IsEight run → near ≡ take 8 (drop run.common sets)
     → ((k row : ℕ) → k < 8 → is_bit (slice_index_or near k 0) row ≡ false) → IsRunPassed digits zones run sets sets
-idle-passed digits zones sets near run eight long read none place row =
-    sym (ap (λ b. has_at sets place row || b) (by (cases_lt (place - run.exits) 8)) ∙ or-false (has_at sets place row))
+idle-passed digits zones sets near run eight read none place row =
+    by (has_at sets place row) (nat_le run.exits place) run.count (place - run.exits) (has_at sets (run.common + (place - run.exits)) row)
+    (is_closed_at digits zones row place) eight.few
+    (λ low.
+    sym (ap (λ (l : List ℕ). is_bit (slice_index_or l (place - run.exits) 0) row) read
+    ∙ ap (λ (w : ℕ). is_bit w row) (get_or-take 8 (drop run.common sets) (place - run.exits) 0 low ∙ get_or-drop run.common sets (place - run.exits) 0))
+    ∙ none (place - run.exits) row low)
   where
-    by : (place - run.exits < 8) ⊎ (8 ≤ place - run.exits) → is_passed_in digits zones sets place row run ≡ false
-    by (inl low) =
-        let silent : has_at sets (run.common + (place - run.exits)) row ≡ false =
-        sym (ap (λ (l : List ℕ). is_bit (slice_index_or l (place - run.exits) 0) row) read
-        ∙ ap (λ (w : ℕ). is_bit w row) (get_or-take 8 (drop run.common sets) (place - run.exits) 0 low ∙ get_or-drop run.common sets (place - run.exits) 0))
-        ∙ none (place - run.exits) row low in
-        ap (λ b. nat_le run.exits place && (nat_lt (place - run.exits) run.count && (b && is_closed_at digits zones row place))) silent
-        ∙ nothing (nat_le run.exits place) (nat_lt (place - run.exits) run.count)
-      where
-        nothing : (a b : Bool) → (a && (b && false)) ≡ false
-        nothing a b = grind (arith, nat_tests)
-    by (inr high) =
-        let no : nat_lt (place - run.exits) run.count ≡ false = let few = eight.few in grind (arith, nat_tests, high, few) in
-        ap (λ b. nat_le run.exits place && (b && (has_at sets (run.common + (place - run.exits)) row && is_closed_at digits zones row place))) no
-        ∙ nothing (nat_le run.exits place)
-      where
-        nothing : (a : Bool) → (a && false) ≡ false
-        nothing a = grind (arith, nat_tests)
+    by : (a b : Bool) (count k : ℕ) (s d : Bool) → count ≤ 8 → (k < 8 → s ≡ false) → a ≡ (a || (b && (nat_lt k count && (s && d))))
+    by a b count k s d few silent = ⊎_elim
+        (λ (low : k < 8). let off = silent low in grind (arith, nat_tests, off))
+        (λ (high : 8 ≤ k). grind (arith, nat_tests, high, few)) (cases_lt k 8)
 
 -- what is not false is true
 pub shut : (test : Bool) → not test ≡ false → test ≡ true
@@ -403,30 +299,21 @@ pub runs-none : (digits zones sets : List ℕ) → RunsPass digits zones [] sets
 runs-none digits zones sets place row = sym (or-false (has_at sets place row))
 
 -- one run more has passed on its rows
-pub runs-more : (digits zones first old new : List ℕ) (runs : List Run) (i : ℕ) (d run : Run) → i < length runs
-    → slice_index_or runs i d ≡ run → HasRoom run → HasEntriesOf first old → RunsPass digits zones (take i runs) first old
-    → IsRunPassed digits zones run old new → RunsPass digits zones (take (i + 1) runs) first new
-runs-more digits zones first old new runs i d run inside is room entries before passed place row =
+pub runs-more : (digits zones first old new : List ℕ) (runs : List Run) (i : ℕ) (d : Run) → i < length runs
+    → HasRoom (slice_index_or runs i d) → HasEntriesOf first old → RunsPass digits zones (take i runs) first old
+    → IsRunPassed digits zones (slice_index_or runs i d) old new → RunsPass digits zones (take (i + 1) runs) first new
+runs-more digits zones first old new runs i d inside room entries before passed place row =
     passed place row
     ∙ ap (λ b. b || is_passed_in digits zones old place row run) (before place row)
     ∙ ap (λ b. (has_at first place row || list_any (is_passed_in digits zones first place row) (take i runs))
     || (nat_le run.exits place && (nat_lt (place - run.exits) run.count && (b && is_closed_at digits zones row place))))
     (entries (run.common + (place - run.exits)) row (let r = room.from in omega (arith, r)))
-    ∙ shift (has_at first place row) (list_any (is_passed_in digits zones first place row) (take i runs)) (is_passed_in digits zones first place row run)
-    ∙ ap (λ b. has_at first place row || b) (sym fed)
+    ∙ regrouped (has_at first place row) (list_any (is_passed_in digits zones first place row) (take i runs))
+    (is_passed_in digits zones first place row run)
+    ∙ ap (λ b. has_at first place row || b) (sym (list_any_more (is_passed_in digits zones first place row) runs i d inside))
   where
-    shift : (a b c : Bool) → ((a || b) || c) ≡ (a || (b || (c || false)))
-    shift a b c = grind (arith, nat_tests)
-
-    more : take (i + 1) runs ≡ take i runs ++ run ∷ []
-    more = (take_at_read runs i d inside).1 ∙ ap (λ (r : Run). take i runs ++ r ∷ []) is
-
-    fed : list_any (is_passed_in digits zones first place row) (take (i + 1) runs)
-        ≡ (list_any (is_passed_in digits zones first place row) (take i runs)
-        || (is_passed_in digits zones first place row run || false))
-    fed =
-        ap (λ (rs : List Run). list_any (is_passed_in digits zones first place row) rs) more
-        ∙ list_any-append (is_passed_in digits zones first place row) (take i runs) (run ∷ [])
+    run : Run
+    run = slice_index_or runs i d
 
 pub runs-all : (digits zones old new : List ℕ) (runs : List Run) (i : ℕ) → length runs ≤ i → RunsPass digits zones (take i runs) old new
     → RunsPass digits zones runs old new
@@ -438,60 +325,35 @@ pub run-found : (digits zones sets : List ℕ) (runs : List Run) (place row : �
     → list_any (is_passed_in digits zones sets place row) runs ≡ true
     → (from : ℕ) × (from < 1936) × (place < 1040) × (is_any_contact runs from place ≡ true) × (has_at sets from row ≡ true)
     × (is_closed_at digits zones row place ≡ true)
-run-found digits zones sets [] place row rooms passed = absurd (false≢true passed)
-run-found digits zones sets (run ∷ runs) place row rooms passed =
-    ⊎_elim here (λ at. there (run-found digits zones sets runs place row (All-tail HasRoom run runs rooms) at))
-    (or_cases (is_passed_in digits zones sets place row run) (list_any (is_passed_in digits zones sets place row) runs) passed)
+run-found digits zones sets runs place row rooms passed =
+    let one = picked HasRoom (is_passed_in digits zones sets place row) runs rooms passed in
+    let run = one.0 in
+    let from = run.common + (place - run.exits) in
+    let low = and_parts (nat_le run.exits place) _ one.2 in
+    let less = and_parts (nat_lt (place - run.exits) run.count) _ low.1 in
+    let on = and_parts (has_at sets from row) (is_closed_at digits zones row place) less.1 in
+    let is = and_from _ _ low.0 (and_from _ _ less.0 (itself from)) in
+    let within = inside run.exits run.count low.0 less.0 in (
+      from,
+      (let high = one.1.high in omega (arith, high, within.0, within.1)),
+      (let to = one.1.to in omega (arith, to, within.0, within.1)),
+      any-contact runs from place ∙ one.3 (λ (r : Run). is_contact r from place) is,
+      on.0,
+      on.1,
+    )
   where
-    here : is_passed_in digits zones sets place row run ≡ true
-        → (from : ℕ) × (from < 1936) × (place < 1040) × (is_any_contact (run ∷ runs) from place ≡ true) × (has_at sets from row ≡ true)
-        × (is_closed_at digits zones row place ≡ true)
-    here at =
-        let room = All-head HasRoom run runs rooms in
-        let low = and_parts (nat_le run.exits place) _ at in
-        let less = and_parts (nat_lt (place - run.exits) run.count) _ low.1 in
-        let on = and_parts (has_at sets (run.common + (place - run.exits)) row) (is_closed_at digits zones row place) less.1 in
-        let from : run.exits ≤ place = within low.0 in
-        let within_count : place - run.exits < run.count = below less.0 in (
-          run.common + (place - run.exits),
-          (let high = room.high in omega (arith, high, within_count)),
-          (let to = room.to in omega (arith, to, within_count, from)),
-          or_left _ _ (and_from _ _ low.0 (and_from _ _ less.0 (same-number (run.common + (place - run.exits))))),
-          on.0,
-          on.1,
-        )
-      where
-        within : nat_le run.exits place ≡ true → run.exits ≤ place
-        within e = grind (arith, nat_tests, e)
-
-        below : nat_lt (place - run.exits) run.count ≡ true → place - run.exits < run.count
-        below e = grind (arith, nat_tests, e)
-
-        same-number : (n : ℕ) → (n == n) ≡ true
-        same-number n = grind (arith, nat_tests)
-
-    there : (from : ℕ) × (from < 1936) × (place < 1040) × (is_any_contact runs from place ≡ true) × (has_at sets from row ≡ true)
-        × (is_closed_at digits zones row place ≡ true)
-        → (from : ℕ) × (from < 1936) × (place < 1040) × (is_any_contact (run ∷ runs) from place ≡ true) × (has_at sets from row ≡ true)
-        × (is_closed_at digits zones row place ≡ true)
-    there found = (found.0, found.1, found.2, or_right (is_contact run found.0 place) _ found.3, found.4, found.5)
+    inside : (exits count : ℕ) → nat_le exits place ≡ true → nat_lt (place - exits) count ≡ true → (exits ≤ place) × (place - exits < count)
+    inside exits count low less = (grind (arith, nat_tests, low), grind (arith, nat_tests, less))
 
 -- and each such contact passes it on
 pub run-from : (digits zones sets : List ℕ) (runs : List Run) (from place row : ℕ) → is_any_contact runs from place ≡ true
     → has_at sets from row ≡ true → is_closed_at digits zones row place ≡ true
     → list_any (is_passed_in digits zones sets place row) runs ≡ true
-run-from digits zones sets [] from place row contact at shut = absurd (false≢true contact)
-run-from digits zones sets (run ∷ runs) from place row contact at shut =
-    ⊎_elim here (λ there. or_right (is_passed_in digits zones sets place row run) _ (run-from digits zones sets runs from place row there at shut))
-    (or_cases (is_contact run from place) (is_any_contact runs from place) contact)
-  where
-    here : is_contact run from place ≡ true → list_any (is_passed_in digits zones sets place row) (run ∷ runs) ≡ true
-    here is =
-        let low = and_parts (nat_le run.exits place) _ is in
-        let less = and_parts (nat_lt (place - run.exits) run.count) (from == run.common + (place - run.exits)) low.1 in
-        let same : from ≡ run.common + (place - run.exits) = equal from (run.common + (place - run.exits)) less.1 in
-        or_left _ _
-        (and_from _ _ low.0 (and_from _ _ less.0 (and_from _ _ (ap (λ (f : ℕ). has_at sets f row) (sym same) ∙ at) shut)))
-      where
-        equal : (m n : ℕ) → (m == n) ≡ true → m ≡ n
-        equal m n e = grind (arith, nat_tests, e)
+run-from digits zones sets runs from place row contact at shut =
+    let one = picked (λ run. run ≡ run) (λ (run : Run). is_contact run from place) runs (λ k d inside. refl)
+    (sym (any-contact runs from place) ∙ contact) in
+    let run = one.0 in
+    let low = and_parts (nat_le run.exits place) _ one.2 in
+    let less = and_parts (nat_lt (place - run.exits) run.count) (from == run.common + (place - run.exits)) low.1 in
+    let on = ap (λ (f : ℕ). has_at sets f row) (sym (equal from (run.common + (place - run.exits)) less.1)) ∙ at in
+    one.3 (is_passed_in digits zones sets place row) (and_from _ _ low.0 (and_from _ _ less.0 (and_from _ _ on shut)))

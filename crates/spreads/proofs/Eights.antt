@@ -3,14 +3,13 @@ use Rattle.std.proofs.Common.{⊎_elim, ◌≡◌, ◌≢◌, ◌∙◌, ◌⊎�
 use Rattle.std.specs.Prelude.{◌==◌, nat_le, nat_lt}
 use Rattle.std.proofs.lemmas.Bool.{cases_eq, cases_lt, false≢true, or_cases, or_left, or_right}
 use Rattle.std.proofs.lemmas.Bool.Decides.{nat_tests}
-use Rattle.std.proofs.lemmas.Grind.{take_at_read}
 use Rattle.std.proofs.lemmas.List.Elements.{All-nil, All-push}
 use Rattle.bit_sets.specs.Contacts.{is_any_contact, is_contact}
 use Rattle.bit_sets.specs.declared.contacts.Run.{Run}
 use Rattle.spreads.specs.Links.{AreEights, HasRoom, IsEight, is_led_to}
 use Rattle.spreads.specs.Passing.{AddsEights, eight_of}
 use Rattle.spreads.specs.declared.links.Link.{Link}
-use Rattle.spreads.proofs.PassLemmas.{any-appended, linked-led}
+use Rattle.spreads.proofs.PassLemmas.{any-appended, any-more, linked-led}
 
 -- the first contacts of a run, up to one of them
 abbrev pub front_of : Run → ℕ → Run
@@ -30,28 +29,20 @@ is-eight run from low room = record {
 -- the first contacts of a run and the eight behind them
 eight-behind : (run : Run) (from f t : ℕ) → from < run.count
     → is_contact (front_of run (from + 8)) f t ≡ (is_contact (front_of run from) f t || is_contact (eight_of run from) f t)
-eight-behind run from f t low = by (cases_lt t (run.exits + from)) where
-  by : (t < run.exits + from) ⊎ (run.exits + from ≤ t)
-      → is_contact (front_of run (from + 8)) f t ≡ (is_contact (front_of run from) f t || is_contact (eight_of run from) f t)
-  by (inl less) =
-      sooner run.exits run.count (f == run.common + (t - run.exits)) (f == run.common + from + (t - (run.exits + from))) less low
-    where
-      sooner : (exits count : ℕ) (a b : Bool) → t < exits + from → from < count
-          → (nat_le exits t && (nat_lt (t - exits) (min (from + 8) count) && a))
-          ≡ ((nat_le exits t && (nat_lt (t - exits) (min from count) && a))
-          || (nat_le (exits + from) t && (nat_lt (t - (exits + from)) (min (count - from) 8) && b)))
-      sooner exits count a b less low = grind (arith, nat_tests, less, low)
-  by (inr more) =
-      let index : run.common + from + (t - (run.exits + from)) ≡ run.common + (t - run.exits) = omega (arith, more) in
-      later run.exits run.count (f == run.common + (t - run.exits)) more low
-      ∙ ap (λ (n : ℕ). is_contact (front_of run from) f t
-      || (nat_le (run.exits + from) t && (nat_lt (t - (run.exits + from)) (min (run.count - from) 8) && (f == n)))) (sym index)
-    where
-      later : (exits count : ℕ) (a : Bool) → exits + from ≤ t → from < count
-          → (nat_le exits t && (nat_lt (t - exits) (min (from + 8) count) && a))
-          ≡ ((nat_le exits t && (nat_lt (t - exits) (min from count) && a))
-          || (nat_le (exits + from) t && (nat_lt (t - (exits + from)) (min (count - from) 8) && a)))
-      later exits count a more low = grind (arith, nat_tests, more, low)
+eight-behind run from f t low =
+    by run.exits run.count (f == run.common + (t - run.exits)) (f == run.common + from + (t - (run.exits + from)))
+    (λ more. ap (λ (n : ℕ). f == n) (index run.common run.exits more))
+  where
+    index : (common exits : ℕ) → exits + from ≤ t → common + from + (t - (exits + from)) ≡ common + (t - exits)
+    index common exits more = omega (arith, more)
+
+    by : (exits count : ℕ) (a b : Bool) → (exits + from ≤ t → b ≡ a)
+        → (nat_le exits t && (nat_lt (t - exits) (min (from + 8) count) && a))
+        ≡ ((nat_le exits t && (nat_lt (t - exits) (min from count) && a))
+        || (nat_le (exits + from) t && (nat_lt (t - (exits + from)) (min (count - from) 8) && b)))
+    by exits count a b same = ⊎_elim
+        (λ (less : t < exits + from). grind (arith, nat_tests, less, low))
+        (λ (more : exits + from ≤ t). let e = same more in grind (arith, nat_tests, more, low, e)) (cases_lt t (exits + from))
 
 -- where what is new is one run more, which the test gains, its contacts are added
 one-more : (test more : ℕ → ℕ → Bool) (contacts : List Link) (first old : List Run) (run : Run)
@@ -137,6 +128,4 @@ AreEights-more runs i d run contacts old new inside is before each then = record
 }
   where
     gains : (f t : ℕ) → is_any_contact (take (i + 1) runs) f t ≡ (is_any_contact (take i runs) f t || is_contact run f t)
-    gains f t =
-        ap (λ (rs : List Run). is_any_contact rs f t) ((take_at_read runs i d inside).1 ∙ ap (λ (r : Run). take i runs ++ r ∷ []) is)
-        ∙ any-appended (take i runs) run f t
+    gains f t = any-more runs i d run f t inside is

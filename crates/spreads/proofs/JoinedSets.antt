@@ -71,26 +71,12 @@ pub joined-more : (k first : ℕ) (sets old now new : List ℕ) → first + k < 
     → new ≡ slice_set now (first + k) (bit_or (slice_index_or now (first + k) 0) (slice_index_or sets k 0)) → length new ≡ 1936
     → AreJoined k first sets old now → AreJoined (k + 1) first sets old new
 joined-more k first sets old now new inside is long before = record { joined = joined; long = long } where
-  more : (a b c : Bool) (place : ℕ)
-      → ((place == first + k) ≡ true → c ≡ b)
+  more : (a b c : Bool) (place : ℕ) → (place ≡ first + k → c ≡ b)
       → ((a || (nat_le first place && (nat_lt (place - first) k && b))) || ((place == first + k) && c))
       ≡ (a || (nat_le first place && (nat_lt (place - first) (k + 1) && b)))
-  more a b c place same = ⊎_elim here other (cases_eq place (first + k)) where
-    here : place ≡ first + k → ((a || (nat_le first place && (nat_lt (place - first) k && b))) || ((place == first + k) && c))
-        ≡ (a || (nat_le first place && (nat_lt (place - first) (k + 1) && b)))
-    here e =
-        let yes : (place == first + k) ≡ true = grind (arith, nat_tests) in
-        let value = same yes in
-        grind (arith, nat_tests, value, e)
-
-    other : place ≢ first + k → ((a || (nat_le first place && (nat_lt (place - first) k && b))) || ((place == first + k) && c))
-        ≡ (a || (nat_le first place && (nat_lt (place - first) (k + 1) && b)))
-    other e = grind (arith, nat_tests, e)
-
-  read : (place row : ℕ) → (place == first + k) ≡ true → is_bit (slice_index_or sets k 0) row ≡ has_at sets (place - first) row
-  read place row e =
-      let index : k ≡ place - first = grind (arith, nat_tests, e) in
-      ap (λ (n : ℕ). has_at sets n row) index
+  more a b c place same = ⊎_elim
+      (λ (e : place ≡ first + k). let value = same e in grind (arith, nat_tests, value, e))
+      (λ (e : place ≢ first + k). grind (arith, nat_tests, e)) (cases_eq place (first + k))
 
   joined : (place row : ℕ) → has_at new place row
       ≡ (has_at old place row || (nat_le first place && (nat_lt (place - first) (k + 1) && has_at sets (place - first) row)))
@@ -98,29 +84,26 @@ joined-more k first sets old now new inside is long before = record { joined = j
       ap (λ (s : List ℕ). has_at s place row) is
       ∙ set-joined now (first + k) (slice_index_or sets k 0) place row (let l = before.long in omega (arith, l, inside))
       ∙ ap (λ b. b || ((place == first + k) && is_bit (slice_index_or sets k 0) row)) (before.joined place row)
-      ∙ more (has_at old place row) (has_at sets (place - first) row) (is_bit (slice_index_or sets k 0) row) place (read place row)
+      ∙ more (has_at old place row) (has_at sets (place - first) row) (is_bit (slice_index_or sets k 0) row) place
+      (λ e. let index : k ≡ place - first = omega (arith, e) in ap (λ (n : ℕ). has_at sets n row) index)
 
 pub joined-all : (count first : ℕ) (sets old new : List ℕ) → min (length sets) (1936 - first) ≤ count → AreJoined count first sets old new
     → (place row : ℕ) → place < 1936
     → has_at new place row ≡ (has_at old place row || (nat_le first place && has_at sets (place - first) row))
 joined-all count first sets old new end are place row inside =
-    are.joined place row ∙ ap (λ b. has_at old place row || b) (⊎_elim early late (cases_lt place first)) where
-      early : place < first → (nat_le first place && (nat_lt (place - first) count && has_at sets (place - first) row))
-          ≡ (nat_le first place && has_at sets (place - first) row)
-      early low = let no : nat_le first place ≡ false = grind (arith, nat_tests) in rw no refl
+    are.joined place row
+    ∙ by (has_at old place row) (has_at sets (place - first) row)
+    (λ from past.
+    ap (λ w. is_bit w row) (get_or_past sets (place - first) 0 (shorter (length sets) (1936 - first) end refl from past)) ∙ is_bit-zero row)
+  where
+    by : (a b : Bool) → (first ≤ place → count ≤ place - first → b ≡ false)
+        → (a || (nat_le first place && (nat_lt (place - first) count && b))) ≡ (a || (nat_le first place && b))
+    by a b none = ⊎_elim
+        (λ (early : place < first). grind (arith, nat_tests, early))
+        (λ (late : first ≤ place). ⊎_elim
+        (λ (there : place - first < count). grind (arith, nat_tests, there))
+        (λ (past : count ≤ place - first). let off = none late past in grind (arith, nat_tests, off)) (cases_lt (place - first) count))
+        (cases_lt place first)
 
-      late : first ≤ place → (nat_le first place && (nat_lt (place - first) count && has_at sets (place - first) row))
-          ≡ (nat_le first place && has_at sets (place - first) row)
-      late high = ap (λ b. nat_le first place && b) (⊎_elim there past (cases_lt (place - first) count)) where
-        there : place - first < count → (nat_lt (place - first) count && has_at sets (place - first) row) ≡ has_at sets (place - first) row
-        there low = let yes : nat_lt (place - first) count ≡ true = grind (arith, nat_tests) in rw yes refl
-
-        past : count ≤ place - first → (nat_lt (place - first) count && has_at sets (place - first) row) ≡ has_at sets (place - first) row
-        past beyond =
-            let no : nat_lt (place - first) count ≡ false = grind (arith, nat_tests) in
-            let short : length sets ≤ place - first = shorter (length sets) (1936 - first) end refl in
-            let none : has_at sets (place - first) row ≡ false =
-            ap (λ w. is_bit w row) (get_or_past sets (place - first) 0 short) ∙ is_bit-zero row in
-            ap (λ b. b && has_at sets (place - first) row) no ∙ sym none where
-              shorter : (long rest : ℕ) → min long rest ≤ count → rest ≡ 1936 - first → long ≤ place - first
-              shorter long rest most is = grind (arith, most, is, beyond, inside, high)
+    shorter : (long rest : ℕ) → min long rest ≤ count → rest ≡ 1936 - first → first ≤ place → count ≤ place - first → long ≤ place - first
+    shorter long rest most is high beyond = grind (arith, most, is, beyond, inside, high)

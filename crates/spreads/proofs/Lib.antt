@@ -3,10 +3,8 @@ pub mod LinkLemmas
 pub mod PassLemmas
 pub mod ContactRuns
 pub mod Eights
-pub mod SixteenLemmas
-pub mod RibbonLemmas
+pub mod EmptyLanes
 pub mod Touched
 pub mod Cleared
-pub mod BundleLemmas
-pub mod BankLemmas
-pub mod AlikeWires
+pub mod FarBlocks
+pub mod PartedPaths

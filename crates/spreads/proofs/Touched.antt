@@ -1,20 +1,15 @@
 -- Blocks of places as bits of a word, and that places of no other blocks have rows.
-use Rattle.std.proofs.Common.{⊎_elim, ◌≡◌, ◌∙◌, ℕ, ◌+◌, ◌-◌, ◌*◌, ◌/◌, ◌%◌, ◌^◌, ◌<◌, ◌≤◌, ◌&&◌, ◌||◌, Bool, true, false, List, All, sym, ap, refl, arith, length, replicate, slice_index_or, slice_set, bit_and, bit_or}
+use Rattle.std.proofs.Common.{⊎_elim, ◌≡◌, ◌∙◌, ℕ, ◌+◌, ◌-◌, ◌*◌, ◌/◌, ◌%◌, ◌^◌, ◌<◌, ◌≤◌, ◌&&◌, ◌||◌, Bool, true, false, List, sym, ap, refl, arith, length, replicate, slice_index_or, slice_set, bit_or}
 use Rattle.std.specs.Prelude.{◌==◌, nat_le, nat_lt}
-use Rattle.std.proofs.Math.Bool.{or-false}
 use Rattle.std.proofs.lemmas.Bool.{and_parts, cases_lt, false≢true}
 use Rattle.std.proofs.lemmas.Bool.Decides.{nat_tests}
 use Rattle.std.proofs.lemmas.Grind.{common_steps}
 use Rattle.std.proofs.lemmas.List.{get_or-replicate, get_or_past, length-replicate, length-set}
 use Rattle.std.proofs.lemmas.Nat.{one_shl}
-use Rattle.bit_sets.proofs.BitLemmas.{is_bit-and, is_bit-low, is_bit-ones, is_bit-or, is_bit-pow, is_bit-shl, is_bit-zero}
+use Rattle.bit_sets.proofs.BitLemmas.{is_bit-low, is_bit-ones, is_bit-or, is_bit-pow, is_bit-shl, is_bit-zero}
 use Rattle.bit_sets.specs.Bits.{is_bit}
-use Rattle.spreads.specs.Blocks.{AreTouched, LeadFrom, LeadTo}
-use Rattle.spreads.specs.Bundles.{LeadFromSixteen}
-use Rattle.spreads.specs.Links.{IsInRange, Spreads, has_at, is_fed_at, is_linked}
-use Rattle.spreads.specs.Passing.{SameSets}
-use Rattle.spreads.specs.declared.links.Link.{Link}
-use Rattle.spreads.proofs.LinkLemmas.{fed-found}
+use Rattle.spreads.specs.Blocks.{AreTouched}
+use Rattle.spreads.specs.Links.{has_at}
 use Rattle.spreads.proofs.PassLemmas.{neither}
 use Rattle.spreads.proofs.JoinedSets.{set-joined}
 
@@ -95,13 +90,6 @@ touched-joined touched blocks sets old new first are long joined within =
     reached : (m n : ℕ) → nat_le m n ≡ true → m ≤ n
     reached m n e = grind (arith, nat_tests, e)
 
--- where no place has gained or lost a row no other blocks are touched
-pub touched-same : (touched : ℕ) (old new : List ℕ) → AreTouched touched old → length new ≡ 1936 → SameSets old new → AreTouched touched new
-touched-same touched old new are long same = record {
-  long = long;
-  silent = λ place row off. same place row ∙ are.silent place row off;
-}
-
 -- empty sets
 pub touched-new : AreTouched 0 (replicate {A = ℕ} 1936 0)
 touched-new = record {
@@ -123,52 +111,6 @@ touched-all sets long = record {
 } where
   yes : (place : ℕ) → place < 1936 → nat_lt (place / 32) 64 ≡ true
   yes place low = grind (arith, nat_tests, low)
-
--- of blocks none of which is touched no place has a row
-pub untouched : (touched blocks : ℕ) (sets : List ℕ) → AreTouched touched sets → bit_and touched blocks ≡ 0 → (place row : ℕ)
-    → is_bit blocks (place / 32) ≡ true → has_at sets place row ≡ false
-untouched touched blocks sets are none place row of =
-    are.silent place row
-    (first (is_bit touched (place / 32)) (is_bit blocks (place / 32)) of
-    (sym (is_bit-and touched blocks (place / 32)) ∙ ap (λ (w : ℕ). is_bit w (place / 32)) none ∙ is_bit-zero (place / 32)))
-  where
-    first : (a b : Bool) → b ≡ true → (a && b) ≡ false → a ≡ false
-    first a b on off = grind (arith, nat_tests, on, off)
-
--- links whose near ends have no row feed nothing
-unfed-ends : (links : List Link) (sets : List ℕ) → All IsInRange links
-    → ((from to row : ℕ) → is_linked links from to ≡ true → has_at sets from row ≡ false) → Spreads links sets sets
-unfed-ends links sets range none place row =
-    sym (ap (λ b. has_at sets place row || b) (not-both (is_fed_at links sets place row) nothing) ∙ or-false (has_at sets place row))
-  where
-    nothing : is_fed_at links sets place row ≡ true → ⊥
-    nothing fed =
-        let found = fed-found links sets place row range fed in
-        false≢true (sym (none found.0 place row found.2) ∙ found.3)
-
--- nor do those from blocks that have no row
-pub unfed : (links : List Link) (blocks : ℕ) (sets : List ℕ) → All IsInRange links → LeadFrom blocks links
-    → ((place row : ℕ) → is_bit blocks (place / 32) ≡ true → has_at sets place row ≡ false) → Spreads links sets sets
-unfed links blocks sets range near none =
-    unfed-ends links sets range (λ from to row linked. none from row (near from to linked))
-
--- nor those from sixteen places that have none
-pub unfed-sixteen : (links : List Link) (place : ℕ) (sets : List ℕ) → All IsInRange links → LeadFromSixteen place links
-    → ((other row : ℕ) → other / 16 ≡ place / 16 → has_at sets other row ≡ false) → Spreads links sets sets
-unfed-sixteen links place sets range sixteen none =
-    unfed-ends links sets range (λ from to row linked. none from row (sixteen from to linked))
-
--- what is spread along links touches the blocks to which they lead
-pub touched-spread : (touched blocks : ℕ) (links : List Link) (old new : List ℕ) → All IsInRange links → LeadTo blocks links
-    → AreTouched touched old → length new ≡ 1936 → Spreads links old new → AreTouched (bit_or touched blocks) new
-touched-spread touched blocks links old new range far are long spreads =
-    touched-more touched blocks old new are long
-    (λ place row low off none.
-    spreads place row ∙ ap (λ b. b || is_fed_at links old place row) none
-    ∙ not-both (is_fed_at links old place row)
-    (λ fed.
-    let found = fed-found links old place row range fed in
-    false≢true (sym off ∙ far found.0 place found.2)))
 
 -- where no block is touched no place has a row
 pub none-touched : (touched : ℕ) (sets : List ℕ) → AreTouched touched sets → (touched == 0) ≡ true → (place row : ℕ)

@@ -1,8 +1,8 @@
 -- Blocks of 32 places that follow one another, as the bits of a word: bit b stands for the places from 32 b on.
-use Rattle.std.specs.Prelude.{◌≡◌, ℕ, ◌+◌, ◌/◌, ◌<◌, ◌≤◌, false, true, List, length}
+use Rattle.std.specs.Prelude.{◌≡◌, ℕ, ◌+◌, ◌/◌, ◌<◌, ◌≤◌, All, false, true, List, length}
 use Rattle.bit_sets.specs.Bits.{is_bit}
 use Rattle.bit_sets.specs.declared.contacts.Run.{Run}
-use Rattle.spreads.specs.Links.{has_at, is_linked}
+use Rattle.spreads.specs.Links.{has_at}
 use Rattle.spreads.specs.declared.links.Link.{Link}
 
 -- There is a set for each place of the panel, and places have rows in the touched blocks alone.
@@ -10,17 +10,9 @@ pub record AreTouched (touched : ℕ) (sets : List ℕ) : Type 0 where
   pub long : length sets ≡ 1936
   pub silent : (place row : ℕ) → is_bit touched (place / 32) ≡ false → has_at sets place row ≡ false
 
--- the links lead from these blocks
-abbrev pub LeadFrom : ℕ → List Link → Type 0
-LeadFrom blocks links = (from to : ℕ) → is_linked links from to ≡ true → is_bit blocks (from / 32) ≡ true
-
 -- the links lead to these blocks
 abbrev pub LeadTo : ℕ → List Link → Type 0
-LeadTo blocks links = (from to : ℕ) → is_linked links from to ≡ true → is_bit blocks (to / 32) ≡ true
-
--- the contacts of the run lead from these blocks
-abbrev pub RunLeadsFrom : ℕ → Run → Type 0
-RunLeadsFrom blocks run = (place : ℕ) → run.common ≤ place → place < run.common + run.count → is_bit blocks (place / 32) ≡ true
+LeadTo blocks = All (λ link. is_bit blocks (link.to / 32) ≡ true)
 
 -- the contacts of the run lead to these blocks
 abbrev pub RunLeadsTo : ℕ → Run → Type 0

@@ -1,6 +1,6 @@
 -- Links: wires one by one, from place to place. A set of rows for each place is a number: bit r tells of the row at place r among the
 -- points. Sets are spread along links.
-use Rattle.std.specs.Prelude.{◌≡◌, ℕ, ◌+◌, ◌/◌, ◌<◌, ◌≤◌, ◌==◌, ◌&&◌, ◌||◌, All, Bool, true, List, length, slice_index_or}
+use Rattle.std.specs.Prelude.{◌≡◌, ℕ, ◌+◌, ◌<◌, ◌≤◌, ◌==◌, ◌&&◌, ◌||◌, All, Bool, true, List, slice_index_or}
 use Rattle.std.specs.List.{list_any}
 use Rattle.bit_sets.specs.Bits.{is_bit}
 use Rattle.bit_sets.specs.Contacts.{is_any_contact}
@@ -20,18 +20,6 @@ is_link from to link = (from == link.from) && (to == link.to)
 -- whether one of the links leads from one place to another
 abbrev pub is_linked : List Link → ℕ → ℕ → Bool
 is_linked links from to = list_any (is_link from to) links
-
--- the links from one place of their list on lead from the same sixteen places of the panel up to where they end
-pub record IsSkip (links : List Link) (first end : ℕ) : Type 0 where
-  pub on : first < end
-  pub within : end ≤ length links
-  pub alike :
-      (k : ℕ) (d : Link) → first ≤ k → k < end → (slice_index_or links k d).from / 16 ≡ (slice_index_or links first d).from / 16
-
--- so it is with each link
-pub record AreSkips (links : List Link) (skips : List ℕ) : Type 0 where
-  pub as_many : length skips ≡ length links
-  pub each : (place : ℕ) → place < length links → IsSkip links place (slice_index_or skips place 0)
 
 -- A contact as a link leads from an entry of the panel to an exit.
 pub record IsPassing (contact : Link) : Type 0 where

@@ -5,7 +5,7 @@ use Rattle.std.specs.List.{list_any}
 use Rattle.bit_sets.specs.Bits.{has_place}
 use Rattle.bit_sets.specs.Contacts.{is_any_contact}
 use Rattle.bit_sets.specs.declared.contacts.Run.{Run}
-use Rattle.spreads.specs.Links.{has_at, is_led_to, is_linked}
+use Rattle.spreads.specs.Links.{has_at, is_linked}
 use Rattle.spreads.specs.declared.links.Link.{Link}
 
 -- whether the contact to a place is closed at the row at this place among the points: at the rows 9 to 0 where the first set has it, at 11
@@ -53,10 +53,10 @@ RunsPass digits zones runs old new =
 abbrev pub SameSets : List ℕ → List ℕ → Type 0
 SameSets old new = (place row : ℕ) → has_at new place row ≡ has_at old place row
 
--- new has what old has, and the contacts of the test that a link leads to
-abbrev pub AddsContacts : (ℕ → ℕ → Bool) → List Link → List Link → List Link → Type 0
-AddsContacts test links old new =
-    (from to : ℕ) → is_linked new from to ≡ (is_linked old from to || (test from to && is_led_to links from))
+-- new has what old has, and the contacts of the test that lead from these places
+abbrev pub AddsContacts : (ℕ → ℕ → Bool) → List ℕ → List Link → List Link → Type 0
+AddsContacts test places old new =
+    (from to : ℕ) → is_linked new from to ≡ (is_linked old from to || (test from to && has_place places from))
 
 -- New has the contacts that old has, of those of the test all that are listed, and no others but such of the test.
 pub record AddsEights (test : ℕ → ℕ → Bool) (listed : List Link) (old new : List Run) : Type 0 where

@@ -1,49 +1,53 @@
--- Paths: wires, and the contacts to which they lead, parted as sets of rows are spread along them.
-use Rattle.std.specs.Prelude.{◌≡◌, ℕ, ◌&&◌, not, All, List}
-use Rattle.std.specs.List.{filter}
+-- Paths: the wires and contacts along which rows may come from some exits, parted as sets of rows are spread along them.
+use Rattle.std.specs.Prelude.{◌≡◌, ℕ, ◌&&◌, All, Bool, List}
+use Rattle.bit_sets.specs.Bits.{has_place}
 use Rattle.bit_sets.specs.Contacts.{is_any_contact}
 use Rattle.bit_sets.specs.declared.contacts.Run.{Run}
-use Rattle.spreads.specs.Links.{AreEights, IsInRange, IsPassing, is_led_to, is_linked}
+use Rattle.spreads.specs.Blocks.{LeadTo, RunLeadsTo}
+use Rattle.spreads.specs.Links.{AreEights, IsEight, IsInRange, IsPassing, is_led_to, is_linked}
 use Rattle.spreads.specs.declared.links.Link.{Link}
-use Rattle.spreads.specs.declared.paths.Beyond.{Beyond}
 
--- What paths hold: all wires; the contacts to which they lead, one by one and in eights; the wires from all exits but those of these
--- contacts; those from their exits; and the contacts to which the latter lead.
+-- What paths hold: the wires from the exits; eights of contacts, in which all those lie that these wires lead to; the wires from the exits
+-- of the latter; and the contacts that those wires lead to, one by one.
 pub record PathLinks : Type 0 where
-  pub wires : List Link
-  pub contacts : List Link
-  pub eights : List Run
   pub outer : List Link
+  pub eights : List Run
   pub further : List Link
   pub behind : List Link
 
--- the links from places to which others lead
-abbrev pub links_behind : List Link → List Link → List Link
-links_behind before links = filter (λ link. is_led_to before link.from) links
-
--- the links from all other places
-abbrev pub links_elsewhere : List Link → List Link → List Link
-links_elsewhere before links = filter (λ link. not (is_led_to before link.from)) links
+-- of links from exits to entries all those that lead from places of the test, and no others
+pub record AreLinksFrom (test : ℕ → Bool) (links left : List Link) : Type 0 where
+  pub range : All IsInRange left
+  pub linked : (from to : ℕ) → is_linked left from to ≡ (is_linked links from to && test from)
 
 -- contacts of the runs: all those to which a link leads, and no others
 pub record AreContactsOf (runs : List Run) (links contacts : List Link) : Type 0 where
   pub passing : All IsPassing contacts
   pub wired : (from to : ℕ) → is_linked contacts from to ≡ (is_any_contact runs from to && is_led_to links from)
 
--- the links from the exits of contacts, and those of the contacts to which they lead
-pub record IsBeyond (links contacts : List Link) (beyond : Beyond) : Type 0 where
-  pub range : All IsInRange beyond.wires
-  pub follows : (from to : ℕ) → is_linked beyond.wires from to ≡ (is_linked links from to && is_led_to contacts from)
-  pub are_behind : (from to : ℕ) → is_linked beyond.behind from to ≡ (is_linked contacts from to && is_led_to beyond.wires from)
+-- The outer wires are those from the exits of the set. The contacts of the runs that they lead to lie in eights of contacts, and the
+-- further wires are those from the exits of these contacts. Behind them are the contacts of the runs that the further wires lead to.
+pub record AreParted (runs : List Run) (links : List Link) (exits : List ℕ) (paths : PathLinks) : Type 0 where
+  pub from_exits : AreLinksFrom (has_place exits) links paths.outer
+  pub contacts : List Link
+  pub are_contacts : AreContactsOf runs paths.outer contacts
+  pub eighted : AreEights runs contacts paths.eights
+  pub from_contacts : AreLinksFrom (is_led_to contacts) links paths.further
+  pub are_behind : AreContactsOf runs paths.further paths.behind
 
--- The contacts of the runs that a wire leads to stand one by one, and lie in eights of contacts. The wires from their exits stand apart
--- from those from all other exits, and so do those of the contacts to which wires from such exits lead.
-pub record AreParted (runs : List Run) (paths : PathLinks) : Type 0 where
-  pub in_range : All IsInRange paths.wires
-  pub contacts : AreContactsOf runs paths.wires paths.contacts
-  pub eighted : AreEights runs paths.contacts paths.eights
-  pub outer_range : All IsInRange paths.outer
-  pub others_outer : (from to : ℕ) → is_linked paths.outer from to ≡ (is_linked paths.wires from to && not (is_led_to paths.contacts from))
-  pub further_range : All IsInRange paths.further
-  pub follows : (from to : ℕ) → is_linked paths.further from to ≡ (is_linked paths.wires from to && is_led_to paths.contacts from)
-  pub are_behind : (from to : ℕ) → is_linked paths.behind from to ≡ (is_linked paths.contacts from to && is_led_to paths.further from)
+-- links lead from exits to entries, and to these blocks of places
+pub record AreWires (blocks : ℕ) (links : List Link) : Type 0 where
+  pub range : All IsInRange links
+  pub far : LeadTo blocks links
+
+-- eights of contacts lead from entries to exits, and to these blocks of places
+pub record AreEightsTo (blocks : ℕ) (eights : List Run) : Type 0 where
+  pub each : All IsEight eights
+  pub far : All (RunLeadsTo blocks) eights
+
+-- the parts of paths, and the blocks to which they lead
+pub record ArePaths (outer_far eights_far further_far : ℕ) (paths : PathLinks) : Type 0 where
+  pub outer : AreWires outer_far paths.outer
+  pub eights : AreEightsTo eights_far paths.eights
+  pub further : AreWires further_far paths.further
+  pub behind : All IsPassing paths.behind

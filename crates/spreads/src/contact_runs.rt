@@ -1,9 +1,8 @@
 //! Runs of contacts that pass rows on, eight contacts at once.
 
 ghost use Rattle.std.specs.Prelude.{◌≡◌, ℕ, ◌+◌, ◌-◌, ◌<◌, ◌≤◌, ◌&&◌, ◌||◌, All, IfOk, OnOk, false, length, nat_le, nat_lt, slice_index_or};
-ghost use Rattle.bit_sets.specs.Bits.{has_place};
+ghost use Rattle.bit_sets.specs.Bits.{has_place, is_bit};
 ghost use Rattle.bit_sets.specs.Contacts.{is_contact};
-ghost use Rattle.bit_sets.specs.Bits.{is_bit};
 ghost use Rattle.spreads.specs.Links.{AreEights, HasRoom, IsEight};
 ghost use Rattle.spreads.specs.Passing.{AddsEights, IsRunPassed, RunsPass, SameSets, eight_of, is_closed_at};
 

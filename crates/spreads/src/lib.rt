@@ -4,18 +4,13 @@
 //! contacts back.
 #![tactic(auto)]
 
-mod banks;
 mod blocks;
-mod bundles;
 mod contact_runs;
 mod lanes;
 mod links;
 mod passing;
 mod paths;
-mod ribbons;
 mod sets;
-mod singles;
-mod wires;
 
 pub use links::Link;
 pub use paths::Paths;

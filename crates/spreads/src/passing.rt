@@ -1,11 +1,11 @@
 //! Contacts one by one, and the rows that they pass on while they are closed.
 
-ghost use Rattle.std.specs.Prelude.{◌≡◌, ℕ, ◌<◌, ◌≤◌, ◌&&◌, List, All, false, length, take};
+ghost use Rattle.std.specs.Prelude.{◌≡◌, ℕ, ◌<◌, ◌&&◌, All, false};
 ghost use Rattle.bit_sets.specs.Bits.{is_bit};
-ghost use Rattle.spreads.specs.Links.{AreSkips, HasEntriesOf, IsPassing, is_led_to};
+ghost use Rattle.spreads.specs.Links.{IsPassing, is_led_to};
 ghost use Rattle.spreads.specs.Passing.{IsPassed, Passes, SameSets, is_closed_at};
 
-use crate::links::{Link, is_sixteen_empty};
+use crate::links::Link;
 use crate::sets::PANEL_PLACES;
 use bit_sets::{PLACES, WORDS, has_within};
 
@@ -22,57 +22,20 @@ pub(crate) fn is_led_to(links: &[Link], place: usize) -> bool
 }
 
 // The contacts pass on the rows of their near ends at which they are closed: `digits` has the exits of those closed at the rows 9 to 0,
-// `zones` of those closed at 11 and 12. Answers whether a far end may have gained any. No contact leads from where another one leads
-// to.
+// `zones` of those closed at 11 and 12. Answers whether a far end gained any. No contact leads from where another one leads to.
 pub(crate) fn pass_all(
     contacts: &[Link],
-    skips: &[usize],
     digits: &[u64; WORDS],
     zones: &[u64; WORDS],
     sets: &mut [u16; PANEL_PLACES],
 ) -> bool
-    requires passing { All IsPassing contacts.now }
-    requires skips { AreSkips contacts.now skips.now }
+    requires { All IsPassing contacts.now }
     ensures passed { Passes digits.now zones.now contacts.now sets.old sets.new }
     ensures same { result ≡ false → SameSets sets.old sets.new }
 {
     let mut gained = false;
-    let mut place = 0;
-    while place < contacts.len() {
-        let end = skips[place];
-        if is_sixteen_empty(sets, contacts[place].from as usize) {
-            place = end;
-        } else {
-            let now = pass_run(contacts, place, end, digits, zones, sets);
-            gained |= now;
-            place = end;
-        }
-    }
-    gained
-}
-
-// The contacts from one place of their list up to another pass on the rows of their near ends at which they are closed. Answers whether a
-// far end may have gained any.
-fn pass_run(
-    contacts: &[Link],
-    from: usize,
-    to: usize,
-    digits: &[u64; WORDS],
-    zones: &[u64; WORDS],
-    sets: &mut [u16; PANEL_PLACES],
-) -> bool
-    requires passing { All IsPassing contacts.now }
-    requires order { from ≤ to }
-    requires within { to ≤ length contacts.now }
-    ensures passed { (first : List ℕ) → HasEntriesOf first sets.old → Passes digits.now zones.now (take from contacts.now) first sets.old
-        → Passes digits.now zones.now (take to contacts.now) first sets.new }
-    ensures entries { HasEntriesOf sets.old sets.new }
-    ensures same { result ≡ false → SameSets sets.old sets.new }
-    ensures long { length sets.new ≡ 1936 }
-{
-    let mut gained = false;
-    for place in from..to {
-        let now = pass(contacts[place], digits, zones, sets);
+    for contact in contacts {
+        let now = pass(*contact, digits, zones, sets);
         gained |= now;
     }
     gained

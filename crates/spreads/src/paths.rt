@@ -1,80 +1,71 @@
-//! Wires, and the contacts to which they lead, parted as sets of rows are spread along them.
+//! The wires and contacts along which rows may come from some exits, parted as sets of rows are spread along them.
 
-ghost use Rattle.std.specs.Prelude.{◌≡◌, All, IfOk, OnOk};
+ghost use Rattle.std.specs.Prelude.{◌≡◌, ℕ, ◌<◌, All, IfOk, OnOk, false};
+ghost use Rattle.bit_sets.specs.Bits.{has_place};
 ghost use Rattle.bit_sets.specs.Contacts.{is_contact};
-ghost use Rattle.spreads.specs.Links.{HasRoom, IsInRange, IsPassing};
+ghost use Rattle.spreads.specs.Blocks.{LeadTo, RunLeadsTo};
+ghost use Rattle.spreads.specs.Links.{HasRoom, IsEight, IsInRange, IsPassing, Spreads, is_led_to};
 ghost use Rattle.spreads.specs.Passing.{AddsContacts};
-ghost use Rattle.spreads.specs.Paths.{AreContactsOf, IsBeyond, links_behind, links_elsewhere};
-ghost use Rattle.spreads.specs.Ribbons.{LeadAlike};
+ghost use Rattle.spreads.specs.Paths.{AreContactsOf, AreLinksFrom, AreWires};
 
-use crate::banks::Banks;
-use crate::bundles::Bundles;
-use crate::links::Link;
-use crate::passing::is_led_to;
+use crate::blocks::{ALL_BLOCKS, block_of, blocks_from};
+use crate::contact_runs::{eights_of, pass_eights};
+use crate::links::{Link, follow_links};
+use crate::passing::pass_all;
 use crate::sets::PlaceSets;
-use crate::singles::Singles;
-use bit_sets::{Run, WORDS};
+use bit_sets::{PLACES, Run, WORDS, has, put_where};
 use std::alloc::{AllocError, Global};
 use std::marker::Model;
 
-/// Wires, and the contacts to which they lead, parted so that sets of rows are spread along them in turns. Contracts see lists of them.
+/// The wires and contacts along which rows may come from some exits, parted so that sets of rows are spread along them in turns. Contracts
+/// see lists of them.
 pub struct Paths {
-    // All wires, for `follow`. A caller that lets contacts pass rows on follows them by `follow_outer` and `follow_further` instead, so that a
-    // run follows only these or only those.
-    wires: Bundles,
-    // The contacts that a wire leads to, one by one. No call looks at them: they are kept for the contracts, which name the parts by them.
-    contacts: Vec<Link>,
-    // Runs of at most eight contacts each, in which all these lie, by the blocks of places from which they lead: for `pass`.
-    eights: Banks,
-    // The wires from all exits but those of these contacts, for `follow_outer`.
-    outer: Bundles,
-    beyond: Beyond,
-}
-
-// What lies beyond the contacts that a wire leads to.
-pub(crate) struct Beyond {
-    // The wires from the exits of these contacts, for `follow_further`.
-    wires: Bundles,
+    // The wires from the exits, for `follow_outer`, and the blocks of places to which they lead.
+    outer: Vec<Link>,
+    outer_far: u64,
+    // Runs of at most eight contacts each, in which all those lie that these wires lead to, for `pass`, and the blocks to which they lead.
+    eights: Vec<Run>,
+    eights_far: u64,
+    // The wires from the exits of the contacts that the outer wires lead to, for `follow_further`, and the blocks to which they lead.
+    further: Vec<Link>,
+    further_far: u64,
     // The contacts to which these wires lead, for `pass_behind`.
-    behind: Singles,
+    behind: Vec<Link>,
 }
 
 // By hand, so that a function that drops one calls this, and doesn't drop its parts one by one.
 impl Drop for Paths {
     fn drop(self) {
         let Paths {
-            wires: _wires,
-            contacts: _contacts,
-            eights: _eights,
             outer: _outer,
-            beyond: _beyond,
-        } = self;
-    }
-}
-
-// By hand, as that of `Paths`.
-impl Drop for Beyond {
-    fn drop(self) {
-        let Beyond {
-            wires: _wires,
+            outer_far: _outer_far,
+            eights: _eights,
+            eights_far: _eights_far,
+            further: _further,
+            further_far: _further_far,
             behind: _behind,
         } = self;
     }
 }
 
 impl Model for Paths {
-    ghost use Rattle.spreads.specs.Paths.{PathLinks};
+    ghost use Rattle.spreads.specs.Paths.{ArePaths, PathLinks};
 
     ghost Value = { PathLinks };
 
     ghost view = { λ paths. record {
-      wires = paths.wires;
-      contacts = paths.contacts.items;
-      eights = paths.eights;
-      outer = paths.outer;
-      further = paths.beyond.wires;
-      behind = paths.beyond.behind;
+      outer = paths.outer.items;
+      eights = paths.eights.items;
+      further = paths.further.items;
+      behind = paths.behind.items;
     } };
+
+    ghost invariant = { λ paths. ArePaths paths.outer_far paths.eights_far paths.further_far (record {
+      outer = paths.outer.items;
+      eights = paths.eights.items;
+      further = paths.further.items;
+      behind = paths.behind.items;
+    }) };
 }
 
 impl Paths {
@@ -82,41 +73,41 @@ impl Paths {
     ghost use Rattle.spreads.specs.Links.{HasRoom, IsInRange, Spreads};
     ghost use Rattle.spreads.specs.Passing.{Passes, RunsPass, SameSets};
     ghost use Rattle.spreads.specs.Paths.{AreParted};
-    ghost use Rattle.spreads.specs.Ribbons.{LeadAlike};
 
-    /// The wires that are listed, and the contacts of the runs to which they lead. The wires are in few bundles where the list goes by
-    /// exits. The contacts lead from entries to exits, and behind the last entry of each run there are eight places more.
-    pub fn of(alloc: Global, runs: &[Run], links: &[Link]) -> Result<Paths, AllocError>
+    /// The paths along which rows may come from these exits: of the wires that are listed those from the exits, the contacts of the runs
+    /// to which they lead, the wires from the exits of these, and the contacts to which those lead. Contacts lead from entries to exits, and
+    /// behind the last entry of each run there are eight places more.
+    pub fn of(
+        alloc: Global,
+        runs: &[Run],
+        links: &[Link],
+        exits: &[u64; WORDS],
+    ) -> Result<Paths, AllocError>
         requires range { All IsInRange links.now }
         requires room { All HasRoom runs.now }
-        ensures parted { IfOk result (AreParted runs.now) }
-        ensures alike { IfOk result (λ paths. LeadAlike links.now paths.wires) }
+        ensures { IfOk result (AreParted runs.now links.now exits.now) }
     {
-        let contacts = contacts_of(alloc, runs, links)?;
-        let eights = Banks::of(alloc, runs, contacts.as_slice())?;
-        let beyond = beyond_of(alloc, links, contacts.as_slice())?;
-        let outer = outer_of(alloc, links, contacts.as_slice())?;
+        let outer = links_from(alloc, links, exits)?;
+        let contacts = contacts_of(alloc, runs, outer.as_slice())?;
+        let eights = eights_of(alloc, runs, contacts.as_slice())?;
+        let further = links_from(alloc, links, &places_led_to(contacts.as_slice()))?;
+        let behind = contacts_of(alloc, runs, further.as_slice())?;
         Ok(Paths {
-            wires: Bundles::of(alloc, links)?,
-            contacts,
-            eights,
+            outer_far: far_blocks(outer.as_slice()),
             outer,
-            beyond,
+            eights_far: far_blocks_of_eights(eights.as_slice()),
+            eights,
+            further_far: far_blocks(further.as_slice()),
+            further,
+            behind,
         })
     }
 
-    /// Spreads sets of rows along all wires: the far end of each gains the rows of the near end.
-    pub fn follow(&self, sets: &mut PlaceSets)
-        ensures { Spreads self.now.wires sets.old sets.new }
-    {
-        self.wires.follow(sets);
-    }
-
-    /// Spreads sets of rows along the wires from all exits but those of the contacts.
+    /// Spreads sets of rows along the wires from the exits: the far end of each gains the rows of the near end.
     pub fn follow_outer(&self, sets: &mut PlaceSets)
         ensures { Spreads self.now.outer sets.old sets.new }
     {
-        self.outer.follow(sets);
+        follow_wires(self.outer.as_slice(), self.outer_far, sets);
     }
 
     /// The contacts pass on the rows of their near ends at which they are closed: `digits` has the exits of those closed at the rows 9 to
@@ -126,14 +117,18 @@ impl Paths {
         ensures passed { RunsPass digits.now zones.now self.now.eights sets.old sets.new }
         ensures same { result ≡ false → SameSets sets.old sets.new }
     {
-        self.eights.pass(digits, zones, sets)
+        if !pass_eights(self.eights.as_slice(), digits, zones, &mut sets.sets) {
+            return false;
+        }
+        sets.touched |= self.eights_far;
+        true
     }
 
     /// Spreads sets of rows along the wires from the exits of the contacts.
     pub fn follow_further(&self, sets: &mut PlaceSets)
         ensures { Spreads self.now.further sets.old sets.new }
     {
-        self.beyond.wires.follow(sets);
+        follow_wires(self.further.as_slice(), self.further_far, sets);
     }
 
     /// The contacts to which these wires lead pass on rows, as [`Paths::pass`] has it. Answers whether a far end may have gained any.
@@ -146,31 +141,74 @@ impl Paths {
         ensures passed { Passes digits.now zones.now self.now.behind sets.old sets.new }
         ensures same { result ≡ false → SameSets sets.old sets.new }
     {
-        self.beyond.behind.pass(digits, zones, sets)
+        let gained = pass_all(self.behind.as_slice(), digits, zones, &mut sets.sets);
+        // Which of the far ends have gained rows is not told.
+        if gained {
+            sets.touched = ALL_BLOCKS;
+        }
+        gained
     }
 }
 
-// The contacts of the runs that a link leads to.
+// Spreads sets of rows along wires, which lead to these blocks.
+#[inline(always)]
+fn follow_wires(wires: &[Link], far: u64, sets: &mut PlaceSets)
+    requires { AreWires far wires.now }
+    ensures { Spreads wires.now sets.old sets.new }
+{
+    follow_links(wires, &mut sets.sets);
+    sets.touched |= far;
+}
+
+// The links from these places.
+fn links_from(alloc: Global, links: &[Link], places: &[u64; WORDS]) -> Result<Vec<Link>, AllocError>
+    requires { All IsInRange links.now }
+    ensures { IfOk result (λ from. AreLinksFrom (has_place places.now) links.now from.items) }
+{
+    let mut from = Vec::new(alloc);
+    for link in links {
+        if has(places, link.from as usize) {
+            from.push(*link)?;
+        }
+    }
+    Ok(from)
+}
+
+// The places to which links lead.
+fn places_led_to(links: &[Link]) -> [u64; WORDS]
+    requires { All (λ link. link.to < PLACES) links.now }
+    ensures { (place : ℕ) → has_place result place ≡ is_led_to links.now place }
+{
+    let mut places = [0; WORDS];
+    for link in links {
+        put_where(&mut places, link.to as usize, true);
+    }
+    places
+}
+
+// The contacts of the runs that links lead to.
 fn contacts_of(alloc: Global, runs: &[Run], links: &[Link]) -> Result<Vec<Link>, AllocError>
-    requires { All HasRoom runs.now }
+    requires range { All IsInRange links.now }
+    requires room { All HasRoom runs.now }
     ensures { IfOk result (λ contacts. AreContactsOf runs.now links.now contacts.items) }
 {
+    let places = places_led_to(links);
     let mut contacts = Vec::new(alloc);
     for run in runs {
-        add_run(*run, links, &mut contacts)?;
+        add_contacts(*run, &places, &mut contacts)?;
     }
     Ok(contacts)
 }
 
-// Adds the contacts of a run that a link leads to.
-fn add_run(run: Run, links: &[Link], contacts: &mut Vec<Link>) -> Result<(), AllocError>
+// Adds the contacts of a run that lead from these places.
+fn add_contacts(run: Run, places: &[u64; WORDS], contacts: &mut Vec<Link>) -> Result<(), AllocError>
     requires room { HasRoom run }
     requires passing { All IsPassing contacts.old.items }
     ensures passing { OnOk result (All IsPassing contacts.new.items) }
-    ensures added { OnOk result (AddsContacts (is_contact run) links.now contacts.old.items contacts.new.items) }
+    ensures added { OnOk result (AddsContacts (is_contact run) places.now contacts.old.items contacts.new.items) }
 {
     for k in 0..run.count {
-        if is_led_to(links, run.common + k) {
+        if has(places, run.common + k) {
             contacts.push(Link {
                 from: (run.common + k) as u16,
                 to: (run.exits + k) as u16,
@@ -180,53 +218,26 @@ fn add_run(run: Run, links: &[Link], contacts: &mut Vec<Link>) -> Result<(), All
     Ok(())
 }
 
-// The links from all exits but those of the contacts.
-fn outer_of(alloc: Global, links: &[Link], contacts: &[Link]) -> Result<Bundles, AllocError>
+// The blocks to which links lead.
+fn far_blocks(links: &[Link]) -> u64
     requires { All IsInRange links.now }
-    ensures range { IfOk result (All IsInRange) }
-    ensures outer { IfOk result (LeadAlike (links_elsewhere contacts.now links.now)) }
+    ensures { LeadTo result links.now }
 {
-    let outer = links_elsewhere(alloc, links, contacts)?;
-    Bundles::of(alloc, outer.as_slice())
-}
-
-// The links from the exits of contacts, and those of the contacts to which they lead.
-fn beyond_of(alloc: Global, links: &[Link], contacts: &[Link]) -> Result<Beyond, AllocError>
-    requires range { All IsInRange links.now }
-    requires passing { All IsPassing contacts.now }
-    ensures { IfOk result (IsBeyond links.now contacts.now) }
-{
-    let further = links_behind(alloc, links, contacts)?;
-    let behind = links_behind(alloc, contacts, further.as_slice())?;
-    let wires = Bundles::of(alloc, further.as_slice())?;
-    Ok(Beyond {
-        wires,
-        behind: Singles::of(alloc, behind)?,
-    })
-}
-
-// The links from places to which others lead.
-fn links_behind(alloc: Global, links: &[Link], before: &[Link]) -> Result<Vec<Link>, AllocError>
-    ensures { IfOk result (λ behind. behind.items ≡ links_behind before.now links.now) }
-{
-    let mut behind = Vec::new(alloc);
+    let mut blocks = 0;
     for link in links {
-        if is_led_to(before, link.from as usize) {
-            behind.push(*link)?;
-        }
+        blocks |= block_of(link.to as usize);
     }
-    Ok(behind)
+    blocks
 }
 
-// The links from all other places.
-fn links_elsewhere(alloc: Global, links: &[Link], before: &[Link]) -> Result<Vec<Link>, AllocError>
-    ensures { IfOk result (λ others. others.items ≡ links_elsewhere before.now links.now) }
+// The blocks to which the contacts of eights lead.
+fn far_blocks_of_eights(eights: &[Run]) -> u64
+    requires { All IsEight eights.now }
+    ensures { All (RunLeadsTo result) eights.now }
 {
-    let mut others = Vec::new(alloc);
-    for link in links {
-        if !is_led_to(before, link.from as usize) {
-            others.push(*link)?;
-        }
+    let mut blocks = 0;
+    for eight in eights {
+        blocks |= blocks_from(eight.exits, eight.count);
     }
-    Ok(others)
+    blocks
 }

@@ -31,8 +31,7 @@ impl Model for PlaceSets {
 }
 
 impl PlaceSets {
-    ghost use Rattle.std.specs.Prelude.{◌≡◌, ℕ, ◌-◌, ◌+◌, ◌<◌, ◌==◌, ◌&&◌, ◌||◌, ◌/◌, false, true, drop, length, nat_le};
-    ghost use Rattle.bit_sets.specs.Bits.{is_bit};
+    ghost use Rattle.std.specs.Prelude.{◌≡◌, ℕ, ◌-◌, ◌+◌, ◌<◌, ◌==◌, ◌&&◌, ◌||◌, false, true, drop, length, nat_le};
     ghost use Rattle.spreads.specs.Links.{has_at};
 
     /// Empty sets.
@@ -91,14 +90,6 @@ impl PlaceSets {
         ensures { result ≡ true → (place row : ℕ) → has_at self.now place row ≡ false }
     {
         self.touched == 0
-    }
-
-    // Whether places of these blocks may have rows.
-    #[inline(always)]
-    pub(crate) fn may_have(&self, blocks: u64) -> bool
-        ensures { result ≡ false → (place row : ℕ) → is_bit blocks (place / 32) ≡ true → has_at self.now place row ≡ false }
-    {
-        self.touched & blocks != 0
     }
 }
 

@@ -11,8 +11,7 @@ use Rattle.hubs.specs.declared.hub.Hub.TheVariants.{FR, SR, CX, CA, CB}
 use Rattle.hubs.proofs.HubLemmas.{number_of-kind}
 use Rattle.net.specs.HubSets.{HubSet, is_bit, is_in_row, is_in_reach, is_bit_from, has_hub}
 use Rattle.stations.specs.Punches.{is_punched_at, IsRowAt}
-use Rattle.std.specs.List.{list_any}
-use Rattle.stations.specs.Comparing.{is_in_one, differences_emit}
+use Rattle.stations.specs.Comparing.{Compared, differ_at, differences_emit}
 use Rattle.stations.specs.Stations.{first_emits, second_emits}
 use Rattle.stations.proofs.RowWords.{off_row, no_bit, no_bit_past, column_bit, not_punched}
 
@@ -75,41 +74,36 @@ none_after bits there are k past = let off : nat_lt k 30 ≡ false = grind (arit
 
 -- the row of the positions that differ
 pub difference_row :
-    (sets : List (ℕ × ℕ)) (word : ℕ) (hub : Hub)
-    → ((k : ℕ) → is_bit word k ≡ (nat_lt k 30 && list_any (is_in_one k) sets))
-    → is_in_row (CX 1) word hub ≡ differences_emit sets hub
-difference_row sets word (CX p) are =
-    position_bit 160 word p (is_within p 30) refl (λ k. list_any (is_in_one k) sets) are
-difference_row sets word other are =
-    other_kind 161 30 word other (number_of other) refl (none_after word (λ k. list_any (is_in_one k) sets) are)
-    (λ n has. grind (arith, has))
+    (compared : Compared) (word : ℕ) (hub : Hub) → ((k : ℕ) → is_bit word k ≡ (nat_lt k 30 && differ_at compared k))
+    → is_in_row (CX 1) word hub ≡ differences_emit compared hub
+difference_row compared word (CX p) are = position_bit 160 word p (is_within p 30) refl (differ_at compared) are
+difference_row compared word other are =
+    other_kind 161 30 word other (number_of other) refl (none_after word (differ_at compared) are) (λ n has. grind (arith, has))
 
--- the bits of the entries of a position, read in one row from the first entry on
-pub first_entry :
-    (row : ℕ) (hubs : HubSet)
-    → ((hub : Hub) → is_in_reach (CA 1) hub ≡ true → is_in_row (CA 1) row hub ≡ has_hub hubs hub)
-    → (k : ℕ) → nat_lt k 30 ≡ true → is_bit row k ≡ has_hub hubs (CA (suc k))
-first_entry row hubs reads k below =
-    let within : is_within (suc k) 30 ≡ true = grind (arith, nat_tests, below) in
-    let number : number_of (CA (suc k)) ≡ Some (1040 + suc k) = rw within refl in
-    let near : is_in_reach (CA 1) (CA (suc k)) ≡ true = rw number (grind (arith, nat_tests, below)) in
-    let after : nat_le 1041 (1040 + suc k) ≡ true = grind (arith, nat_tests) in
-    let bit : 1040 + suc k - 1041 ≡ k = omega arith in
-    let found : is_in_row (CA 1) row (CA (suc k)) ≡ is_bit row k = rw (number, after, bit) refl in
-    sym found ∙ reads (CA (suc k)) near
+-- the numbers of the entries follow one another
+pub first-number : (k : ℕ) → k < 30 → number_of (CA (suc k)) ≡ Some (1041 + k)
+first-number k low =
+    let within : is_within (suc k) 30 ≡ true = grind (arith, nat_tests, low) in
+    let number : 1040 + suc k ≡ 1041 + k = omega arith in
+    rw within (ap (λ (n : ℕ). Some n) number)
 
-pub second_entry :
-    (row : ℕ) (hubs : HubSet)
-    → ((hub : Hub) → is_in_reach (CA 1) hub ≡ true → is_in_row (CA 1) row hub ≡ has_hub hubs hub)
-    → (k : ℕ) → nat_lt k 30 ≡ true → is_bit row (30 + k) ≡ has_hub hubs (CB (suc k))
-second_entry row hubs reads k below =
-    let within : is_within (suc k) 30 ≡ true = grind (arith, nat_tests, below) in
-    let number : number_of (CB (suc k)) ≡ Some (1070 + suc k) = rw within refl in
-    let near : is_in_reach (CA 1) (CB (suc k)) ≡ true = rw number (grind (arith, nat_tests, below)) in
-    let after : nat_le 1041 (1070 + suc k) ≡ true = grind (arith, nat_tests) in
-    let bit : 1070 + suc k - 1041 ≡ 30 + k = omega arith in
-    let found : is_in_row (CA 1) row (CB (suc k)) ≡ is_bit row (30 + k) = rw (number, after, bit) refl in
-    sym found ∙ reads (CB (suc k)) near
+pub second-number : (k : ℕ) → k < 30 → number_of (CB (suc k)) ≡ Some (1071 + k)
+second-number k low =
+    let within : is_within (suc k) 30 ≡ true = grind (arith, nat_tests, low) in
+    let number : 1070 + suc k ≡ 1071 + k = omega arith in
+    rw within (ap (λ (n : ℕ). Some n) number)
+
+-- the bit of the hub that comes k after the first one, in the row of that
+pub row_bit : (first hub : Hub) (number k row : ℕ) (hubs : HubSet) → number_of first ≡ Some number → number_of hub ≡ Some (number + k) → k < 128
+    → ((other : Hub) → is_in_reach first other ≡ true → is_in_row first row other ≡ has_hub hubs other)
+    → is_bit row k ≡ has_hub hubs hub
+row_bit first hub number k row hubs is numbered low reads =
+    let after : nat_le number (number + k) ≡ true = grind (arith, nat_tests) in
+    let before : nat_lt (number + k) (number + 128) ≡ true = grind (arith, nat_tests, low) in
+    let bit : number + k - number ≡ k = omega arith in
+    let near : is_in_reach first hub ≡ true = rw (is, numbered, after, before) refl in
+    let found : is_in_row first row hub ≡ is_bit row k = rw (is, numbered, after, bit) refl in
+    sym found ∙ reads hub near
 
 -- a word without bits is in no row
 none-from : (first given : Option ℕ) → is_bit_from first 0 given ≡ false
@@ -122,8 +116,7 @@ none-from (Some first) (Some n) = by (nat_le first n)
     by false = refl
 
 -- where no position differs nothing is emitted
-pub no_difference : (sets : List (ℕ × ℕ)) (word : ℕ) (hub : Hub) → word ≡ 0
-    → ((k : ℕ) → is_bit word k ≡ (nat_lt k 30 && list_any (is_in_one k) sets))
-    → false ≡ differences_emit sets hub
-no_difference sets word hub none are =
-    sym (ap (λ (w : ℕ). is_in_row (CX 1) w hub) none ∙ none-from (number_of (CX 1)) (number_of hub)) ∙ difference_row sets word hub are
+pub no_difference : (compared : Compared) (word : ℕ) (hub : Hub) → word ≡ 0
+    → ((k : ℕ) → is_bit word k ≡ (nat_lt k 30 && differ_at compared k)) → false ≡ differences_emit compared hub
+no_difference compared word hub none are =
+    sym (ap (λ (w : ℕ). is_in_row (CX 1) w hub) none ∙ none-from (number_of (CX 1)) (number_of hub)) ∙ difference_row compared word hub are

@@ -1,7 +1,6 @@
 pub mod Punches
 pub mod Stations
 pub mod Comparing
-pub mod Words
 pub mod Laws
 pub mod Kept
 pub mod Kinds

@@ -1,5 +1,5 @@
 -- The stations and comparing keep to their own hubs.
-use Rattle.std.specs.Prelude.{◌≡◌, ◌||◌, refl, ℕ, Bool, true, false, List, Option, bit_or, slice_set}
+use Rattle.std.specs.Prelude.{◌≡◌, ◌||◌, refl, ℕ, Bool, true, false, List, Option}
 use Rattle.card_code.specs.Rows.{passing_place}
 use Rattle.card_code.specs.declared.row.Row.{Row as CardRow}
 use Rattle.hubs.specs.declared.hub.Hub.{Hub}
@@ -10,7 +10,7 @@ use Rattle.net.specs.declared.cycle.Cycle.{Cycle}
 use Rattle.net.specs.declared.cycle.Cycle.TheVariants.{RunIn, Card}
 use Rattle.net.specs.declared.cycle.Point.{Point}
 use Rattle.net.specs.declared.cycle.Point.TheVariants.{Row, K}
-use Rattle.stations.specs.Comparing.{Compared, comparing_emits, comparing_sensed, differences_emit, positions, sets_at}
+use Rattle.stations.specs.Comparing.{Compared, after_row, comparing_emits, comparing_sensed, differences_emit}
 use Rattle.stations.specs.Kinds.{comparing_kind, stations_kind}
 use Rattle.stations.specs.Stations.{StationCards, first_emits, second_emits, stations_emits}
 
@@ -35,25 +35,22 @@ stations-own cards Card (Row row) hub on =
     (first-own cards.first row hub) (second-own cards.second row hub) on
 stations-own cards cycle point hub on = cc
 
-differences-own : (sets : List (ℕ × ℕ)) (hub : Hub) → differences_emit sets hub ≡ true → owner_of hub ≡ 2
-differences-own sets (CX position) on = refl
-differences-own sets other on = cc
+differences-own : (compared : Compared) (hub : Hub) → differences_emit compared hub ≡ true → owner_of hub ≡ 2
+differences-own compared (CX position) on = refl
+differences-own compared other on = cc
 
 comparing-own : (compared : Compared) (cycle : Cycle) (point : Point) (hub : Hub)
     → comparing_emits compared cycle point hub ≡ true → owner_of hub ≡ 2
-comparing-own compared Card K hub on = differences-own compared.sets hub on
+comparing-own compared Card K hub on = differences-own compared hub on
 comparing-own compared cycle point hub on = cc
 
 senses-own : (compared : Compared) (cycle : Cycle) (point : Point) (one other : Hub → Bool)
     → ((hub : Hub) → reader_of hub ≡ 2 → one hub ≡ other hub)
     → comparing_sensed compared cycle point one ≡ comparing_sensed compared cycle point other
-senses-own compared Card (Row row) one other agree =
-    let first : positions 30 (λ p. one (CA p)) ≡ positions 30 (λ p. other (CA p)) =
-    λ i. positions 30 (λ p. agree (CA p) refl i) in
-    let second : positions 30 (λ p. one (CB p)) ≡ positions 30 (λ p. other (CB p)) =
-    λ i. positions 30 (λ p. agree (CB p) refl i) in
-    let pair : ℕ × ℕ = sets_at (passing_place row) compared.sets in
-    λ i. record { sets = slice_set compared.sets (passing_place row) (bit_or pair.0 (first i), bit_or pair.1 (second i)) }
+senses-own compared Card (Row row) one other agree = λ i. record {
+  first = after_row (passing_place row) (λ p. agree (CA p) refl i) compared.first;
+  second = after_row (passing_place row) (λ p. agree (CB p) refl i) compared.second;
+}
 senses-own compared cycle point one other agree = refl
 
 pub stations_keep : KeepsToItsOwn stations_kind

@@ -1,7 +1,7 @@
 -- The reading stations: a card stands at first reading, and the card before it at second reading. At the point of a row
 -- a station emits the columns that are punched there: first reading in the run-in and in card cycles, second reading in
 -- card cycles alone.
-use Rattle.std.specs.Prelude.{◌≡◌, ℕ, Bool, false, ◌||◌, List, [], length, Option, None, if◌then◌else◌, slice_index_or}
+use Rattle.std.specs.Prelude.{◌≡◌, ℕ, Bool, false, ◌||◌, List, [], length, Option, None, slice_index_or}
 use Rattle.card_code.specs.declared.row.Row.{Row as CardRow}
 use Rattle.hubs.specs.declared.hub.Hub.{Hub}
 use Rattle.hubs.specs.declared.hub.Hub.TheVariants.{FR, SR}
@@ -23,13 +23,6 @@ stations_at_start = record { first = None; second = None }
 -- the cards move on by one: the next card, where there is one, comes to first reading
 abbrev pub loaded : Option (List ℕ) → StationCards → StationCards
 loaded next cards = record { first = next; second = cards.first }
-
--- the cards at those stations that are looked at
-abbrev pub seen : Bool → Bool → StationCards → StationCards
-seen first second cards = record {
-  first = if first then cards.first else None;
-  second = if second then cards.second else None;
-}
 
 -- the exits of first reading that the card there emits at the point of a row
 abbrev pub first_emits : Option (List ℕ) → CardRow → Hub → Bool

@@ -10,6 +10,9 @@ ghost use Rattle.stations.specs.Punches.{AreColumnsAt, AreRowsAt, IsRowAt};
 use crate::lanes::having_row;
 use card_code::{CARD_COLUMNS, Card, Row};
 
+// The columns of no card.
+const NO_COLUMNS: [u16; CARD_COLUMNS] = [0; CARD_COLUMNS];
+
 // Puts the sets of the columns of a card in the place of those of another one.
 pub(crate) fn put_columns(card: &Card, columns: &mut [u16; CARD_COLUMNS])
     ensures { map column_of columns.new ≡ card.now }
@@ -20,11 +23,11 @@ pub(crate) fn put_columns(card: &Card, columns: &mut [u16; CARD_COLUMNS])
     }
 }
 
-// The sets of the columns at a station, of which there are none where no card stands there.
-pub(crate) fn columns_at(is_there: bool, columns: &[u16; CARD_COLUMNS]) -> &[u16]
+// The sets of the columns at a station: empty ones if no card stands there.
+pub(crate) fn columns_at(is_there: bool, columns: &[u16; CARD_COLUMNS]) -> &[u16; CARD_COLUMNS]
     ensures { AreColumnsAt (card_of is_there columns.now) result.now }
 {
-    if is_there { columns } else { &[] }
+    if is_there { columns } else { &NO_COLUMNS }
 }
 
 // The word of a row at a station.

@@ -39,6 +39,7 @@ impl Model for Stations {
 
 impl Stations {
     ghost use Rattle.std.specs.Prelude.{◌≡◌, is_some};
+    ghost use Rattle.stations.specs.Punches.{AreColumnsAt};
     ghost use Rattle.stations.specs.Stations.{stations_at_start, loaded, AreStationRows};
 
     /// The stations without a card.
@@ -76,6 +77,13 @@ impl Stations {
         ensures { result ≡ is_some self.now.first }
     {
         self.first
+    }
+
+    /// The sets of the rows of the columns of the card at second reading: empty ones without a card there.
+    pub fn second_columns(&self) -> &[u16; CARD_COLUMNS]
+        ensures { AreColumnsAt self.now.second result.now }
+    {
+        columns_at(self.second, &self.columns[1 - self.front])
     }
 
     /// The rows of the cards at first and at second reading, 9 to 0, then 11 and 12. In the word of a row the bit c - 1
@@ -132,46 +140,37 @@ impl Stations {
     ghost use Rattle.net.specs.HubSets.{GainsHubs};
     ghost use Rattle.net.specs.RowSets.{GainsRows};
     ghost use Rattle.net.specs.declared.cycle.Point.TheVariants.{Row as AtRow};
-    ghost use Rattle.std.specs.Prelude.{None, if◌then◌else◌};
-    ghost use Rattle.stations.specs.Stations.{first_emits, second_emits, seen, stations_emits};
+    ghost use Rattle.stations.specs.Stations.{first_emits, second_emits, stations_emits};
 
-    /// Adds to the sets of the exits the rows at whose points they emit: those of first reading and those of second reading, each where
-    /// it is looked at.
-    pub fn emit_rows(&self, cycle: Cycle, first: bool, second: bool, sets: &mut RowSets)
-        ensures { GainsRows (λ row. stations_emits (seen first second self.now) cycle (AtRow row)) sets.old sets.new }
+    /// Adds to the sets of the exits the rows at whose points they emit.
+    pub fn emit_rows(&self, cycle: Cycle, sets: &mut RowSets)
+        ensures { GainsRows (λ row. stations_emits self.now cycle (AtRow row)) sets.old sets.new }
     {
         match cycle {
-            Cycle::RunIn => self.emit_first_rows(first, sets),
+            Cycle::RunIn => self.emit_first_rows(sets),
             Cycle::Card => {
-                self.emit_first_rows(first, sets);
-                self.emit_second_rows(second, sets);
+                self.emit_first_rows(sets);
+                self.emit_second_rows(sets);
             }
             Cycle::Prog(_, _) | Cycle::Head(_) => {}
         }
     }
 
-    // Adds the exits of first reading, all rows at once, where it is looked at.
-    fn emit_first_rows(&self, is_seen: bool, sets: &mut RowSets)
-        ensures { GainsRows (first_emits (if is_seen then self.now.first else None)) sets.old sets.new }
+    // Adds the exits of first reading, all rows at once.
+    fn emit_first_rows(&self, sets: &mut RowSets)
+        ensures { GainsRows (first_emits self.now.first) sets.old sets.new }
     {
-        if is_seen {
-            sets.insert_sets(
-                Hub::FR(1),
-                columns_at(self.first, &self.columns[self.front]),
-            );
-        }
+        sets.insert_sets(
+            Hub::FR(1),
+            columns_at(self.first, &self.columns[self.front]),
+        );
     }
 
     // The same of second reading.
-    fn emit_second_rows(&self, is_seen: bool, sets: &mut RowSets)
-        ensures { GainsRows (second_emits (if is_seen then self.now.second else None)) sets.old sets.new }
+    fn emit_second_rows(&self, sets: &mut RowSets)
+        ensures { GainsRows (second_emits self.now.second) sets.old sets.new }
     {
-        if is_seen {
-            sets.insert_sets(
-                Hub::SR(1),
-                columns_at(self.second, &self.columns[1 - self.front]),
-            );
-        }
+        sets.insert_sets(Hub::SR(1), self.second_columns());
     }
 
     // Adds the exits of first reading at the point of a row.

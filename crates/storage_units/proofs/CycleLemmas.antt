@@ -1,56 +1,21 @@
 -- A storage unit through a cycle.
-use Rattle.std.proofs.Common.{◌≡◌, ◌<◌, ◌+◌, ◌-◌, ◌∙◌, ap, refl, arith, ℕ, Bool, true, false, ◌&&◌, ◌==◌, List, [], ◌∷◌, slice_index, slice_set}
+use Rattle.std.proofs.Common.{◌≡◌, ◌∙◌, ap, refl, arith, ℕ, Bool, true, false, ◌&&◌, ◌==◌, List, [], ◌∷◌}
 use Rattle.std.specs.Prelude.{map}
 use Rattle.std.proofs.lemmas.Bool.Decides.{nat_tests}
-use Rattle.card_code.specs.Rows.{passing_place}
 use Rattle.card_code.specs.declared.row.Row.{Row as CardRow}
 use Rattle.card_code.specs.declared.row.Row.TheVariants.{Zero, One, Two, Three, Four, Five, Six, Seven, Eight, Nine, Eleven, Twelve}
 use Rattle.hub_table.specs.Ranges.{is_within}
 use Rattle.hubs.specs.declared.hub.Hub.{Hub}
 use Rattle.hubs.specs.declared.hub.Hub.TheVariants.{SX, SE, SI, SO}
-use Rattle.net.specs.HubSets.{is_bit}
 use Rattle.net.specs.WholeCycles.{after_points}
 use Rattle.net.specs.declared.cycle.Cycle.{Cycle}
 use Rattle.net.specs.declared.cycle.Point.{Point}
 use Rattle.net.specs.declared.cycle.Point.TheVariants.{C, Row, K}
 use Rattle.storage_units.specs.Storage.{StorageState, blank, storage_emits, storage_sensed, storage_ended, holds, columns_in}
 use Rattle.storage_units.specs.WholeCycles.{after_cycle}
-use Rattle.storage_units.specs.Words.{word_of, has_column}
-use Rattle.storage_units.proofs.WordLemmas.{word_of-bit}
-
--- twelve words, blank at first, after each was written
-abbrev written : (CardRow → ℕ) → List ℕ
-written words =
-    slice_set (slice_set (slice_set (slice_set (slice_set (slice_set (slice_set (slice_set (slice_set (slice_set (slice_set (slice_set blank
-    0 (words Nine)) 1 (words Eight)) 2 (words Seven)) 3 (words Six)) 4 (words Five)) 5 (words Four)) 6 (words Three)) 7 (words Two))
-    8 (words One)) 9 (words Zero)) 10 (words Eleven)) 11 (words Twelve)
-
--- each of twelve words is the one that was written
-written-at : (words : CardRow → ℕ) (row : CardRow) → slice_index (written words) (passing_place row) ≡ words row
-written-at words Nine = refl
-written-at words Eight = refl
-written-at words Seven = refl
-written-at words Six = refl
-written-at words Five = refl
-written-at words Four = refl
-written-at words Three = refl
-written-at words Two = refl
-written-at words One = refl
-written-at words Zero = refl
-written-at words Eleven = refl
-written-at words Twelve = refl
-
--- a column is in the word of a test where the test is true
-word_of-column : (test : ℕ → Bool) (column : ℕ) → has_column (word_of test 16) column ≡ (is_within column 16 && test column)
-word_of-column test column = by (is_within column 16) refl
-  where
-    by : (within : Bool) → is_within column 16 ≡ within
-        → (within && is_bit (word_of test 16) (column - 1)) ≡ (within && test column)
-    by true is =
-        let below : column - 1 < 16 = grind (arith, nat_tests, is) in
-        let place : column - 1 + 1 ≡ column = grind (arith, nat_tests, is) in
-        word_of-bit test 16 (column - 1) below ∙ ap test place
-    by false is = refl
+use Rattle.storage_units.specs.Words.{has_column}
+use Rattle.storage_units.proofs.ColumnSets.{word-at}
+use Rattle.storage_units.proofs.WordLemmas.{word_of-column}
 
 -- a unit that was told so reads in
 pub reads_in_whole : (storage : StorageState) (cycle : Cycle) (pictures : Point → Hub → Bool) (row : CardRow) (column : ℕ)
@@ -67,7 +32,7 @@ reads_in_whole storage cycle pictures row column told = by (pictures C (SI stora
         ∷ Row Two ∷ Row One ∷ Row Zero ∷ Row Eleven ∷ Row Twelve ∷ K ∷ [])
         (record storage { received = blank; reads_in = told; reads_out = pictures C (SO storage.place) })) cycle) row column
         ≡ (is_within column 16 && pictures (Row row) (SE storage.place column))
-    by true is = ap (λ word. has_column word column) (written-at words row)
+    by true is = ap (λ word. has_column word column) (word-at words row)
         ∙ word_of-column (λ column. pictures (Row row) (SE storage.place column)) column
     by false is = cc
 

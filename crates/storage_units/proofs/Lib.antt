@@ -1,7 +1,6 @@
 pub mod CycleLemmas
 pub mod StorageLemmas
 pub mod WordLemmas
-pub mod RowWords
-pub mod RowMasks
+pub mod ColumnSets
 pub mod AllRows
 mod ControlHubs

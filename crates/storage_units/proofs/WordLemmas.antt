@@ -1,14 +1,14 @@
 -- The words of tests.
-use Rattle.std.proofs.Common.{◌≡◌, ◌<◌, ◌+◌, ◌-◌, ◌*◌, ◌^◌, ◌∙◌, inl, inr, ap, refl, sym, arith, ℕ, zero, suc, Bool, true, false, ◌==◌, min, bit_and}
+use Rattle.std.proofs.Common.{◌≡◌, ◌<◌, ◌≤◌, ◌+◌, ◌-◌, ◌*◌, ◌^◌, ◌∙◌, inl, inr, ap, refl, arith, ℕ, zero, suc, Bool, true, false, ◌==◌, ◌&&◌}
 use Rattle.std.specs.Prelude.{if◌then◌else◌}
 use Rattle.std.specs.Int.{bit_at}
 use Rattle.std.proofs.lemmas.Bool.{cases_lt}
 use Rattle.std.proofs.lemmas.Bool.Decides.{nat_tests}
-use Rattle.std.proofs.lemmas.Nat.{and_le_r}
 use Rattle.std.proofs.Math.Nat.{pow-succ'}
-use Rattle.std.proofs.lemmas.Nat.Bits.{bit_at-lt, bit_at_and, bit_at_ones, bit_at_cat_low, bit_at_cat_high, same_from_bits_below}
+use Rattle.std.proofs.lemmas.Nat.Bits.{bit_at_cat_low, bit_at_cat_high}
+use Rattle.hub_table.specs.Ranges.{is_within}
 use Rattle.net.specs.HubSets.{is_bit}
-use Rattle.storage_units.specs.Words.{word_of}
+use Rattle.storage_units.specs.Words.{has_column, word_of}
 
 -- one bit as a number
 abbrev bit_of : Bool → ℕ
@@ -40,22 +40,23 @@ word_of-bit test (suc last) i below = elim (cases_lt i last) [
     lowest true = refl
     lowest false = refl
 
--- bits that are tested alike are the same
-pub same_bit : (x y : ℕ) → x < 2 → y < 2 → (x == 1) ≡ (y == 1) → x ≡ y
-same_bit x y small small_y alike = grind (arith, nat_tests)
+-- words of tests that agree on the columns
+pub word_of-same : (one other : ℕ → Bool) (count : ℕ) → ((n : ℕ) → 1 ≤ n → n ≤ count → one n ≡ other n) → word_of one count ≡ word_of other count
+unfolding word_of
+word_of-same one other zero same = refl
+word_of-same one other (suc last) same =
+    ap (λ b. (if b then 1 else 0) * 2 ^ last + word_of one last) (same (suc last) (omega arith) (omega arith))
+    ∙ ap (λ (w : ℕ). (if other (suc last) then 1 else 0) * 2 ^ last + w)
+    (word_of-same one other last (λ n from to. same n from (omega (arith, to))))
 
--- the low sixteen bits of a word are the word of their tests
-pub low_bits : (bits : ℕ) (test : ℕ → Bool) → ((i : ℕ) → i < 16 → is_bit bits i ≡ test (i + 1))
-    → bit_and bits 65535 ≡ word_of test 16
-unfolding is_bit
-low_bits bits test read =
-    same_from_bits_below 16 (bit_and bits 65535) (word_of test 16) (omega (arith, and_le_r bits 65535)) (word_of-below test 16)
-    (λ i below. low i below ∙ same_bit (bit_at bits i) (bit_at (word_of test 16) i) (bit_at-lt bits i) (bit_at-lt (word_of test 16) i)
-    (read i below ∙ sym (word_of-bit test 16 i below)))
+-- a column is in the word of a test where the test is true
+pub word_of-column : (test : ℕ → Bool) (column : ℕ) → has_column (word_of test 16) column ≡ (is_within column 16 && test column)
+word_of-column test column = by (is_within column 16) refl
   where
-    at_most_one : (x : ℕ) → x < 2 → min x 1 ≡ x
-    at_most_one x small = grind arith
-
-    low : (i : ℕ) → i < 16 → bit_at (bit_and bits 65535) i ≡ bit_at bits i
-    low i below = let ones = bit_at_ones 16 i below in let small = bit_at-lt bits i in
-        bit_at_and bits 65535 i ∙ ap (λ n. min (bit_at bits i) n) ones ∙ at_most_one (bit_at bits i) small
+    by : (within : Bool) → is_within column 16 ≡ within
+        → (within && is_bit (word_of test 16) (column - 1)) ≡ (within && test column)
+    by true is =
+        let below : column - 1 < 16 = grind (arith, nat_tests, is) in
+        let place : column - 1 + 1 ≡ column = grind (arith, nat_tests, is) in
+        word_of-bit test 16 (column - 1) below ∙ ap test place
+    by false is = refl

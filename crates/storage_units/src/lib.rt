@@ -1,7 +1,7 @@
 //! The storage units: four units that hold 16 columns of a card from cycle to cycle.
 #![tactic(auto)]
 
-mod all_rows;
+mod columns;
 mod laws;
 mod storage;
 

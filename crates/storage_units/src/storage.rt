@@ -1,34 +1,31 @@
 //! A storage unit: it holds 16 columns from cycle to cycle.
 
-ghost use Rattle.std.specs.Prelude.{◌≡◌, ◌≤◌, ◌<◌};
-ghost use Rattle.net.specs.HubSets.{has_hub};
-ghost use Rattle.storage_units.specs.Storage.{columns_in};
-
-use crate::all_rows::{columns_of, has_bit, rows_of};
+use crate::columns::{COLUMNS, has_bit, having_row, low_word, put_row};
 use card_code::Row;
 use hubs::Hub;
 use net::{Cycle, Picture, Point, RowSets, Unit};
 use std::marker::Model;
-
-// How many columns a storage unit has.
-const STORAGE_COLUMNS: u8 = 16;
+use std::simd::prelude::*;
 
 // The number of the first storage unit among the units, less one.
 const UNITS_BEFORE: u8 = 34;
+
+// The hub number of the first exit of all units.
+const FIRST_EXIT: u32 = 743;
 
 /// One of the four storage units.
 ///
 /// What it is told at the control point holds for the cycle, of any kind. Told to read out, it emits what it held at the
 /// start of the cycle; told to read in, it holds at the end what its entries received, and is blank where nothing
 /// came. It may be told both, and emits the old then.
-#[derive(Clone, Copy, Debug, PartialEq, Eq)]
+#[derive(Debug, Drop)]
 pub struct Storage {
     // Its number among the storage units, 1 to 4, as its hubs have it.
     place: u8,
-    // For each row, in the order of the points, the columns that hold it: bit c - 1 tells of column c.
-    held: [u16; 12],
+    // For each column the rows that it holds, by their places among the points.
+    held: [u16; COLUMNS],
     // The same of what came in since the control point, where it reads in.
-    received: [u16; 12],
+    received: [u16; COLUMNS],
     reads_in: bool,
     reads_out: bool,
 }
@@ -44,13 +41,10 @@ impl Model for Storage {
     ghost view = { state_of };
 
     ghost invariant = { λ s. (1 ≤ s.place) × (s.place ≤ 4) };
-
-    ghost inverse = { λ s. record { place = s.place; held = s.held; received = s.received; reads_in = s.reads_in; reads_out = s.reads_out } };
 }
 
 impl Storage {
-    ghost use Rattle.std.specs.Prelude.{◌≡◌, ◌≤◌, slice_index};
-    ghost use Rattle.card_code.specs.Rows.{passing_place};
+    ghost use Rattle.std.specs.Prelude.{◌≡◌, ◌≤◌};
     ghost use Rattle.net.specs.RowSets.{GainsRows, after_rows, pictures_of};
     ghost use Rattle.std.specs.Prelude.{Bool};
     ghost use Rattle.hubs.specs.declared.hub.Hub.{Hub};
@@ -58,7 +52,7 @@ impl Storage {
     ghost use Rattle.net.specs.Orders.{IsRowOf};
     ghost use Rattle.net.specs.declared.cycle.Cycle.{Cycle};
     ghost use Rattle.net.specs.declared.cycle.Point.TheVariants.{C, Row as AtRow};
-    ghost use Rattle.storage_units.specs.Storage.{storage_at_start, storage_emits, storage_sensed, holds};
+    ghost use Rattle.storage_units.specs.Storage.{storage_at_start, storage_emits, storage_ended, storage_sensed, holds};
 
     /// The storage unit with this number among the units, 35 to 38. It holds nothing.
     pub fn new(unit: u8) -> Self
@@ -68,8 +62,8 @@ impl Storage {
     {
         Storage {
             place: unit - UNITS_BEFORE,
-            held: [0; 12],
-            received: [0; 12],
+            held: [0; COLUMNS],
+            received: [0; COLUMNS],
             reads_in: false,
             reads_out: false,
         }
@@ -86,7 +80,8 @@ impl Storage {
     pub fn holds(&self, row: Row, column: u8) -> bool
         ensures { result ≡ holds self.now row column }
     {
-        1 <= column && column <= STORAGE_COLUMNS && has_bit(self.held_at(row), column as usize - 1)
+        let column = column as usize;
+        1 <= column && column <= COLUMNS && has_bit(self.held[column - 1], row.place())
     }
 
     /// Adds to the sets of the exits the rows at whose points they emit.
@@ -94,8 +89,8 @@ impl Storage {
         ensures { GainsRows (λ row. storage_emits self.now _cycle (AtRow row)) sets.old sets.new }
     {
         if self.reads_out {
-            let columns = columns_of(&self.held);
-            sets.insert_sets(Hub::SX(self.place, 1), &columns);
+            let number = FIRST_EXIT + 16 * (u32::from(self.place) - 1);
+            sets.insert_sets_at(Hub::SX(self.place, 1), number, &self.held);
         }
     }
 
@@ -104,9 +99,10 @@ impl Storage {
         ensures { (cycle : Cycle) (picture : Hub → Bool) → IsRowOf (SI 1) picture row
             → self.new ≡ storage_sensed self.old cycle C picture }
     {
-        self.received = [0; 12];
-        self.reads_in = net::has_bit(row, self.place as usize - 1);
-        self.reads_out = net::has_bit(row, self.place as usize + 3);
+        self.received = [0; COLUMNS];
+        let told = low_word(row);
+        self.reads_in = has_bit(told, self.place as usize - 1);
+        self.reads_out = has_bit(told, self.place as usize + 3);
     }
 
     /// Senses the points of all rows at once.
@@ -114,15 +110,19 @@ impl Storage {
         ensures { self.new ≡ after_rows storage_sensed _cycle (pictures_of pictures.now) self.old }
     {
         if self.reads_in {
-            self.received = rows_of(pictures.from(Hub::SE(self.place, 1)));
+            let before = COLUMNS * (self.place as usize - 1);
+            let entries = &pictures.from(Hub::SE(1, 1))[before..];
+            self.received = u16x16::from_slice(entries).to_array();
         }
     }
 
-    // The columns that hold a row.
-    fn held_at(&self, row: Row) -> u16
-        ensures { result ≡ slice_index self.now.held (passing_place row) }
+    /// The unit as the end of a cycle leaves it.
+    pub fn behind_end(&self, cycle: Cycle) -> Self
+        ensures { result ≡ storage_ended self.now cycle }
     {
-        self.held[row.place()]
+        let mut behind = Storage { ..*self };
+        behind.end_cycle(cycle);
+        behind
     }
 }
 
@@ -145,7 +145,8 @@ impl Unit for Storage {
     fn emit(&self, _cycle: Cycle, point: Point, exits: &mut Picture) {
         match point {
             Point::Row(row) if self.reads_out => {
-                exits.insert_row(Hub::SX(self.place, 1), u128::from(self.held_at(row)));
+                let columns = having_row(&self.held, row.place());
+                exits.insert_row(Hub::SX(self.place, 1), u128::from(columns));
             }
             _ => {}
         }
@@ -155,7 +156,8 @@ impl Unit for Storage {
         match point {
             Point::C => self.sense_controls(picture.row(Hub::SI(1))),
             Point::Row(row) if self.reads_in => {
-                self.received[row.place()] = columns_in(picture, self.place);
+                let columns = low_word(picture.row(Hub::SE(self.place, 1)));
+                put_row(&mut self.received, row.place(), columns);
             }
             _ => {}
         }
@@ -172,13 +174,4 @@ impl Unit for Storage {
     ghost emits_steadily = { λ unit cycle at other picture hub. refl };
 
     ghost closes_steadily = { λ unit cycle at other picture hub. refl };
-}
-
-// The columns whose entries are impulsed, bit c - 1 for column c.
-fn columns_in(picture: &Picture, unit: u8) -> u16
-    requires from { 1 ≤ unit }
-    requires to { unit ≤ 4 }
-    ensures { result ≡ columns_in (has_hub picture.now) unit }
-{
-    (picture.row(Hub::SE(unit, 1)) & 0xffff) as u16
 }

@@ -9,7 +9,7 @@ ghost use Rattle.traces.specs.TracedUnits.{bracketed, column_character, storage_
 
 use crate::places::write_bracketed;
 use card_code::{Column, ROWS};
-use net::{Cycle, Unit};
+use net::Cycle;
 use numerals::write_numbered;
 use std::io;
 use std::io::Write;
@@ -48,15 +48,6 @@ fn characters_held(storage: &Storage) -> [u8; 16]
     characters
 }
 
-// A storage unit as the end of a cycle leaves it.
-fn behind_end(storage: &Storage, cycle: Cycle) -> Storage
-    ensures { result ≡ storage_ended storage.now cycle }
-{
-    let mut behind = *storage;
-    behind.end_cycle(cycle);
-    behind
-}
-
 // A storage unit by its place, and what it holds.
 fn write_held(text: &mut Vec<u8>, place: u8, held: &[u8]) -> io::Result<()>
     ensures { OnOk result (text.new.items ≡ text.old.items ++ (codes "   storage " ++ decimal place ++ codes " " ++ bracketed held.now)) }
@@ -81,7 +72,7 @@ fn write_storage(text: &mut Vec<u8>, storage: &Storage, behind: &Storage) -> io:
 fn write_storage_in(text: &mut Vec<u8>, cycle: Cycle, storage: &Storage) -> io::Result<()>
     ensures { OnOk result (text.new.items ≡ text.old.items ++ storage_told storage.now (storage_ended storage.now cycle)) }
 {
-    let behind = behind_end(storage, cycle);
+    let behind = storage.behind_end(cycle);
     write_storage(text, storage, &behind)
 }
 

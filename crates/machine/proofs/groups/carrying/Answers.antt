@@ -5,13 +5,14 @@ use Rattle.counters.specs.Wheels.{carries_out}
 use Rattle.net.proofs.Below.bit_sets.BitLemmas.{is_bit-or, is_bit-zero}
 use Rattle.net.specs.HubSets.{is_bit}
 use Rattle.machine.specs.Steady.{carries_of}
-use Rattle.machine.proofs.CarryExits.{carry-more, carry-past}
+use Rattle.machine.proofs.CarryExits.{busy-carries, carry-more, carry-past}
 use Rattle.machine.proofs.Rest.{told-at, told-past}
 use Rattle.machine.proofs.groups.carrying.Goals as goal
 
 pub loop-place-init : goal.loop-place-init
 loop-place-init c k =
-    ap (λ b. b || (is_bit c.args.marks k && get_or (carries_of c.args.groups.now) k false)) (is_bit-zero k)
+    ap (λ b. b || (is_bit c.args.busy.controlled k && get_or (carries_of c.args.groups.now) k false)) (is_bit-zero k)
+    ∙ busy-carries c.args.busy c.args.groups.now k c.requires
 
 pub loop-place-preserved-then-place-lt-GROUPS : goal.loop-place-preserved-then-place-lt-GROUPS
 loop-place-preserved-then-place-lt-GROUPS c k =

@@ -4,7 +4,7 @@ use Rattle.std.specs.List.{list_any}
 use Rattle.counters.specs.Counters.{counter_emits}
 use Rattle.net.specs.HubSets.{has_hub}
 use Rattle.net.specs.declared.cycle.Point.{Point}
-use Rattle.machine.specs.Marked.{any_marked}
+use Rattle.machine.proofs.CarryExits.{carries-row}
 use Rattle.machine.proofs.ClosedContacts.{none-of}
 use Rattle.machine.proofs.Rest.{busy-emits}
 use Rattle.machine.proofs.groups.emit_groups.Goals as goal
@@ -24,7 +24,7 @@ returns-in-Row c exit =
 
 pub returns-in-K : goal.returns-in-K
 returns-in-K c exit =
-    c.emit_carries.ensures c.args.cycle exit
+    c.emit_carries.ensures exit
     ∙ ap (λ b. has_hub c.args.exits.now exit || b)
-    (ap (λ (p : Point). any_marked c.args.busy.controlled 0 (λ group. counter_emits group c.args.cycle p exit) c.args.groups.now) (sym c.in-K.is)
-    ∙ busy-emits c.args.busy c.args.groups.now c.args.cycle c.args.point exit c.requires.busy)
+    (carries-row c.carrying.result c.args.groups.now c.args.cycle exit c.requires.ordered c.carrying.ensures
+    ∙ ap (λ (p : Point). list_any (λ group. counter_emits group c.args.cycle p exit) c.args.groups.now) (sym c.in-K.is))

@@ -8,12 +8,14 @@ loop-block-init c = record { characters = λ k less. absurd (omega (arith, less)
 
 pub loop-block-preserved : goal.loop-block-preserved
 loop-block-preserved c =
-    let next : 8 * c.loop-block.block + 8 ≡ 8 * (c.loop-block.block + 1) = omega arith in
+    let next : 24 * c.loop-block.block + 24 ≡ 24 * (c.loop-block.block + 1) = omega arith in
+    let third : 24 * c.loop-block.block + 16 + 8 ≡ 24 * (c.loop-block.block + 1) = omega arith in
     elim c.if-is_empty.branch [
       | then-is_empty w ↦ rw w.line-is
           (subst (λ (count : ℕ). HasPrinted c.args.sets.now count w.put_blanks.new.line) next w.put_blanks.ensures)
       | else-is_empty w ↦ rw w.line-is
-          (subst (λ (count : ℕ). HasPrinted c.args.sets.now count w.print_wheels.new.line) next w.print_wheels.ensures)
+          (subst (λ (count : ℕ). HasPrinted c.args.sets.now count w.print_wheels-else-is_empty-2.new.line) third
+          w.print_wheels-else-is_empty-2.ensures)
     ]
 
 pub put_blanks-requires-clause-empty : goal.put_blanks-requires-clause-empty

@@ -8,8 +8,8 @@ loop-k-preserved c =
     let within = c.requires.within in
     let test = c.loop-k-test.true in
     let low = c.loop-k.auto.k in
-    printed-more c.args.sets.now c.loop-k.line c.loop-k.k c.args.blank (omega (arith, within, test))
-    (blank-printed c.args.sets.now c.loop-k.k c.args.blank c.requires.blank (c.requires.empty c.loop-k.k low test)) c.loop-k.invariant
+    printed-more c.args.sets.now c.loop-k.line c.loop-k.k 32 (omega (arith, within, test))
+    (blank-printed c.args.sets.now c.loop-k.k (c.requires.empty c.loop-k.k low test)) c.loop-k.invariant
 
 pub returns : goal.returns
-returns c = let end : c.loop-k.k ≡ c.args.from + 8 = omega arith in subst (λ (k : ℕ). HasPrinted c.args.sets.now k c.loop-k.line) end c.loop-k.invariant
+returns c = let end : c.loop-k.k ≡ c.args.from + 24 = omega arith in subst (λ (k : ℕ). HasPrinted c.args.sets.now k c.loop-k.line) end c.loop-k.invariant

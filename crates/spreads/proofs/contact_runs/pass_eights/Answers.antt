@@ -19,7 +19,7 @@ loop-eight-preserved c =
     record {
       passed =
           runs-more c.args.digits.now c.args.zones.now c.args.sets.now c.loop-eight.sets c.pass_eight-now.new.sets c.args.eights.now
-          c.loop-eight.eight-index _ _ c.loop-eight-test.true refl eight.room c.loop-eight.invariant.entries c.loop-eight.invariant.passed
+          c.loop-eight.eight-index _ c.loop-eight-test.true eight.room c.loop-eight.invariant.entries c.loop-eight.invariant.passed
           c.pass_eight-now.ensures.passed;
       entries = λ place row high. entries place row high ∙ c.loop-eight.invariant.entries place row high;
       same = λ none place row.

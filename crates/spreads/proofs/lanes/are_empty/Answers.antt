@@ -1,4 +1,4 @@
-use Rattle.spreads.proofs.SixteenLemmas.{lanes-empty}
+use Rattle.spreads.proofs.EmptyLanes.{lanes-empty}
 use Rattle.spreads.proofs.lanes.are_empty.Goals as goal
 
 pub returns : goal.returns

@@ -1,47 +1,34 @@
-use Rattle.std.proofs.Common.{◌∙◌, refl, arith}
-use Rattle.spreads.proofs.PassLemmas.{Passes-all, Passes-none, Passes-past, neither}
+use Rattle.std.proofs.Common.{◌∙◌, refl}
+use Rattle.spreads.proofs.PassLemmas.{Passes-all, Passes-more, Passes-none, entries-more, neither}
 use Rattle.spreads.proofs.passing.pass_all.Goals as goal
 
-pub loop-place-init : goal.loop-place-init
-loop-place-init c = record {
+pub loop-contact-init : goal.loop-contact-init
+loop-contact-init c = record {
   passed = Passes-none c.args.digits.now c.args.zones.now c.args.sets.now;
   entries = λ place row high. refl;
   same = λ none place row. refl;
-  within = omega arith;
   long = c.told-sets;
 }
 
-pub loop-place-preserved-then-is_sixteen_empty : goal.loop-place-preserved-then-is_sixteen_empty
-loop-place-preserved-then-is_sixteen_empty c =
-    let skip = c.requires.skips.each c.loop-place.place c.loop-place-test.true in
+pub loop-contact-preserved : goal.loop-contact-preserved
+loop-contact-preserved c =
+    let contact = c.requires c.loop-contact.contact-index _ c.loop-contact-test.true in
+    let digits = c.args.digits.now in
+    let zones = c.args.zones.now in
     record {
       passed =
-          Passes-past c.args.digits.now c.args.zones.now c.args.contacts.now c.loop-place.place _ _ c.args.sets.now c.loop-place.sets
-          c.requires.passing skip (c.is_sixteen_empty.ensures c.if-is_sixteen_empty.true) c.loop-place.invariant.entries
-          c.loop-place.invariant.passed;
-      entries = c.loop-place.invariant.entries;
-      same = c.loop-place.invariant.same;
-      within = skip.within;
-      long = c.loop-place.invariant.long;
-    }
-
-pub loop-place-preserved : goal.loop-place-preserved
-loop-place-preserved c =
-    let skip = c.requires.skips.each c.loop-place.place c.loop-place-test.true in
-    record {
-      passed = c.pass_run-now.ensures.passed c.args.sets.now c.loop-place.invariant.entries c.loop-place.invariant.passed;
-      entries = λ place row high. c.pass_run-now.ensures.entries place row high ∙ c.loop-place.invariant.entries place row high;
+          Passes-more digits zones c.args.contacts.now c.loop-contact.contact-index _ c.args.sets.now c.loop-contact.sets c.pass-now.new.sets
+          c.loop-contact-test.true contact c.loop-contact.invariant.entries c.loop-contact.invariant.passed c.pass-now.ensures.passed;
+      entries =
+          entries-more digits zones _ c.args.sets.now c.loop-contact.sets c.pass-now.new.sets contact c.pass-now.ensures.passed
+          c.loop-contact.invariant.entries;
       same = λ none place row.
-          let both = neither c.loop-place.gained c.pass_run-now.result none in
-          c.pass_run-now.ensures.same both.1 place row ∙ c.loop-place.invariant.same both.0 place row;
-      within = skip.within;
-      long = c.pass_run-now.ensures.long;
+          let both = neither c.loop-contact.gained c.pass-now.result none in
+          c.pass-now.ensures.same both.1 place row ∙ c.loop-contact.invariant.same both.0 place row;
+      long = c.pass-now.array_long;
     }
 
 pub returns-clause-passed : goal.returns-clause-passed
 returns-clause-passed c =
-    Passes-all c.args.digits.now c.args.zones.now c.args.contacts.now c.loop-place.place c.args.sets.now c.loop-place.sets
-    c.loop-place-test.false c.loop-place.invariant.passed
-
-pub returns-clause-same : goal.returns-clause-same
-returns-clause-same c none = c.loop-place.invariant.same none
+    Passes-all c.args.digits.now c.args.zones.now c.args.contacts.now c.loop-contact.contact-index c.args.sets.now c.loop-contact.sets
+    c.loop-contact-test.false c.loop-contact.invariant.passed

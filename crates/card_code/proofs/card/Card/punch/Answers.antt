@@ -1,6 +1,5 @@
-use Rattle.std.proofs.Common.{◌∙◌, ap, arith, sym}
-use Rattle.card_code.specs.CardCode.{rows_of}
-use Rattle.card_code.proofs.Punches.{punched-more, punched-none, punched-odd}
+use Rattle.std.proofs.Common.{arith}
+use Rattle.card_code.proofs.Punches.{punched-card, punched-fine, punched-more, punched-none}
 use Rattle.card_code.proofs.card.Card.punch.Goals as goal
 
 pub loop-place-init : goal.loop-place-init
@@ -10,12 +9,18 @@ pub loop-place-preserved : goal.loop-place-preserved
 loop-place-preserved c =
     let short = c.requires in
     let test = c.loop-place-test.true in
-    punched-more c.loop-place.place c.in-Some.column c.args.line.now _ (omega (arith, short, test))
-    (sym (ap rows_of c.from.ensures) ∙ sym c.of_char.ensures ∙ c.in-Some.is) c.loop-place.invariant
+    rw (c.of_set.ensures)
+    (punched-more c.loop-place.place c.loop-place.joined c.listed_set-set.result c.args.line.now _ (omega (arith, short, test))
+    c.listed_set-set.ensures c.loop-place.invariant)
 
-pub returns-in-None : goal.returns-in-None
-returns-in-None c = record {
-  card = tt;
-  odd = punched-odd c.loop-place.place c.args.line.now _ c.loop-place-test.true c.requires
-      (sym (ap rows_of c.from.ensures) ∙ sym c.of_char.ensures ∙ c.in-None.is) c.loop-place.invariant;
-}
+pub returns-then-joined-le-ALL_ROWS-clause-card : goal.returns-then-joined-le-ALL_ROWS-clause-card
+returns-then-joined-le-ALL_ROWS-clause-card c =
+    let end = c.loop-place-test.false in
+    let few = c.if-joined-le-ALL_ROWS.true in
+    punched-card c.loop-place.place c.loop-place.joined c.args.line.now _ (omega (arith, end)) c.requires
+    (c.loop-place.invariant.characters (omega (arith, few))) c.loop-place.invariant
+
+pub returns-else-joined-le-ALL_ROWS-clause-card : goal.returns-else-joined-le-ALL_ROWS-clause-card
+returns-else-joined-le-ALL_ROWS-clause-card c =
+    punched-fine c.odd_column.result c.loop-place.place c.loop-place.joined c.args.line.now _ c.loop-place-test.false
+    c.loop-place.auto.place-end c.odd_column.ensures.none c.loop-place.invariant

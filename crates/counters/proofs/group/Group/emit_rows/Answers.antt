@@ -16,7 +16,7 @@ returns-then-self c row hub =
     let shown = shows counter.name (row_number row) counter.digits hub in
     let old = has_row_at c.args.sets.now (passing_place row) hub in
     rw (sym c.self.view_is)
-    (c.insert_sets.ensures (passing_place row) hub
+    (c.insert_sets_at.ensures (passing_place row) hub
     ∙ ap (λ b. old || b)
     (shows-sets counter.name (row_number row) (passing_place row) (take width c.self.inside.digits) c.rows_shown-shown.result hub c.self.invariant.width
     c.self.invariant.named (length-take-le width c.self.inside.digits (omega (arith, small))) (λ k. c.rows_shown-shown.ensures row k))

@@ -8,9 +8,8 @@ use Rattle.net.proofs.SetLemmas.{GainsRows-both}
 use Rattle.net.specs.HubRows.{has_row_at}
 use Rattle.net.specs.declared.cycle.Point.TheVariants.{Row}
 use Rattle.print_unit.specs.Emitters.{emitters_emit}
-use Rattle.stations.specs.Stations.{seen, stations_emits}
+use Rattle.stations.specs.Stations.{stations_emits}
 use Rattle.storage_units.specs.Storage.{storage_emits}
-use Rattle.machine.specs.AllRows.{seeing}
 use Rattle.machine.specs.Fields.{AreInUnitOrder, machine_in}
 use Rattle.machine.specs.Machine.{MachineState}
 use Rattle.machine.specs.declared.units.Units.TheInside.{Inside}
@@ -25,7 +24,7 @@ pub returns-clause-rows : goal.returns-clause-rows
 returns-clause-rows c row hub =
     let machine = machine_in c.self-inside.inside.0.0 in
     let cycle = c.args.cycle in
-    let stations : CardRow → Hub → Bool = λ at h. stations_emits (seen c.args.first c.args.second machine.stations) cycle (Row at) h in
+    let stations : CardRow → Hub → Bool = λ at h. stations_emits machine.stations cycle (Row at) h in
     let groups : CardRow → Hub → Bool = λ at h. list_any (λ group. counter_emits group cycle (Row at) h) machine.groups in
     let storage : CardRow → Hub → Bool = λ at h. list_any (λ unit. storage_emits unit cycle (Row at) h) machine.storage in
     let emitters : CardRow → Hub → Bool = λ at h. emitters_emit machine.emitters cycle (Row at) h in
@@ -37,7 +36,7 @@ returns-clause-rows c row hub =
     c.emit_group_rows.ensures)
     c.emit_storage_rows.ensures)
     c.emit_rows-2.ensures row hub
-    ∙ ap (λ b. has_row_at c.args.sets.now (passing_place row) hub || b) (units-emit (seeing c.args.first c.args.second machine) cycle row hub))
+    ∙ ap (λ b. has_row_at c.args.sets.now (passing_place row) hub || b) (units-emit machine cycle row hub))
 
 pub returns-clause-ordered : goal.returns-clause-ordered
 returns-clause-ordered c =

@@ -1,4 +1,8 @@
 use Rattle.machine.proofs.units.Units.run_points.Goals as goal
 
-pub run_points_by-requires-clause-direct : goal.run_points_by-requires-clause-direct
-run_points_by-requires-clause-direct c = λ none. c.is_direct.ensures c.if-is_direct.true
+pub returns-in-Card-Some-clause-reached : goal.returns-in-Card-Some-clause-reached
+returns-in-Card-Some-clause-reached c wiring is_net =
+    rw c.in-Card-Some.is-0 (c.run_straight_points.ensures.reached wiring is_net)
+
+pub returns-in-Card-Some-clause-keeps : goal.returns-in-Card-Some-clause-keeps
+returns-in-Card-Some-clause-keeps c = rw c.in-Card-Some.is-0 c.run_straight_points.ensures.keeps

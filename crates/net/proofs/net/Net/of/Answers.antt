@@ -1,11 +1,15 @@
-use Rattle.std.proofs.Common.{◌≡◌, ◌∙◌, All, List, ap, false, rules, subst, sym}
+use Rattle.std.proofs.Common.{◌≡◌, ◌∙◌, All, IfSome, List, false, rules, subst}
 use Rattle.bit_sets.specs.Bits.{has_place}
+use Rattle.bit_sets.specs.Rows.{leads}
 use Rattle.spreads.specs.Links.{is_linked}
-use Rattle.spreads.specs.Ribbons.{LeadAlike}
 use Rattle.spreads.specs.declared.links.Link.{Link}
-use Rattle.spreads.proofs.PassLemmas.{not-true}
-use Rattle.spreads.proofs.RibbonLemmas.{All-among}
+use Rattle.spreads.specs.Paths.{AreParted}
+use Rattle.net.specs.Plans.{AreLinks, ArePlansTo}
+use Rattle.net.specs.Straight.{AreRunsOf}
+use Rattle.net.specs.declared.contacts.TheConstants.{CONTACTS}
+use Rattle.net.specs.declared.tellings.Telling.{Telling}
 use Rattle.net.proofs.DirectWires.{linked-range}
+use Rattle.net.proofs.StraightRuns.{runs-alike}
 use Rattle.net.proofs.net.Net.of.Goals as goal
 
 pub returns : goal.returns
@@ -21,23 +25,30 @@ tellings_of-requires c = record {
 pub invariant_of-result : goal.invariant_of-result
 invariant_of-result c =
     let links = c.in_ok-rows.field-0.links.items in
-    let wires = c.in_ok-paths.paths.wires in
-    let alike : LeadAlike links wires
-    = λ from to. c.in_ok-paths.ensures.alike from to ∙ ap (λ (some : List Link). is_linked some from to) c.as_slice.ensures.value in
+    let lead : AreLinks c.in_ok-rows.field-0.rows links = record { range = c.in_ok-rows.ensures.in_range; agree = c.in_ok-rows.ensures.agree } in
     record {
+      links = links;
+      lead = lead;
       commons = search rules;
       others = search rules;
-      parted = c.in_ok-paths.ensures.parted;
-      agree = λ from to. alike from to ∙ c.in_ok-rows.ensures.agree from to;
-      direct = λ is.
-          All-among (λ from to. has_place c.commons_of-commons.result to ≡ false) wires links (λ from to linked. sym (alike from to) ∙ linked)
-          (subst (λ (some : List Link). All (λ (link : Link). has_place c.commons_of-commons.result link.to ≡ false) some)
-          c.as_slice-2.ensures.value (c.leads_to_any-is_direct.ensures (not-true _ is)));
       told = c.in_ok-tellings.ensures;
-      first = λ none from to low high.
-          sym (c.in_ok-rows.ensures.agree from to) ∙ ap (λ (some : List Link). is_linked some from to) (sym c.as_slice-3.ensures.value)
-          ∙ c.leads_from_any-reads_first.ensures none from to low high;
-      second = λ none from to low high.
-          sym (c.in_ok-rows.ensures.agree from to) ∙ ap (λ (some : List Link). is_linked some from to) (sym c.as_slice-4.ensures.value)
-          ∙ c.leads_from_any-reads_second.ensures none from to low high;
+      planned =
+          subst (λ (some : List Link). ArePlansTo some c.in_ok-tellings.tellings.items 16 c.in_ok-plans.plans.items) c.as_slice-2.ensures.value
+          (subst (λ (some : List Telling). ArePlansTo c.as_slice-2.result.now some 16 c.in_ok-plans.plans.items) c.as_slice.ensures.value c.in_ok-plans.ensures);
+      begun = λ wiring. record {
+        links = links;
+        lead = lead;
+        exits = c.emitting_in_run_in.result;
+        emitting = c.emitting_in_run_in.ensures wiring;
+        parted =
+            subst (λ (some : List Link). AreParted CONTACTS some c.emitting_in_run_in.result c.in_ok-run_in.run_in) c.as_slice-3.ensures.value
+            c.in_ok-run_in.ensures;
+      };
+      straight =
+          runs-alike (is_linked links) (leads c.in_ok-rows.field-0.rows) c.in_ok-straight.straight c.in_ok-rows.ensures.agree
+          (subst (λ (some : List Link). IfSome c.in_ok-straight.straight (λ runs. AreRunsOf (is_linked some) runs.items))
+          c.as_slice-4.ensures.value c.in_ok-straight.ensures.runs);
+      direct =
+          subst (λ (some : List Link). IfSome c.in_ok-straight.straight (λ runs. All (λ (link : Link). has_place c.commons_of-commons.result link.to ≡ false) some))
+          c.as_slice-4.ensures.value c.in_ok-straight.ensures.apart;
     }

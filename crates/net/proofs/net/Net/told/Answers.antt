@@ -24,7 +24,7 @@ returns-in-Some c wiring is_net =
     c.told_through.ensures.last
     (λ orders are last.
     kind-told wiring (record { rows = rows }) c.args.cycle kind c.args.closed.now telling orders words branches is_inside
-    (wires-lead wiring (record { rows = rows }) c.self.inside.paths.wires is_inside c.self.invariant.parted.in_range c.self.invariant.agree)
+    (wires-lead wiring (record { rows = rows }) c.self.invariant.links is_inside c.self.invariant.lead.range c.self.invariant.lead.agree)
     (sym c.kind_of.ensures.kind ∙ c.in-Some.is) c.in-Some.ensures.few is c.words.ensures.words c.as_slice.ensures.value are last)
 
 pub returns-in-None : goal.returns-in-None

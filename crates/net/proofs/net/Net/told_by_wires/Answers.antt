@@ -17,7 +17,7 @@ returns-in-Some c wiring is_net closed =
     (found-if (AreToldBy wiring c.args.cycle closed) c.is_empty.result telling.base
     (λ empty.
     kind-told-by-wires wiring (record { rows = rows }) c.args.cycle kind closed telling is_inside
-    (wires-lead wiring (record { rows = rows }) c.self.inside.paths.wires is_inside c.self.invariant.parted.in_range c.self.invariant.agree)
+    (wires-lead wiring (record { rows = rows }) c.self.invariant.links is_inside c.self.invariant.lead.range c.self.invariant.lead.agree)
     (sym c.kind_of.ensures.kind ∙ c.in-Some.is) c.in-Some.ensures.few is (sym c.as_slice-branches.ensures.value ∙ none-of c.as_slice-branches.result.now (sym c.is_empty.ensures ∙ empty))))
 
 pub returns-in-None : goal.returns-in-None

@@ -1,5 +1,7 @@
 use Rattle.std.proofs.Common.{◌∙◌, List, Bool, ap, refl, sym, arith}
 use Rattle.net.specs.RowSets.{pictures_of}
+use Rattle.selectors.specs.Fields.{pilots_of}
+use Rattle.selectors.specs.PilotWords.{pilots_in}
 use Rattle.selectors.proofs.RowPickups.{pickups-read, rows-moving, rows-resting}
 use Rattle.selectors.proofs.pilots.Pilots.sense_rows.Goals as goal
 
@@ -10,9 +12,8 @@ pub returns-then-moves_pilots : goal.returns-then-moves_pilots
 returns-then-moves_pilots c =
     let pickups = c.pickups_in-self-inside.ensures ∙ pickups-read c.args.pictures.now c.from.result.now (c.from.ensures.sets 1605 refl) in
     rw (sym c.self.view_is)
-    (ap (λ (ps : List Bool). record { transferred = c.self.inside.transferred; picked_up = ps }) pickups
-    ∙ rows-moving c.args.cycle (pictures_of c.args.pictures.now)
-    (record { transferred = c.self.inside.transferred; picked_up = c.self.inside.picked_up })
+    (ap (λ (ps : List Bool). record { transferred = pilots_in c.self.inside.transferred; picked_up = ps }) pickups
+    ∙ rows-moving c.args.cycle (pictures_of c.args.pictures.now) (pilots_of c.self.inside)
     (sym c.moves_pilots.ensures ∙ c.if-moves_pilots.true))
 
 pub returns-else-moves_pilots : goal.returns-else-moves_pilots

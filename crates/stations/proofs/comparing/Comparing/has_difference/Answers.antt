@@ -9,16 +9,12 @@ use Rattle.stations.proofs.RowHubs.{no_difference}
 use Rattle.stations.proofs.comparing.Comparing.has_difference.Goals as goal
 
 -- where no position differs comparing emits nothing
-silent : (compared : Compared) → ((hub : Hub) → differences_emit compared.sets hub ≡ false) → (cycle : Cycle) (hub : Hub)
+silent : (compared : Compared) → ((hub : Hub) → false ≡ differences_emit compared hub) → (cycle : Cycle) (hub : Hub)
     → comparing_emits compared cycle K hub ≡ false
-silent compared none Card hub = none hub
+silent compared none Card hub = sym (none hub)
 silent compared none other hub = refl
 
 pub returns : goal.returns
 returns c same =
-    rw (← c.self.view_is)
-    (silent (record { sets = c.self.inside.sets })
-    (λ hub.
-    sym
-    (no_difference c.self.inside.sets c.low_thirty.result hub (grind (arith, nat_tests, same))
-    (λ k. rw (c.low_thirty.ensures k, c.from.ensures, c.differences.ensures k) refl))))
+    silent c.args.self.now
+    (λ hub. no_difference c.args.self.now c.differences.result hub (grind (arith, nat_tests, same)) c.differences.ensures)

@@ -1,21 +1,10 @@
-use Rattle.std.proofs.Common.{◌∙◌, ◌||◌, ap, sym}
-use Rattle.std.proofs.Math.Bool.{or-false}
+use Rattle.std.proofs.Common.{◌∙◌, ◌||◌, ap}
 use Rattle.card_code.specs.Rows.{passing_place}
 use Rattle.net.specs.HubRows.{has_row_at}
-use Rattle.stations.specs.Stations.{StationCards, second_emits}
-use Rattle.stations.proofs.ColumnSets.{second_columns, second_unseen}
+use Rattle.stations.proofs.ColumnSets.{second_columns}
 use Rattle.stations.proofs.stations.Stations.emit_second_rows.Goals as goal
 
-pub returns-then-is_seen : goal.returns-then-is_seen
-returns-then-is_seen c row hub =
-    rw c.if-is_seen.true
-    (c.insert_sets.ensures (passing_place row) hub
-    ∙ ap (λ b. has_row_at c.args.sets.now (passing_place row) hub || b)
-    (second_columns _ _ row hub c.columns_at.ensures
-    ∙ ap (λ (cards : StationCards). second_emits cards.second row hub) c.self.view_is))
-
-pub returns-else-is_seen : goal.returns-else-is_seen
-returns-else-is_seen c row hub =
-    rw c.if-is_seen.false
-    (sym (or-false (has_row_at c.args.sets.now (passing_place row) hub))
-    ∙ ap (λ b. has_row_at c.args.sets.now (passing_place row) hub || b) (sym (second_unseen row hub)))
+pub returns : goal.returns
+returns c row hub =
+    c.insert_sets.ensures (passing_place row) hub
+    ∙ ap (λ b. has_row_at c.args.sets.now (passing_place row) hub || b) (second_columns _ _ row hub c.second_columns.ensures)

@@ -1,0 +1,41 @@
+-- Plans: the paths of rows in each kind of cycle.
+use Rattle.std.specs.Prelude.{◌≡◌, ℕ, ◌+◌, ◌<◌, All, IfSome, List, Some, length, slice_index_or}
+use Rattle.bit_sets.specs.Rows.{leads}
+use Rattle.setups.specs.Wiring.{Wiring}
+use Rattle.spreads.specs.Links.{IsInRange, is_linked}
+use Rattle.spreads.specs.Paths.{AreParted, PathLinks}
+use Rattle.spreads.specs.declared.links.Link.{Link}
+use Rattle.net.specs.Kinds.{HasEmitting}
+use Rattle.net.specs.Nets.{IsNetOf, NetRows}
+use Rattle.net.specs.Tellings.{IsTelling}
+use Rattle.net.specs.Tells.{kind_of}
+use Rattle.net.specs.declared.contacts.TheConstants.{CONTACTS}
+use Rattle.net.specs.declared.cycle.Cycle.{Cycle}
+use Rattle.net.specs.declared.kinds.Plan.{Plan}
+use Rattle.net.specs.declared.tellings.Telling.{Telling}
+
+-- links lead on where rows do
+pub record AreLinks (rows : List (List ℕ)) (links : List Link) : Type 0 where
+  pub range : All IsInRange links
+  pub agree : (from to : ℕ) → is_linked links from to ≡ leads rows from to
+
+-- The paths are made of a net's wires from some exits. These hold all that may emit at the rows of a cycle.
+pub record Serves (wiring : Wiring) (net : NetRows) (cycle : Cycle) (paths : PathLinks) : Type 0 where
+  pub links : List Link
+  pub lead : AreLinks net.rows links
+  pub exits : List ℕ
+  pub emitting : HasEmitting wiring cycle (record { words = exits })
+  pub parted : AreParted CONTACTS links exits paths
+
+-- the paths of a plan, if it has any, serve the cycles of a kind
+abbrev pub IsPlanOf : List Link → ℕ → Telling → Plan → Type 0
+IsPlanOf links kind telling plan =
+    (wiring : Wiring) (rows : List (List ℕ)) (cycle : Cycle) → IsNetOf wiring (record { rows = rows }) → AreLinks rows links
+    → kind_of cycle ≡ Some kind → IsTelling rows (1024 + kind) telling → IfSome plan.paths (Serves wiring (record { rows = rows }) cycle)
+
+-- there is a plan for each of so many kinds
+pub record ArePlansTo (links : List Link) (tellings : List Telling) (count : ℕ) (plans : List Plan) : Type 0 where
+  pub long : length plans ≡ count
+  pub each :
+      (kind : ℕ) (telling : Telling) (plan : Plan) → kind < count
+      → IsPlanOf links kind (slice_index_or tellings kind telling) (slice_index_or plans kind plan)

@@ -1,0 +1,181 @@
+//! What may emit at the rows in each kind of cycle, whichever contacts are closed at its control point.
+
+ghost use Rattle.std.specs.Prelude.{◌≡◌, ℕ, ◌+◌, ◌<◌, ◌≤◌, All, List, Bool, IfOk, IfSome, Some, length, true};
+ghost use Rattle.spreads.specs.Links.{IsInRange};
+ghost use Rattle.net.specs.Plans.{ArePlansTo, IsPlanOf};
+ghost use Rattle.hubs.specs.declared.hub.Hub.{Hub};
+ghost use Rattle.setups.specs.Wiring.{LeadsToEntries, Wiring};
+ghost use Rattle.net.specs.Kinds.{HasEmitter, HasEmitting, HasGroups, HasOrders, HasUnits, HasUntold, KeepsHubs, MayBeTold, emitter_of};
+ghost use Rattle.net.specs.Nets.{IsNetOf};
+ghost use Rattle.net.specs.Orders.{AreOrdersOf};
+ghost use Rattle.net.specs.Tellings.{IsTelling};
+ghost use Rattle.net.specs.Tells.{kind_of};
+ghost use Rattle.net.specs.declared.cycle.Cycle.{Cycle};
+ghost use Rattle.net.specs.declared.cycle.Cycle.TheVariants.{RunIn};
+
+use crate::contacts::CONTACTS;
+use crate::orders::{FIRST_GROUP, Orders};
+use crate::picture::Picture;
+use crate::tellings::{Telling, told_through};
+use bit_sets::WORDS;
+use hubs::{Group, Hub};
+use spreads::{Link, Paths};
+use std::alloc::{AllocError, Global};
+
+// The paths of rows in a kind of cycle, unless more may be told there than is known.
+#[derive(Drop)]
+pub(crate) struct Plan {
+    pub(crate) paths: Option<Paths>,
+}
+
+// The plans of the cycles that these exits tell of, in their order.
+pub(crate) fn plans_of(
+    alloc: Global,
+    tellings: &[Telling],
+    links: &[Link],
+) -> Result<Vec<Plan>, AllocError>
+    requires range { All IsInRange links.now }
+    requires all { length tellings.now ≡ 16 }
+    ensures { IfOk result (λ plans. ArePlansTo links.now tellings.now 16 plans.items) }
+{
+    let mut plans = Vec::new(alloc);
+    for kind in 0..16 {
+        plans.push(plan_of(alloc, kind, &tellings[kind], links)?)?;
+    }
+    Ok(plans)
+}
+
+// The plan of a kind of cycle.
+fn plan_of(
+    alloc: Global,
+    kind: usize,
+    telling: &Telling,
+    links: &[Link],
+) -> Result<Plan, AllocError>
+    requires range { All IsInRange links.now }
+    requires kind { kind < 16 }
+    ensures { IfOk result (IsPlanOf links.now kind telling.now) }
+{
+    match emitting(kind, telling) {
+        Some(exits) => Ok(Plan {
+            paths: Some(Paths::of(alloc, &CONTACTS, links, &exits)?),
+        }),
+        None => Ok(Plan { paths: None }),
+    }
+}
+
+// The places of the exits that may emit at the rows in a kind of cycle. With all contacts closed everything is told that may be told. None
+// where an impulse may pass one contact and come to another, since more may be told then.
+pub(crate) fn emitting(kind: usize, telling: &Telling) -> Option<[u64; WORDS]>
+    requires { kind < 16 }
+    ensures { (wiring : Wiring) (rows : List (List ℕ)) (cycle : Cycle) → IsNetOf wiring (record { rows = rows }) → LeadsToEntries wiring
+        → kind_of cycle ≡ Some kind → IsTelling rows (1024 + kind) telling.now
+        → IfSome result (λ places. HasEmitting wiring cycle (record { words = places })) }
+{
+    let every = [u64::MAX; WORDS];
+    let orders = told_through(&telling.base, telling.branches.as_slice(), &every)?;
+    let told = told_hubs(&orders);
+    let exits = exits_of(kind, &told);
+    Some(exits.words)
+}
+
+// The places of those of the run-in, in which nothing is told.
+pub(crate) fn emitting_in_run_in() -> [u64; WORDS]
+    ensures { (wiring : Wiring) → HasEmitting wiring RunIn (record { words = result }) }
+{
+    let mut exits = Picture::new();
+    exits.insert_row(Hub::FR(1), (1 << 80) - 1);
+    exits.words
+}
+
+// The hubs that groups and storage units sense, where these orders are told.
+fn told_hubs(orders: &Orders) -> Picture
+    ensures { (picture : Hub → Bool) → AreOrdersOf picture orders.now → HasOrders (λ hub. picture hub ≡ true) result }
+{
+    let mut told = Picture::new();
+    told.insert_row(Hub::PL(FIRST_GROUP), orders.controls);
+    told.insert_row(Hub::SI(1), orders.storage);
+    told
+}
+
+// The exits that emit in a kind of cycle, where these hubs are told.
+fn exits_of(kind: usize, told: &Picture) -> Picture
+    requires { kind < 16 }
+    ensures { (wiring : Wiring) (cycle : Cycle) → kind_of cycle ≡ Some kind → HasOrders (MayBeTold wiring cycle) told.now
+        → HasEmitting wiring cycle result }
+{
+    let mut exits = untold_exits(kind);
+    insert_groups(&mut exits, told, 3);
+    insert_groups(&mut exits, told, 4);
+    insert_groups(&mut exits, told, 6);
+    insert_groups(&mut exits, told, 8);
+    insert_units(&mut exits, told);
+    exits
+}
+
+// Those that emit whatever is told. Cards pass the stations in card cycles.
+fn untold_exits(kind: usize) -> Picture
+    requires { kind < 16 }
+    ensures { (cycle : Cycle) → kind_of cycle ≡ Some kind → HasUntold cycle result }
+{
+    let mut exits = emitter_exits(kind);
+    if kind > 0 {
+        return exits;
+    }
+    let columns = (1 << 80) - 1;
+    exits.insert_row(Hub::FR(1), columns);
+    exits.insert_row(Hub::SR(1), columns);
+    exits
+}
+
+// Those of the emitter.
+fn emitter_exits(kind: usize) -> Picture
+    requires { kind < 16 }
+    ensures { (cycle : Cycle) → kind_of cycle ≡ Some kind → HasEmitter cycle result }
+{
+    let mut exits = Picture::new();
+    if let Some(emitter) = emitter_of(kind) {
+        exits.insert_row(Hub::EM(emitter, 0), 0xfff);
+    }
+    exits
+}
+
+// The emitter of a kind of cycle: 4 of card cycles, 5 to 8 of the third cycles of the levels, and 1 to 3 of the heading cycles.
+fn emitter_of(kind: usize) -> Option<u8>
+    requires { kind < 16 }
+    ensures { (cycle : Cycle) → kind_of cycle ≡ Some kind → result ≡ emitter_of cycle }
+{
+    if kind > 12 {
+        Some(kind as u8 - 12)
+    } else if kind % 3 == 0 {
+        Some(4 + kind as u8 / 3)
+    } else {
+        None
+    }
+}
+
+// Adds the exits of the groups of a width that are told to read out.
+fn insert_groups(exits: &mut Picture, told: &Picture, width: u8)
+    requires { width ≤ 8 }
+    ensures kept { KeepsHubs exits.old exits.new }
+    ensures groups { HasGroups width 9 told.now exits.new }
+{
+    for number in 1..=8 {
+        let group = Group { width, number };
+        if told.has(Hub::RO(group)) {
+            exits.insert_row(Hub::GX(group, 1), (1 << width) - 1);
+        }
+    }
+}
+
+// Adds the exits of the storage units that are told to read out.
+fn insert_units(exits: &mut Picture, told: &Picture)
+    ensures kept { KeepsHubs exits.old exits.new }
+    ensures units { HasUnits 5 told.now exits.new }
+{
+    for unit in 1..=4 {
+        if told.has(Hub::SO(unit)) {
+            exits.insert_row(Hub::SX(unit, 1), 0xffff);
+        }
+    }
+}

@@ -1,7 +1,0 @@
-use Rattle.spreads.proofs.BankLemmas.{far-more}
-use Rattle.spreads.proofs.banks.far_blocks.Goals as goal
-
-pub loop-eight-preserved : goal.loop-eight-preserved
-loop-eight-preserved c k d less =
-    far-more c.args.eights.now c.loop-eight.eight-index d _ c.loop-eight.blocks c.blocks_from-blocks.result c.loop-eight-test.true
-    (λ j low. c.loop-eight.invariant j d low) c.blocks_from-blocks.ensures (c.requires c.loop-eight.eight-index _ c.loop-eight-test.true) k less

@@ -1,0 +1,9 @@
+use Rattle.std.proofs.Common.{arith}
+use Rattle.stations.proofs.EntryLanes.{one-added}
+use Rattle.stations.proofs.comparing.add_row.Goals as goal
+
+pub loop-k-preserved : goal.loop-k-preserved
+loop-k-preserved c =
+    let below = c.loop-k-test.true in
+    one-added c.loop-k.k c.args.place c.args.impulsed c.from.result c.has_bit.result c.args.sets.now c.loop-k.sets (omega (arith, below))
+    c.requires c.has_bit.ensures c.from.ensures c.loop-k.invariant
