@@ -5,6 +5,7 @@ use Rattle.std.specs.List.{list_all}
 use Rattle.std.specs.Option.{option_map}
 use Rattle.std.proofs.lemmas.Grind.{common_steps}
 use Rattle.std.proofs.lemmas.Bool.{false≢true}
+use Rattle.std.proofs.lemmas.List.Folds.{list_all_at}
 use Rattle.std.proofs.lemmas.Bool.Decides.{eqb_tells, nat_tests}
 use Rattle.card_code.specs.CardCode.{character_in, rows_in}
 use Rattle.card_code.specs.Columns.{column_of, set_of_column, set-again}
@@ -60,6 +61,14 @@ lists-at pairs from (suc k) (set ∷ table) is inside =
 pub listed-right : (pairs : List (ℕ × ℕ)) (table : List ℕ) (byte : ℕ) → lists pairs 0 table ≡ true → length table ≡ 256 → byte < 256
     → option_map column_of (entry (slice_index table byte)) ≡ rows_in pairs byte
 listed-right pairs table byte lists_all long below = lists-at pairs 0 byte table lists_all (omega (arith, below, long)) ∙ ap (λ (c : ℕ). rows_in pairs c) (omega arith)
+
+-- what passes for a whole table passes for each entry
+pub all-at : (test : ℕ → Bool) (table : List ℕ) (k : ℕ) → list_all test table ≡ true → k < length table → test (slice_index table k) ≡ true
+all-at test table k all within = by (test (slice_index table k)) refl
+  where
+    by : (passes : Bool) → test (slice_index table k) ≡ passes → test (slice_index table k) ≡ true
+    by true is = is
+    by false is = absurd (false≢true (sym (list_all_at test table k 0 within is) ∙ all))
 
 -- pairs whose characters are all below 256 have no other
 pub outside : (pairs : List (ℕ × ℕ)) (character : ℕ) → list_all (λ pair. nat_lt pair.0 256) pairs ≡ true

@@ -2,7 +2,7 @@
 use Rattle.std.specs.Prelude.{◌≡◌, ℕ, ◌+◌, ◌-◌, ◌<◌, ◌≤◌, List, [], ◌∷◌, length, take, slice_index, slice_index_or, All, EachIndex, IsSome, Option, Some, None}
 use Rattle.std.specs.List.{AllZip}
 use Rattle.card_code.specs.MostCards.{most_cards}
-use Rattle.card_code.specs.CardCode.{rows_of}
+use Rattle.card_code.specs.CardCode.{deck_character, rows_of}
 use Rattle.card_code.specs.Lines.{lines_of}
 use Rattle.card_code.specs.declared.deck.DeckFault.{DeckFault}
 use Rattle.card_code.specs.declared.deck.DeckFault.TheVariants.{CardTooLong, NoSuchCharacter, TooManyCards, Memory}
@@ -13,6 +13,11 @@ fault_number (CardTooLong line) = Some 1
 fault_number (NoSuchCharacter line column) = Some 2
 fault_number TooManyCards = Some 3
 fault_number Memory = None
+
+-- what every card is: 80 columns, each with the rows of a deck character, if only of the blank; no card is punched with other rows
+pub record IsDeckCard (card : List ℕ) : Type 0 where
+  pub whole : length card ≡ 80
+  pub characters : (k : ℕ) → IsSome (deck_character (slice_index card k))
 
 -- the card of a line: each byte is punched in its column, and the columns after the line are blank
 pub record IsCardOf (line card : List ℕ) : Type 0 where

@@ -1,11 +1,16 @@
 //! A punched card.
 
-ghost use Rattle.std.specs.Prelude.{◌≡◌, ◌-◌, ◌≤◌, ℕ, List, length, replicate, slice_index, IfNone, IfSome};
-ghost use Rattle.card_code.specs.Deck.{IsCardOf, IsOddColumn, IsPunchable};
+ghost use Rattle.std.specs.Prelude.{◌≡◌, ◌+◌, ◌-◌, ◌<◌, ◌≤◌, ℕ, List, bit_and, length, replicate, slice_index, IfNone, IfSome, IsSome, true};
+ghost use Rattle.std.specs.Option.{option_map};
+ghost use Rattle.card_code.specs.CardCode.{deck_character, rows_of};
+ghost use Rattle.card_code.specs.Columns.{column_of};
+ghost use Rattle.card_code.specs.Deck.{IsCardOf, IsDeckCard, IsOddColumn, IsPunchable};
+ghost use Rattle.card_code.specs.Tables.{entry};
 
 use crate::code::{ALL_ROWS, listed_set};
 use crate::column::Column;
 use std::marker::Model;
+use std::simd::prelude::*;
 
 /// How many columns a card has.
 pub const CARD_COLUMNS: usize = 80;
@@ -23,7 +28,7 @@ impl Model for Card {
 
     ghost view = { λ card. card.columns };
 
-    ghost invariant = { λ card. length card.columns ≡ 80 };
+    ghost invariant = { λ card. IsDeckCard card.columns };
 
     ghost inverse = { λ columns. record { columns = columns } };
 }
@@ -47,13 +52,20 @@ impl Card {
         ensures odd { IfSome result (IsOddColumn line.now) }
     {
         *self = Card::blank();
-        let mut joined = 0;
-        for place in 0..line.len() {
+        let eights = line.len() / 8;
+        let mut joined = u16x8::splat(0);
+        for eight in 0..eights {
+            let sets = listed_sets(line, 8 * eight);
+            joined |= sets;
+            punch_eight(&mut self.columns, 8 * eight, sets);
+        }
+        let mut joined_rest = 0;
+        for place in 8 * eights..line.len() {
             let set = listed_set(line[place]);
-            joined |= set;
+            joined_rest |= set;
             self.columns[place] = Column::of_set(set & ALL_ROWS);
         }
-        if joined <= ALL_ROWS {
+        if have_rows_alone(joined) && joined_rest <= ALL_ROWS {
             None
         } else {
             odd_column(line)
@@ -64,6 +76,7 @@ impl Card {
     pub fn columns(&self) -> &[Column; CARD_COLUMNS]
         ensures columns { result.now ≡ self.now }
         ensures whole { length self.now ≡ 80 }
+        ensures characters { (k : ℕ) → IsSome (deck_character (slice_index self.now k)) }
     {
         &self.columns
     }
@@ -76,6 +89,48 @@ impl Card {
         ensures whole { length self.now ≡ 80 }
     {
         self.columns[column as usize - 1]
+    }
+}
+
+// The sets of the rows of eight bytes of a line, from one on.
+fn listed_sets(line: &[u8], first: usize) -> u16x8
+    requires { first + 8 ≤ length line.now }
+    ensures eight { length result ≡ 8 }
+    ensures rows { (k : ℕ) → k < 8 → option_map column_of (entry (slice_index result k)) ≡ rows_of (slice_index line.now (first + k)) }
+    ensures punched { (k : ℕ) → k < 8 → IsSome (deck_character (column_of (bit_and (slice_index result k) 4095))) }
+{
+    u16x8::from_array([
+        listed_set(line[first]),
+        listed_set(line[first + 1]),
+        listed_set(line[first + 2]),
+        listed_set(line[first + 3]),
+        listed_set(line[first + 4]),
+        listed_set(line[first + 5]),
+        listed_set(line[first + 6]),
+        listed_set(line[first + 7]),
+    ])
+}
+
+// Whether eight sets have no bit behind those of the rows.
+fn have_rows_alone(sets: u16x8) -> bool
+    requires { length sets ≡ 8 }
+    ensures { result ≡ true → (k : ℕ) → k < 8 → slice_index sets k < 4096 }
+{
+    sets.simd_gt(u16x8::splat(ALL_ROWS)).to_bitmask() == 0
+}
+
+// Punches the rows of eight sets in the columns from one on.
+fn punch_eight(columns: &mut [Column; CARD_COLUMNS], first: usize, sets: u16x8)
+    requires within { first + 8 ≤ 80 }
+    requires eight { length sets ≡ 8 }
+    ensures punched { (k : ℕ) → k < 8 → slice_index columns.new (first + k) ≡ column_of (bit_and (slice_index sets k) 4095) }
+    ensures before { (k : ℕ) → k < first → slice_index columns.new k ≡ slice_index columns.old k }
+    ensures behind { (k : ℕ) → first + 8 ≤ k → slice_index columns.new k ≡ slice_index columns.old k }
+    ensures whole { length columns.new ≡ 80 }
+{
+    let rows = (sets & u16x8::splat(ALL_ROWS)).to_array();
+    for k in 0..8 {
+        columns[first + k] = Column::of_set(rows[k]);
     }
 }
 

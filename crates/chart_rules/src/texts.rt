@@ -1,6 +1,6 @@
 //! The columns of a chart's texts, tested all at once.
 
-ghost use Rattle.std.specs.Prelude.{◌≡◌, ℕ, ◌+◌, ◌<◌, ◌≤◌, IsTrue, true, length, slice_index};
+ghost use Rattle.std.specs.Prelude.{◌≡◌, ℕ, ◌+◌, ◌<◌, ◌≤◌, IsSome, IsTrue, true, length, slice_index};
 ghost use Rattle.card_code.specs.CardCode.{deck_character};
 ghost use Rattle.card_code.specs.Columns.{column_of};
 ghost use Rattle.chart_rules.specs.ValidCard.{is_printed};
@@ -11,7 +11,7 @@ use charts::Field;
 /// Which columns of a card are columns of a chart's texts.
 ///
 /// Nearly all cards have print characters and blanks in all of them. So they are looked at together, without a branch for each column,
-/// and only where that does not show it the fields are asked one by one.
+/// and only if one has none the fields are asked one by one.
 #[derive(Drop)]
 pub(crate) struct TextColumns {
     // For each column all bits where it is one of a text.
@@ -45,14 +45,14 @@ impl TextColumns {
         }
     }
 
-    /// Whether it is plain that each of them has a print character or is blank.
+    /// Whether each of them has a print character or is blank.
     pub(crate) fn are_printed(&self, card: &Card) -> bool
         ensures { IsTrue result → ArePrinted self.now.masks self.now.end card.now }
     {
         let columns = card.columns();
         let mut unprinted = 0;
         for place in 0..self.end {
-            unprinted |= self.masks[place] & unprinted_rows(columns[place].set());
+            unprinted |= self.masks[place] & unprinted_bits(columns[place].set());
         }
         unprinted == 0
     }
@@ -71,17 +71,14 @@ pub(crate) fn mark(masks: &mut [u16; CARD_COLUMNS], first: u16, last: u16)
     }
 }
 
-// Places of rows that show why a set is no print character's and not blank; where there is none, it is one's, or blank.
-//
-// A print character has at most one of the rows 12, 11 and 0, and at most one of the rows 1 to 9, but for the row 8, which may stand with
-// row 3, or with row 4 where row 12 is not there.
-fn unprinted_rows(set: u16) -> u16
-    requires { set < 4096 }
+// The set of the rows 11 and 0, those of `!`: the only deck character that isn't printed.
+const EXCLAMATION_MARK: u16 = 0x0600;
+
+// All bits if a column of a card, which has the rows of a deck character, isn't printed, else none.
+fn unprinted_bits(set: u16) -> u16
+    requires small { set < 4096 }
+    requires character { IsSome (deck_character (column_of set)) }
     ensures { result ≡ 0 → is_printed (deck_character (column_of set)) ≡ true }
 {
-    // The rows 8, 4, 3 and 12 are at the places 1, 5, 6 and 11.
-    let lawful_eights = (set >> 5 | set >> 4 & !(set >> 10)) & 0x2;
-    let digits = set & 0x1ff & !lawful_eights;
-    let zones = set & 0xe00;
-    digits & digits.wrapping_sub(1) | zones & zones.wrapping_sub(1)
+    u16::from(set != EXCLAMATION_MARK).wrapping_sub(1)
 }
