@@ -30,7 +30,7 @@ use Rattle.print_unit.specs.Emitters.{emits_row, emitter_of, emitters_emit}
 use Rattle.stations.specs.Comparing.{Compared, comparing_emits, comparing_sensed}
 use Rattle.stations.specs.Stations.{StationCards, first_emits, second_emits, stations_emits}
 use Rattle.storage_units.specs.Storage.{StorageState, storage_emits, storage_sensed}
-use Rattle.machine.specs.AllRows.{RunsRows, apart}
+use Rattle.machine.specs.AllRows.{RunsRows}
 use Rattle.machine.specs.Cycles.{Reached, point_at}
 use Rattle.machine.specs.Machine.{MachineState, closes, emits, sensed}
 use Rattle.machine.specs.Fields.{AreInUnitOrder}
@@ -276,19 +276,15 @@ contacts-silent machine cycle sets emitted common hub contact at = (
   emitted at hub ∙ exit-silent machine cycle at common hub contact,
 )
 
--- what a picture tells at the entries that units sense at a row; that of wheels is given
-abbrev pub told : (ℕ → Bool) → (Hub → Bool) → Hub → Bool
-told wheels picture (CA position) = picture (CA position)
-told wheels picture (CB position) = picture (CB position)
-told wheels picture (GE group position) = picture (GE group position)
-told wheels picture (SE unit column) = picture (SE unit column)
-told wheels picture (PIX pilot) = picture (PIX pilot)
-told wheels picture (W wheel) = wheels wheel
-told wheels picture other = false
-
--- the same with the wheels of the picture
+-- what a picture tells at the entries that units sense at a row
 abbrev heard : (Hub → Bool) → Hub → Bool
-heard picture = told (λ wheel. picture (W wheel)) picture
+heard picture (CA position) = picture (CA position)
+heard picture (CB position) = picture (CB position)
+heard picture (GE group position) = picture (GE group position)
+heard picture (SE unit column) = picture (SE unit column)
+heard picture (PIX pilot) = picture (PIX pilot)
+heard picture (W wheel) = picture (W wheel)
+heard picture other = false
 
 -- the units sense no more than that at a row
 wheels-heard : (v : ℕ) (at : CardRow) (picture : Hub → Bool) (wheels : List Wheel)
@@ -297,33 +293,31 @@ wheels-heard v at picture [] = refl
 wheels-heard v at picture (wheel ∷ others) =
     ap (λ (rest : List Wheel). wheel_sensed at (picture (W v)) wheel ∷ rest) (wheels-heard (v + 1) at picture others)
 
-compared-told : (compared : Compared) (cycle : Cycle) (at : CardRow) (wheels : ℕ → Bool) (picture : Hub → Bool)
-    → comparing_sensed compared cycle (Row at) picture ≡ comparing_sensed compared cycle (Row at) (told wheels picture)
-compared-told compared RunIn at wheels picture = refl
-compared-told compared Card at wheels picture = refl
-compared-told compared (Prog level ordinal) at wheels picture = refl
-compared-told compared (Head heading) at wheels picture = refl
+compared-heard : (compared : Compared) (cycle : Cycle) (at : CardRow) (picture : Hub → Bool)
+    → comparing_sensed compared cycle (Row at) picture ≡ comparing_sensed compared cycle (Row at) (heard picture)
+compared-heard compared RunIn at picture = refl
+compared-heard compared Card at picture = refl
+compared-heard compared (Prog level ordinal) at picture = refl
+compared-heard compared (Head heading) at picture = refl
 
-program-told : (program : ProgramState) (cycle : Cycle) (at : CardRow) (wheels : ℕ → Bool) (picture : Hub → Bool)
-    → program_sensed program cycle (Row at) picture ≡ program_sensed program cycle (Row at) (told wheels picture)
-program-told program RunIn at wheels picture = refl
-program-told program Card at wheels picture = refl
-program-told program (Prog level ordinal) at wheels picture = refl
-program-told program (Head heading) at wheels picture = refl
-
-apart-told : (machine : MachineState) (cycle : Cycle) (at : CardRow) (wheels : ℕ → Bool) (picture : Hub → Bool)
-    → apart machine cycle (Row at) picture ≡ apart machine cycle (Row at) (told wheels picture)
-apart-told machine cycle at wheels picture =
-    let comparing = compared-told machine.comparing cycle at wheels picture in
-    let program = program-told machine.program cycle at wheels picture in
-    λ i. record (apart machine cycle (Row at) picture) { comparing = comparing i; program = program i }
+program-heard : (program : ProgramState) (cycle : Cycle) (at : CardRow) (picture : Hub → Bool)
+    → program_sensed program cycle (Row at) picture ≡ program_sensed program cycle (Row at) (heard picture)
+program-heard program RunIn at picture = refl
+program-heard program Card at picture = refl
+program-heard program (Prog level ordinal) at picture = refl
+program-heard program (Head heading) at picture = refl
 
 sensed-heard : (machine : MachineState) (cycle : Cycle) (at : CardRow) (picture : Hub → Bool)
     → sensed machine cycle (Row at) picture ≡ sensed machine cycle (Row at) (heard picture)
 sensed-heard machine cycle at picture =
-    let others = apart-told machine cycle at (λ wheel. picture (W wheel)) picture in
+    let comparing = compared-heard machine.comparing cycle at picture in
+    let program = program-heard machine.program cycle at picture in
     let wheels = wheels-heard 1 at picture machine.wheels.wheels in
-    λ i. record (others i) { wheels = record machine.wheels { wheels = wheels i } }
+    λ i. record (sensed machine cycle (Row at) picture) {
+      comparing = comparing i;
+      program = program i;
+      wheels = record machine.wheels { wheels = wheels i };
+    }
 
 -- rows one after another, where each does the same
 pub rows-alike : {State : Type 0} (sense : State → Cycle → Point → (Hub → Bool) → State) (cycle : Cycle) (one other : Point → Hub → Bool)
@@ -414,45 +408,20 @@ units-emit machine cycle at hub =
     ends false false false true = refl
     ends false false false false = refl
 
--- the machine after all rows
-pub units-sensed : (cycle : Cycle) (pictures : Point → Hub → Bool) (old new : MachineState)
-    → new.stations ≡ old.stations → new.comparing ≡ after_rows comparing_sensed cycle pictures old.comparing
-    → new.groups ≡ map (λ group. after_rows counter_sensed cycle pictures group) old.groups
-    → new.storage ≡ map (λ unit. after_rows storage_sensed cycle pictures unit) old.storage
-    → new.pilots ≡ after_rows pilots_sensed cycle pictures old.pilots → new.indicate ≡ old.indicate
-    → new.splits ≡ old.splits → new.emitters ≡ old.emitters → new.wheels ≡ after_rows wheels_sensed cycle pictures old.wheels
-    → new.carriage ≡ old.carriage → new.program ≡ old.program → new ≡ after_rows sensed cycle pictures old
-units-sensed cycle pictures old new stations comparing groups storage pilots indicate splits emitters wheels carriage program =
-    let all_groups = groups ∙ each-after counter_sensed cycle pictures (map Row rows) old.groups in
-    let all_storage = storage ∙ each-after storage_sensed cycle pictures (map Row rows) old.storage in
-    let program_stays = program ∙ program-rows cycle pictures old.program in
-    λ i. record {
-      stations = stations i;
-      comparing = comparing i;
-      groups = all_groups i;
-      storage = all_storage i;
-      pilots = pilots i;
-      indicate = indicate i;
-      splits = splits i;
-      emitters = emitters i;
-      wheels = wheels i;
-      carriage = carriage i;
-      program = program_stays i;
+-- the machine after all rows, where groups and storage units sense them first
+pub units-sensed : (cycle : Cycle) (pictures : Point → Hub → Bool) (old mid : MachineState)
+    → mid ≡ record old {
+      groups = map (λ group. after_rows counter_sensed cycle pictures group) old.groups;
+      storage = map (λ unit. after_rows storage_sensed cycle pictures unit) old.storage;
     }
-
--- all units but the wheels after all rows, and then the wheels
-pub apart-whole : (cycle : Cycle) (pictures : Point → Hub → Bool) (machine : MachineState)
-    → record (after_rows apart cycle pictures machine) { wheels = after_rows wheels_sensed cycle pictures machine.wheels }
-    ≡ after_rows sensed cycle pictures machine
-apart-whole cycle pictures machine = refl
-
--- pictures that tell the same but to the wheels
-pub rows-apart : (cycle : Cycle) (one other : Point → Hub → Bool)
-    → ((at : CardRow) (hub : Hub) → told (λ wheel. false) (one (Row at)) hub ≡ told (λ wheel. false) (other (Row at)) hub) → (machine : MachineState)
-    → after_rows apart cycle one machine ≡ after_rows apart cycle other machine
-rows-apart cycle one other same machine = rows-alike apart cycle one other step rows machine where
-  step : (at : CardRow) (m : MachineState) → apart m cycle (Row at) (one (Row at)) ≡ apart m cycle (Row at) (other (Row at))
-  step at m =
-      let told-same : ◌≡◌ {A = Hub → Bool} (told (λ wheel. false) (one (Row at))) (told (λ wheel. false) (other (Row at))) = λ i hub. same at hub i in
-      apart-told m cycle at (λ wheel. false) (one (Row at)) ∙ ap (λ (picture : Hub → Bool). apart m cycle (Row at) picture) told-same
-      ∙ sym (apart-told m cycle at (λ wheel. false) (other (Row at)))
+    → record mid {
+      comparing = after_rows comparing_sensed cycle pictures mid.comparing;
+      pilots = after_rows pilots_sensed cycle pictures mid.pilots;
+      wheels = after_rows wheels_sensed cycle pictures mid.wheels;
+    }
+    ≡ after_rows sensed cycle pictures old
+units-sensed cycle pictures old mid is =
+    let groups = ap (λ (m : MachineState). m.groups) is ∙ each-after counter_sensed cycle pictures (map Row rows) old.groups in
+    let storage = ap (λ (m : MachineState). m.storage) is ∙ each-after storage_sensed cycle pictures (map Row rows) old.storage in
+    let program = ap (λ (m : MachineState). m.program) is ∙ program-rows cycle pictures old.program in
+    λ i. record (after_rows sensed cycle pictures (is i)) { groups = groups i; storage = storage i; program = program i }

@@ -1,11 +1,12 @@
 -- Columns that come straight to wheels: the picture of each row, and that no unit but the wheels senses any of it.
-use Rattle.std.proofs.Common.{◌≡◌, ◌∙◌, refl, sym, ap, inl, inr, subst, ℕ, suc, ◌+◌, ◌&&◌, ◌||◌, Bool, true, false, List, arith}
+use Rattle.std.proofs.Common.{◌≡◌, ◌∙◌, refl, sym, ap, inl, inr, subst, ℕ, suc, ◌+◌, ◌&&◌, ◌||◌, Bool, true, false, List, map, arith}
 use Rattle.std.proofs.lemmas.Bool.{and_from, and_parts, false≢true, or_cases, or_left, or_right}
-use Rattle.card_code.specs.Rows.{passing_place}
+use Rattle.card_code.specs.Rows.{passing_place, rows}
 use Rattle.card_code.specs.declared.row.Row.{Row as CardRow}
+use Rattle.counters.specs.Counters.{counter_sensed}
 use Rattle.hubs.specs.Hubs.{is_hub_in_range}
 use Rattle.hubs.specs.declared.hub.Hub.{Hub}
-use Rattle.hubs.specs.declared.hub.Hub.TheVariants.{CA, CB, CC, GE, HX, PIX, PX, SE, SR, W}
+use Rattle.hubs.specs.declared.hub.Hub.TheVariants.{CC, HX, PX, SR, W}
 use Rattle.setups.specs.Wiring.{HasWire, Wiring}
 use Rattle.net.proofs.ImpulsedLaws.{wires_make}
 use Rattle.net.proofs.StraightRows.{brought-listed, brought-wired}
@@ -19,10 +20,10 @@ use Rattle.net.specs.declared.cycle.Point.{Point}
 use Rattle.net.specs.declared.cycle.Point.TheVariants.{Row}
 use Rattle.net.specs.declared.straight.Straight.{Straight}
 use Rattle.stations.specs.Punches.{AreColumnsAt}
-use Rattle.print_unit.specs.Wheels.{wheels_sensed}
-use Rattle.machine.specs.AllRows.{RunsRows, apart}
+use Rattle.storage_units.specs.Storage.{storage_sensed}
+use Rattle.machine.specs.AllRows.{RunsRows}
 use Rattle.machine.specs.Machine.{MachineState, closes, emits, sensed}
-use Rattle.machine.proofs.AllRows.{apart-whole, common-silent, none-emitted, rows-apart, rows-heard, rows-reached, stations-alone, told, whole-heard}
+use Rattle.machine.proofs.AllRows.{common-silent, none-emitted, rows-alike, rows-heard, rows-reached, stations-alone, whole-heard}
 
 -- what comes to the wheels at the points of rows
 abbrev pub brings : List ℕ → List Straight → Point → Hub → Bool
@@ -85,24 +86,24 @@ module _ (wiring : Wiring) (runs : List Straight) (columns : List ℕ) (machine 
         ],
       ))
 
--- where the wheels alone take what is brought, and the others sense silence, all sense what is brought
-pub straight-sensed : (runs : List Straight) (columns : List ℕ) (silence : Point → Hub → Bool) (old new : MachineState)
+-- groups and storage units sense no difference between silence and what is brought to wheels
+pub brought-silent : (runs : List Straight) (columns : List ℕ) (silence : Point → Hub → Bool) (machine : MachineState)
     → ((at : CardRow) (hub : Hub) → silence (Row at) hub ≡ false)
-    → new ≡ record (after_rows apart Card silence old) { wheels = after_rows wheels_sensed Card (brings columns runs) old.wheels }
-    → new ≡ after_rows sensed Card (brings columns runs) old
-straight-sensed runs columns silence old new silent is =
-    is
-    ∙ ap (λ (m : MachineState). record m { wheels = after_rows wheels_sensed Card (brings columns runs) old.wheels })
-    (rows-apart Card silence (brings columns runs) as-silent old)
-    ∙ apart-whole Card (brings columns runs) old
-  where
-    as-silent : (at : CardRow) (hub : Hub) → told (λ wheel. false) (silence (Row at)) hub ≡ told (λ wheel. false) (brings columns runs (Row at)) hub
-    as-silent at (CA position) = silent at (CA position)
-    as-silent at (CB position) = silent at (CB position)
-    as-silent at (GE group position) = silent at (GE group position)
-    as-silent at (SE unit column) = silent at (SE unit column)
-    as-silent at (PIX pilot) = silent at (PIX pilot)
-    as-silent at other = refl
+    → ◌≡◌ {A = MachineState}
+    (record machine {
+      groups = map (λ group. after_rows counter_sensed Card silence group) machine.groups;
+      storage = map (λ unit. after_rows storage_sensed Card silence unit) machine.storage;
+    })
+    (record machine {
+      groups = map (λ group. after_rows counter_sensed Card (brings columns runs) group) machine.groups;
+      storage = map (λ unit. after_rows storage_sensed Card (brings columns runs) unit) machine.storage;
+    })
+brought-silent runs columns silence machine silent =
+    let group = rows-alike counter_sensed Card silence (brings columns runs)
+    (λ at state i. counter_sensed state Card (Row at) (λ hub. silent at hub i)) rows in
+    let unit = rows-alike storage_sensed Card silence (brings columns runs)
+    (λ at state i. storage_sensed state Card (Row at) (λ hub. silent at hub i)) rows in
+    λ i. record machine { groups = map (λ g. group g i) machine.groups; storage = map (λ u. unit u i) machine.storage }
 
 -- so the rows are run
 pub straight-run : (wiring : Wiring) (runs : List Straight) (columns : List ℕ) (old : MachineState) → AreStraight wiring runs

@@ -207,14 +207,16 @@ impl Units {
     }
 
     // The points of the rows in a card cycle, where columns of the card at second reading come straight to wheels, and no other wire carries
-    // rows. All other units sense silence.
+    // rows. All other units sense silence: counter groups and storage units by sets without rows.
     fn run_straight_rows(&mut self, runs: &[Straight], silence: &RowSets)
         requires inside { All IsInside runs.now }
         requires silent { (row : ℕ) (hub : Hub) → has_row_at silence.now row hub ≡ false }
         ensures ran { (wiring : Wiring) → AreStraight wiring runs.now → LeadsToNoContact wiring → RunsRows wiring Card self.old self.new }
         ensures keeps { Keeps Card self.old self.new }
     {
-        self.sense_rows_apart(Cycle::Card, silence);
+        self.sense_groups_and_storage(Cycle::Card, silence);
+        self.all.comparing.sense_no_rows();
+        self.all.pilots.sense_no_rows(Cycle::Card);
         self.all
             .wheels
             .receive_columns(runs, self.all.stations.second_columns());

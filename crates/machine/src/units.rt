@@ -34,12 +34,13 @@ impl Model for Units {
 }
 
 impl Units {
-    ghost use Rattle.std.specs.Prelude.{◌≡◌, Bool};
+    ghost use Rattle.std.specs.Prelude.{◌≡◌, Bool, map};
     ghost use Rattle.hubs.specs.declared.hub.Hub.{Hub};
     ghost use Rattle.net.specs.HubSets.{GainsHubs, has_hub};
     ghost use Rattle.net.specs.Orders.{AreOrdersOf};
     ghost use Rattle.net.specs.declared.cycle.Cycle.{Cycle};
-    ghost use Rattle.machine.specs.AllRows.{apart};
+    ghost use Rattle.counters.specs.Counters.{counter_sensed};
+    ghost use Rattle.storage_units.specs.Storage.{storage_sensed};
     ghost use Rattle.machine.specs.Fields.{AreInUnitOrder};
     ghost use Rattle.machine.specs.Machine.{machine_at_start, emits, sensed, ended};
     ghost use Rattle.net.specs.RowSets.{GainsRows, after_rows, pictures_of};
@@ -108,18 +109,21 @@ impl Units {
     pub(crate) fn sense_rows(&mut self, cycle: Cycle, pictures: &RowSets)
         ensures { self.new ≡ after_rows sensed cycle (pictures_of pictures.now) self.old }
     {
-        self.sense_rows_apart(cycle, pictures);
+        self.sense_groups_and_storage(cycle, pictures);
+        self.all.comparing.sense_rows(cycle, pictures);
+        self.all.pilots.sense_rows(cycle, pictures);
         self.all.wheels.sense_rows(cycle, pictures);
     }
 
-    // Each unit but the wheels senses the points of all rows at once.
-    pub(crate) fn sense_rows_apart(&mut self, cycle: Cycle, pictures: &RowSets)
-        ensures { self.new ≡ after_rows apart cycle (pictures_of pictures.now) self.old }
+    // Counter groups and storage units sense the points of all rows at once.
+    pub(crate) fn sense_groups_and_storage(&mut self, cycle: Cycle, pictures: &RowSets)
+        ensures { self.new ≡ record self.old {
+          groups = map (λ group. after_rows counter_sensed cycle (pictures_of pictures.now) group) self.old.groups;
+          storage = map (λ unit. after_rows storage_sensed cycle (pictures_of pictures.now) unit) self.old.storage;
+        } }
     {
-        self.all.comparing.sense_rows(cycle, pictures);
         sense_group_rows(&mut self.all.groups, self.busy, cycle, pictures);
         sense_storage_rows(&mut self.all.storage, cycle, pictures);
-        self.all.pilots.sense_rows(cycle, pictures);
     }
 
     // Each unit ends the cycle.

@@ -92,7 +92,7 @@ impl Pilots {
         }
     }
 
-    /// Senses the points of all rows at once, where no pickup is impulsed at row 11.
+    /// Senses the points of all rows at once, if no pickup is impulsed at row 11.
     pub fn sense_no_rows(&mut self, cycle: Cycle)
         ensures { (pictures : Point → Hub → Bool) → HaveNoPickups pictures → self.new ≡ after_rows pilots_sensed cycle pictures self.old }
     {

@@ -21,7 +21,7 @@ use Rattle.net.specs.declared.cycle.Cycle.{Cycle}
 use Rattle.net.specs.declared.cycle.Cycle.TheVariants.{RunIn, Card, Prog, Head}
 use Rattle.net.specs.declared.cycle.Point.{Point}
 use Rattle.net.specs.declared.cycle.Point.TheVariants.{Row}
-use Rattle.stations.specs.Comparing.{Compared, after_row, comparing_sensed, with_row}
+use Rattle.stations.specs.Comparing.{Compared, HaveNoEntries, after_row, comparing_sensed, with_row}
 use Rattle.stations.proofs.RowHubs.{first-number, row_bit, second-number}
 
 -- a set after the points of some rows, by whether its entry is impulsed there
@@ -183,3 +183,22 @@ other-cycle RunIn pictures compared other = refl
 other-cycle Card pictures compared other = absurd (other refl)
 other-cycle (Prog level ordinal) pictures compared other = refl
 other-cycle (Head heading) pictures compared other = refl
+
+-- the sets are as they were, where no entry is impulsed
+none-collected : (is_impulsed : CardRow → ℕ → Bool) (sets : List ℕ) → length sets ≡ 32 → ((at : CardRow) (p : ℕ) → is_impulsed at p ≡ false)
+    → take 30 sets ≡ sets_after rows is_impulsed (take 30 sets)
+none-collected is_impulsed sets long none =
+    rows-collected is_impulsed [] sets sets long
+    (λ k row low. grind (arith, is_bit-zero row))
+    (λ at k low. is_bit-zero (passing_place at) ∙ sym (none at (suc k)))
+
+-- comparing after the points of all rows, where no entry is impulsed
+pub no-rows : (cycle : Cycle) (pictures : Point → Hub → Bool) (first second : List ℕ) → length first ≡ 32 → length second ≡ 32
+    → HaveNoEntries pictures
+    → ◌≡◌ {A = Compared} (record { first = take 30 first; second = take 30 second })
+    (after_rows comparing_sensed cycle pictures (record { first = take 30 first; second = take 30 second }))
+no-rows Card pictures first second long also none =
+    let one = none-collected (λ at p. pictures (Row at) (CA p)) first long (λ at p. grind (arith, none at p)) in
+    let other = none-collected (λ at p. pictures (Row at) (CB p)) second also (λ at p. grind (arith, none at p)) in
+    λ i. record { first = one i; second = other i }
+no-rows other pictures first second long also none = refl

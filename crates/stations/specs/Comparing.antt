@@ -1,8 +1,9 @@
 -- Comparing: in a card cycle each of the 60 entries collects the row points at which it is impulsed, and at the closing point a
 -- position emits where the sets of points of its two entries differ. The end of every cycle makes comparing forget them.
-use Rattle.std.specs.Prelude.{ℕ, suc, ◌-◌, ◌^◌, ◌==◌, ◌&&◌, not, Bool, true, false, List, map, replicate, if◌then◌else◌, slice_index_or, bit_or}
+use Rattle.std.specs.Prelude.{◌≡◌, ℕ, suc, ◌-◌, ◌^◌, ◌==◌, ◌&&◌, ◌||◌, not, Bool, true, false, List, map, replicate, if◌then◌else◌, slice_index_or, bit_or}
 use Rattle.std.specs.List.{range_with_len}
 use Rattle.card_code.specs.Rows.{passing_place}
+use Rattle.card_code.specs.declared.row.Row.{Row as CardRow}
 use Rattle.hub_table.specs.Ranges.{is_within}
 use Rattle.hubs.specs.declared.hub.Hub.{Hub}
 use Rattle.hubs.specs.declared.hub.Hub.TheVariants.{CX, CA, CB}
@@ -60,6 +61,10 @@ comparing_sensed compared Card (Row row) picture = record {
   second = after_row (passing_place row) (λ p. picture (CB p)) compared.second;
 }
 comparing_sensed compared cycle point picture = compared
+
+-- In these pictures no entry of comparing is impulsed at a row.
+abbrev pub HaveNoEntries : (Point → Hub → Bool) → Type 0
+HaveNoEntries pictures = (row : CardRow) (p : ℕ) → (pictures (Row row) (CA p) || pictures (Row row) (CB p)) ≡ false
 
 -- every end of a cycle makes comparing forget
 abbrev pub comparing_ended : Compared → Cycle → Compared

@@ -40,13 +40,14 @@ impl Model for Comparing {
 }
 
 impl Comparing {
-    ghost use Rattle.std.specs.Prelude.{◌≡◌, ℕ, ◌&&◌, nat_lt, false};
+    ghost use Rattle.std.specs.Prelude.{◌≡◌, ℕ, ◌&&◌, nat_lt, Bool, false};
     ghost use Rattle.hubs.specs.declared.hub.Hub.{Hub};
     ghost use Rattle.net.specs.HubSets.{is_bit};
     ghost use Rattle.net.specs.RowSets.{after_rows, pictures_of};
     ghost use Rattle.net.specs.declared.cycle.Cycle.{Cycle};
+    ghost use Rattle.net.specs.declared.cycle.Point.{Point};
     ghost use Rattle.net.specs.declared.cycle.Point.TheVariants.{K};
-    ghost use Rattle.stations.specs.Comparing.{comparing_at_start, comparing_emits, comparing_sensed, differ_at};
+    ghost use Rattle.stations.specs.Comparing.{HaveNoEntries, comparing_at_start, comparing_emits, comparing_sensed, differ_at};
 
     /// Comparing with nothing collected.
     pub fn new() -> Self
@@ -73,6 +74,15 @@ impl Comparing {
             add_rows(&mut self.first, pictures.from(Hub::CA(1)));
             add_rows(&mut self.second, pictures.from(Hub::CB(1)));
         }
+    }
+
+    /// Senses the points of all rows at once, if no entry is impulsed: nothing is collected.
+    pub fn sense_no_rows(&self)
+        ensures { (cycle : Cycle) (pictures : Point → Hub → Bool) → HaveNoEntries pictures
+            → self.now ≡ after_rows comparing_sensed cycle pictures self.now }
+    {
+        // How many sets there are the prover learns only where they are used.
+        let _sets = &self.first;
     }
 
     // The positions that differ: bit k stands for the position k + 1.

@@ -1,13 +1,11 @@
-use Rattle.std.proofs.Common.{ap, refl, subst, sym}
-use Rattle.net.specs.RowSets.{after_rows, pictures_of}
-use Rattle.print_unit.specs.Wheels.{wheels_sensed}
+use Rattle.std.proofs.Common.{subst, sym}
+use Rattle.net.specs.RowSets.{pictures_of}
 use Rattle.machine.specs.Fields.{machine_in}
 use Rattle.machine.specs.Machine.{MachineState}
 use Rattle.machine.specs.Noted.{IsNoted}
-use Rattle.machine.proofs.AllRows.{units-sensed}
 use Rattle.machine.proofs.KeptLatches.{rows-kept}
 use Rattle.machine.proofs.RestingRows.{rows-in_order, storage-rows}
-use Rattle.machine.proofs.units.Units.sense_rows_apart.Goals as goal
+use Rattle.machine.proofs.units.Units.sense_groups_and_storage.Goals as goal
 
 pub sense_group_rows-requires : goal.sense_group_rows-requires
 sense_group_rows-requires c = (subst IsNoted (sym c.self-inside.view_is) c.self.invariant).busy
@@ -38,16 +36,5 @@ invariant_of-self c =
 pub returns : goal.returns
 returns c =
     let old : MachineState = machine_in c.self-inside.inside.0.0 in
-    let cycle = c.args.cycle in
-    let pictures = pictures_of c.args.pictures.now in
-    let new : MachineState = record old {
-      comparing = c.sense_rows.new.self;
-      groups = c.sense_group_rows.new.groups;
-      storage = c.sense_storage_rows.new.storage;
-      pilots = c.sense_rows-2.new.self;
-      wheels = after_rows wheels_sensed cycle pictures old.wheels;
-    } in
     rw (← c.self.view_is, ← c.self-inside.view_is)
-    (ap (λ (m : MachineState). record m { wheels = old.wheels })
-    (units-sensed cycle pictures old new refl c.sense_rows.ensures c.sense_group_rows.ensures.sensed
-    c.sense_storage_rows.ensures c.sense_rows-2.ensures refl refl refl refl refl refl))
+    (λ i. record old { groups = c.sense_group_rows.ensures.sensed i; storage = c.sense_storage_rows.ensures i })
