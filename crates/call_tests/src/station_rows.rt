@@ -1,4 +1,4 @@
-//! The rows of the cards at the stations, and the positions that comparing finds to differ.
+//! The rows of the cards at the stations, and what comparing collected and finds to differ.
 
 use card_code::{Row, read_deck};
 use hubs::Hub;
@@ -43,16 +43,20 @@ fn picture(hubs: &[Hub]) -> Picture {
     picture
 }
 
-/// Rows with the entries that are impulsed at their points, and the positions that differ from there on.
+/// Rows with the entries that are impulsed at their points, the positions that are collected there at CA and at CB, and those that differ from
+/// there on.
 #[rattlefmt::skip]
-static COMPARED: [(Row, &[Hub], u128); 4] = [
-    (Row::Nine, &[Hub::CA(1), Hub::CB(1), Hub::CB(30)], 1 << 29),
-    (Row::Zero, &[Hub::CA(30), Hub::W(1)], 1 << 29),
-    (Row::Eleven, &[Hub::CB(1)], 1 << 29 | 1 << 0),
-    (Row::Twelve, &[Hub::CA(2), Hub::CA(3), Hub::CB(3)], 1 << 29 | 1 << 1 | 1 << 0),
+static COMPARED: [(Row, &[Hub], (u32, u32), u128); 4] = [
+    (Row::Nine, &[Hub::CA(1), Hub::CB(1), Hub::CB(30)], (1 << 0, 1 << 0 | 1 << 29), 1 << 29),
+    (Row::Zero, &[Hub::CA(30), Hub::W(1)], (1 << 29, 0), 1 << 29),
+    (Row::Eleven, &[Hub::CB(1)], (0, 1 << 0), 1 << 29 | 1 << 0),
+    (Row::Twelve, &[Hub::CA(2), Hub::CA(3), Hub::CB(3)], (1 << 1 | 1 << 2, 1 << 2), 1 << 29 | 1 << 1 | 1 << 0),
 ];
 
-// The positions that comparing tells to differ.
+/// Nothing is collected at any row.
+const NOTHING: [(u32, u32); 12] = [(0, 0); 12];
+
+// The positions that comparing finds to differ.
 fn differing(comparing: &Comparing) -> u128 {
     let mut exits = Picture::new();
     comparing.emit(Cycle::Card, Point::K, &mut exits);
@@ -62,14 +66,27 @@ fn differing(comparing: &Comparing) -> u128 {
 #[test]
 fn positions_are_compared_row_by_row(rt: HostRuntime) {
     let mut comparing = Comparing::new();
-    for (row, hubs, _) in COMPARED {
+    for (row, hubs, _, _) in COMPARED {
         comparing.sense(Cycle::RunIn, Point::Row(row), &picture(hubs));
     }
-    assert!(rt; !comparing.has_difference() && differing(&comparing) == 0);
-    for (row, hubs, positions) in COMPARED {
+    assert!(rt;
+        comparing.sets() == NOTHING && !comparing.has_difference() && differing(&comparing) == 0
+    );
+    let mut expected = NOTHING;
+    for (row, hubs, collected, positions) in COMPARED {
         comparing.sense(Cycle::Card, Point::Row(row), &picture(hubs));
+        expected[row.place()] = collected;
+        assert!(rt; comparing.sets() == expected);
         assert!(rt; comparing.has_difference() && differing(&comparing) == positions);
     }
+    assert!(rt;
+        expected[0] == (1 << 0, 1 << 0 | 1 << 29)
+            && expected[9] == (1 << 29, 0)
+            && expected[10] == (0, 1 << 0)
+            && expected[11] == (1 << 1 | 1 << 2, 1 << 2)
+    );
     comparing.end_cycle(Cycle::Card);
-    assert!(rt; !comparing.has_difference() && differing(&comparing) == 0);
+    assert!(rt;
+        comparing.sets() == NOTHING && !comparing.has_difference() && differing(&comparing) == 0
+    );
 }

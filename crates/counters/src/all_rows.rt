@@ -14,7 +14,7 @@ ghost use Rattle.counters.specs.Shown.{shows_at};
 use crate::group::PLACES;
 use std::simd::prelude::*;
 
-// How many positions the groups before a unit have, from unit 3 to unit 34.
+// By unit, from 3 to 34.
 #[rattlefmt::skip]
 const BEFORE: [u8; 32] = [
     0, 3, 6, 9, 12, 15, 18, 21,

@@ -40,7 +40,7 @@ impl Units {
         self.end_cycle(cycle);
     }
 
-    // The points of a cycle. Where columns come straight to wheels no wire leads to a contact, and no closed one is looked for.
+    // The points of a cycle. If columns come straight to wheels no wire leads to a contact, and no closed one is looked for.
     pub(crate) fn run_points(&mut self, net: &Net, sets: &mut RowSets, cycle: Cycle)
         ensures reached { (wiring : Wiring) → IsNetOf wiring net.now → Reached wiring cycle 14 self.old self.new }
         ensures keeps { Keeps cycle self.old self.new }
@@ -52,7 +52,7 @@ impl Units {
         }
     }
 
-    // The points of a card cycle, where columns come straight to wheels.
+    // The points of a card cycle, if columns come straight to wheels.
     fn run_straight_points(&mut self, net: &Net, runs: &[Straight], silence: &mut RowSets)
         requires inside { All IsInside runs.now }
         requires straight { (wiring : Wiring) → IsNetOf wiring net.now → AreStraight wiring runs.now }
@@ -66,7 +66,7 @@ impl Units {
         self.run_closing(net, None, Cycle::Card);
     }
 
-    // The points of a cycle, where wires may lead to contacts. The closed ones have a function of their own, since room for them is cleared
+    // The points of a cycle, if wires may lead to contacts. The closed ones have a function of their own, since room for them is cleared
     // in the one that has them, whether they are asked for or not.
     fn run_led_points(&mut self, net: &Net, sets: &mut RowSets, cycle: Cycle)
         ensures reached { (wiring : Wiring) → IsNetOf wiring net.now → Reached wiring cycle 14 self.old self.new }
@@ -136,8 +136,8 @@ impl Units {
         }
     }
 
-    // The closing point, where nothing is impulsed. The program unit senses that, and the counter groups, in case a carry came in before. All
-    // other units stay as they are.
+    // The closing point, if nothing is impulsed. The program unit senses that, and so do the counter groups, since a carry may have come in
+    // before. All other units stay as they are.
     fn close_in_silence(&mut self, cycle: Cycle)
         requires { (exit : Hub) → emits self.old cycle K exit ≡ false }
         ensures step { (wiring : Wiring) → PointStep wiring cycle K self.old self.new }
@@ -149,9 +149,8 @@ impl Units {
         self.all.program.sense(cycle, Point::K, &silence);
     }
 
-    // The closing point, where something emits: comparing, or the groups that a carry leaves, a bit for each. Mostly no impulse comes to a
-    // contact there, as none does where no wire leads to one: so the closed contacts may be left out, and are looked for then alone where one
-    // comes.
+    // The closing point, if something emits: comparing, or the groups that a carry leaves, a bit for each. Mostly no impulse comes to a contact
+    // there: closed ones are looked for only if one does.
     fn close(&mut self, net: &Net, closed: Option<&Closed>, cycle: Cycle, carrying: u64)
         requires steady { ForSome closed (λ kept. AreSteady cycle kept.now self.old) }
         requires carrying { (k : ℕ) → is_bit carrying k ≡ slice_index_or (carries_of self.old.groups) k false }
@@ -206,7 +205,7 @@ impl Units {
         }
     }
 
-    // The points of the rows in a card cycle, where columns of the card at second reading come straight to wheels, and no other wire carries
+    // The points of the rows in a card cycle, if columns of the card at second reading come straight to wheels, and no other wire carries
     // rows. All other units sense silence: counter groups and storage units by sets without rows.
     fn run_straight_rows(&mut self, runs: &[Straight], silence: &RowSets)
         requires inside { All IsInside runs.now }
@@ -222,7 +221,8 @@ impl Units {
             .receive_columns(runs, self.all.stations.second_columns());
     }
 
-    // The points of the rows. They are taken all at once where no impulse passes one contact behind another, else one by one.
+    // The points of the rows, all at once. They are taken one by one if an impulse passes one contact behind another, or may do so at the
+    // control point.
     fn run_rows(&mut self, net: &Net, closed: &Closed, sets: &mut RowSets, cycle: Cycle)
         requires { AreSteady cycle closed.now self.old }
         ensures ran { (wiring : Wiring) → IsNetOf wiring net.now → RunsRows wiring cycle self.old self.new }

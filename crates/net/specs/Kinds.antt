@@ -56,7 +56,7 @@ MayEmitRows wiring cycle other = ⊥
 abbrev pub HasEmitting : Wiring → Cycle → HubSet → Type 0
 HasEmitting wiring cycle set = (hub : Hub) → is_hub_in_range hub ≡ true → MayEmitRows wiring cycle hub → has_hub set hub ≡ true
 
--- Of the hubs of the rows of orders that groups and storage units sense a set has those of a test.
+-- A set has each hub of a test that is one of the 128 from PL of the first group on, or from SI of the first storage unit on.
 abbrev pub HasOrders : (Hub → Type 0) → HubSet → Type 0
 HasOrders test set = (hub : Hub) → (is_in_reach (PL (group_of 3 1)) hub || is_in_reach (SI 1) hub) ≡ true → test hub → has_hub set hub ≡ true
 
@@ -65,19 +65,19 @@ abbrev pub HasEmitter : Cycle → HubSet → Type 0
 HasEmitter cycle set =
     (emitter row : ℕ) → emitter_of cycle ≡ Some emitter → is_hub_in_range (EM emitter row) ≡ true → has_hub set (EM emitter row) ≡ true
 
--- What emits at the rows whatever was told: the stations that a card passes, and the emitter.
+-- A set has the exits that emit at the rows whatever was told: of the stations that a card passes, and of the emitter.
 pub record HasUntold (cycle : Cycle) (set : HubSet) : Type 0 where
   pub first : passes_first cycle ≡ true → (column : ℕ) → is_hub_in_range (FR column) ≡ true → has_hub set (FR column) ≡ true
   pub second : passes_second cycle ≡ true → (column : ℕ) → is_hub_in_range (SR column) ≡ true → has_hub set (SR column) ≡ true
   pub emitter : HasEmitter cycle set
 
--- the groups of a width, with numbers up to one, that are told to read out
+-- a set has the exits of the groups of a width, with numbers below an end, that are told to read out
 abbrev pub HasGroups : ℕ → ℕ → HubSet → HubSet → Type 0
 HasGroups width end told set =
     (number position : ℕ) → number < end → is_hub_in_range (GX (group_of width number) position) ≡ true
     → has_hub told (RO (group_of width number)) ≡ true → has_hub set (GX (group_of width number) position) ≡ true
 
--- the storage units up to one that are told to read out
+-- a set has the exits of the storage units, with numbers below an end, that are told to read out
 abbrev pub HasUnits : ℕ → HubSet → HubSet → Type 0
 HasUnits end told set =
     (unit column : ℕ) → unit < end → is_hub_in_range (SX unit column) ≡ true → has_hub told (SO unit) ≡ true → has_hub set (SX unit column) ≡ true
@@ -86,6 +86,6 @@ HasUnits end told set =
 abbrev pub KeepsHubs : HubSet → HubSet → Type 0
 KeepsHubs old new = (hub : Hub) → has_hub old hub ≡ true → has_hub new hub ≡ true
 
--- the rows of the sets are at exits alone that may emit in the cycle
+-- only exits that may emit in the cycle have rows in the sets
 abbrev pub MayHaveRows : Wiring → Cycle → List ℕ → Type 0
 MayHaveRows wiring cycle sets = (row : CardRow) (hub : Hub) → has_row_at sets (passing_place row) hub ≡ true → MayEmitRows wiring cycle hub

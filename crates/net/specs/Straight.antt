@@ -58,7 +58,7 @@ pub record IsColumnToWheel (from to : ℕ) : Type 0 where
   pub wheel : 1798 ≤ to
   pub wheel_end : to < 1918
 
--- the runs have one wire more
+-- the new runs have the wires of the old ones, and one more
 abbrev pub JoinsWire : ℕ → ℕ → List Straight → List Straight → Type 0
 JoinsWire column wheel old new =
     (c w : ℕ) → is_straight new c w ≡ (is_straight old c w || ((c == column) && (w == wheel)))
@@ -68,7 +68,7 @@ pub record IsRunWire (runs : List Straight) (from to : ℕ) : Type 0 where
   pub ends : IsColumnToWheel from to
   pub listed : is_straight runs (from - 80) (to - 1798) ≡ true
 
--- The runs are of wires, told of by their places, and all are theirs but such as lead from exits that tell of cycles.
+-- The runs have nothing but wires, and all wires but those from exits that tell of cycles. A test on two places tells the wires.
 pub record AreRunsOf (leads : ℕ → ℕ → Bool) (runs : List Straight) : Type 0 where
   pub inside : All IsInside runs
   pub wired : (column wheel : ℕ) → is_straight runs column wheel ≡ true → leads (80 + column) (1798 + wheel) ≡ true

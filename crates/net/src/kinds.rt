@@ -22,7 +22,7 @@ use hubs::{Group, Hub};
 use spreads::{Link, Paths};
 use std::alloc::{AllocError, Global};
 
-// The paths of rows in a kind of cycle, unless more may be told there than is known.
+// The paths of rows in a kind of cycle; none if an impulse may pass one contact and come to another at its control point.
 #[derive(Drop)]
 pub(crate) struct Plan {
     pub(crate) paths: Option<Paths>,
@@ -65,7 +65,7 @@ fn plan_of(
 }
 
 // The places of the exits that may emit at the rows in a kind of cycle. With all contacts closed everything is told that may be told. None
-// where an impulse may pass one contact and come to another, since more may be told then.
+// if an impulse may pass one contact and come to another, since more may be told then.
 pub(crate) fn emitting(kind: usize, telling: &Telling) -> Option<[u64; WORDS]>
     requires { kind < 16 }
     ensures { (wiring : Wiring) (rows : List (List ℕ)) (cycle : Cycle) → IsNetOf wiring (record { rows = rows }) → LeadsToEntries wiring
@@ -79,7 +79,7 @@ pub(crate) fn emitting(kind: usize, telling: &Telling) -> Option<[u64; WORDS]>
     Some(exits.words)
 }
 
-// The places of those of the run-in, in which nothing is told.
+// The places of the exits that may emit at the rows of the run-in, in which nothing is told.
 pub(crate) fn emitting_in_run_in() -> [u64; WORDS]
     ensures { (wiring : Wiring) → HasEmitting wiring RunIn (record { words = result }) }
 {
@@ -88,7 +88,7 @@ pub(crate) fn emitting_in_run_in() -> [u64; WORDS]
     exits.words
 }
 
-// The hubs that groups and storage units sense, where these orders are told.
+// Of the hubs that groups and storage units sense, those that these orders tell.
 fn told_hubs(orders: &Orders) -> Picture
     ensures { (picture : Hub → Bool) → AreOrdersOf picture orders.now → HasOrders (λ hub. picture hub ≡ true) result }
 {
@@ -98,7 +98,7 @@ fn told_hubs(orders: &Orders) -> Picture
     told
 }
 
-// The exits that emit in a kind of cycle, where these hubs are told.
+// The exits that may emit at the rows of a kind of cycle, if these hubs may be told.
 fn exits_of(kind: usize, told: &Picture) -> Picture
     requires { kind < 16 }
     ensures { (wiring : Wiring) (cycle : Cycle) → kind_of cycle ≡ Some kind → HasOrders (MayBeTold wiring cycle) told.now

@@ -189,11 +189,11 @@ impl Net {
         }
     }
 
-    /// Spreads rows along the wires and the closed contacts, all rows at once: each hub gains the rows at which it is impulsed, where none
-    /// but what may emit in the cycle has any at first. The contacts closed at the rows 9 to 0 are those of `digits`, at 11 and 12 those of
-    /// `zones`. No hub from which contacts lead, and none to which they lead, has a row at first.
+    /// Spreads rows along the wires and the closed contacts, all rows at once: each hub gains the rows at which it is impulsed. At first only
+    /// hubs that may emit in the cycle have rows, and none from which or to which a contact leads. `digits` has the contacts that are closed
+    /// at the rows 9 to 0, `zones` those that are closed at 11 and 12.
     ///
-    /// Answers false if impulses may pass one contact behind another, at a row or at the control point: then the sets may lack rows.
+    /// Answers false if an impulse may pass one contact behind another, at a row or at the control point: then the sets may lack rows.
     pub fn spread_through(
         &self,
         cycle: Cycle,
@@ -218,7 +218,7 @@ impl Net {
         }
     }
 
-    // The paths of rows in a cycle. None where an impulse may pass one contact and come to another at its control point.
+    // The paths of rows in a cycle. None if an impulse may pass one contact and come to another at its control point.
     fn paths_in(&self, cycle: Cycle) -> Option<&Paths>
         ensures { (wiring : Wiring) → IsNetOf wiring self.now → IfSome result (λ paths. Serves wiring self.now cycle paths.now) }
     {
@@ -232,7 +232,7 @@ impl Net {
     }
 }
 
-// Spreads rows along paths and closed contacts.
+// Spreads rows along paths and closed contacts. Answers false if one may have passed a contact behind another: then the sets may lack rows.
 fn spread_by(paths: &Paths, digits: &Contacts, zones: &Contacts, sets: &mut RowSets) -> bool
     requires { AreContactsSilent sets.old }
     ensures { result ≡ true

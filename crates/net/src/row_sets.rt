@@ -69,7 +69,8 @@ impl RowSets {
         }
     }
 
-    /// The same, where the number of the first hub is known, and needn't be looked up.
+    /// The same, if the number of the first hub is known and needn't be looked up. The hub is named for the contract alone: this spares
+    /// callers a contract by numbers.
     #[inline(always)]
     pub fn insert_sets_at(&mut self, _first: Hub, number: u32, sets: &[u16])
         requires { number_of _first ≡ Some number }

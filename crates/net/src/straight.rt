@@ -10,7 +10,8 @@ use bit_sets::WORDS;
 use spreads::Link;
 use std::alloc::{AllocError, Global};
 
-// The places of the exits of second reading, and of the print wheels, and where they end.
+// Places: the exits of second reading are those from COLUMNS on and before AFTER_COLUMNS, the print wheels those from WHEELS on and before
+// AFTER_WHEELS.
 const COLUMNS: u16 = 80;
 
 const AFTER_COLUMNS: u16 = 160;
@@ -33,7 +34,7 @@ pub struct Straight {
     pub count: usize,
 }
 
-// The wires in runs, if all lead from columns to wheels but those from exits that tell of cycles, and none to these places.
+// The wires in runs, if each leads from a column to a wheel, or from an exit that tells of cycles, and none leads to one of these places.
 pub(crate) fn straight_of(
     alloc: Global,
     links: &[Link],
@@ -66,7 +67,7 @@ fn is_to_wheel(link: Link) -> bool
     COLUMNS <= link.from && link.from < AFTER_COLUMNS && WHEELS <= link.to && link.to < AFTER_WHEELS
 }
 
-// Adds a wire to the last run, if it lies beside that one's last, else as a run of its own.
+// Adds a wire to the last run if it lies beside the last wire of that run, else as a run of its own.
 fn add_wire(runs: &mut Vec<Straight>, column: usize, wheel: usize) -> Result<(), AllocError>
     requires column { column < 80 }
     requires wheel { wheel < 120 }

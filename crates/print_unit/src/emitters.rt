@@ -40,7 +40,7 @@ impl Emitters {
 // The sets of the exits of an emitter, for the rows 0 to 9, 11 and 12: each has its own row alone, by its place among the points.
 const ROW_SETS: [u16; 12] = [512, 256, 128, 64, 32, 16, 8, 4, 2, 1, 1024, 2048];
 
-// The hub number of the first exit of all emitters.
+// The hub number of the first exit of the first emitter.
 const FIRST_EXIT: u32 = 929;
 
 // Adds each row to the set of an emitter's exit for it: its exits follow one another.

@@ -33,7 +33,7 @@ pub fn print(characters: &Characters, sets: &[u16; BITS], line: &mut [u8; WHEELS
     }
 }
 
-// Whether none of twenty-four wheels received anything. Most do not: few wheels are wired.
+// Whether none of twenty-four wheels received anything. Mostly none did, since few wheels are wired.
 fn is_empty(sets: &[u16], from: usize) -> bool
     requires { from + 24 ≤ length sets.now }
     ensures { result ≡ true → (k : ℕ) → from ≤ k → k < from + 24 → slice_index_or sets.now k 0 ≡ 0 }

@@ -81,7 +81,8 @@ impl Wheels {
         receive(&mut self.sets, 0, WHEELS, pictures.from(Hub::W(1)));
     }
 
-    /// The same, if rows come to the wheels from columns alone, by runs of wires.
+    /// Senses the points of all rows at once, if rows come to the wheels by these runs of wires alone. `columns` has the set of rows of each
+    /// column of the card; the runs lead from columns 0 to 79 to wheels 0 to 119.
     pub fn receive_columns(&mut self, runs: &[Straight], columns: &[u16; CARD_COLUMNS])
         requires { All IsInside runs.now }
         ensures { (cycle : Cycle) (pictures : Point → Hub → Bool)

@@ -1,4 +1,4 @@
-//! Words of a row of contacts in which each thing, as a pilot, has as many contacts.
+//! Rows of contacts in which each thing, a level of group indication for one, has the same number of contacts.
 
 ghost use Rattle.std.specs.Prelude.{◌≡◌, ◌+◌, ◌-◌, ◌*◌, ◌^◌, ◌≤◌, ◌<◌, length};
 ghost use Rattle.std.specs.List.{list_any};

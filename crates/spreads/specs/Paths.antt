@@ -7,8 +7,8 @@ use Rattle.spreads.specs.Blocks.{LeadTo, RunLeadsTo}
 use Rattle.spreads.specs.Links.{AreEights, IsEight, IsInRange, IsPassing, is_led_to, is_linked}
 use Rattle.spreads.specs.declared.links.Link.{Link}
 
--- What paths hold: the wires from the exits; eights of contacts, in which all those lie that these wires lead to; the wires from the exits
--- of the latter; and the contacts that those wires lead to, one by one.
+-- What paths hold: the wires from the exits; eights of contacts, among which are all that these wires lead to; the wires from the exits of
+-- the contacts led to; and, one by one, the contacts that those wires lead to.
 pub record PathLinks : Type 0 where
   pub outer : List Link
   pub eights : List Run

@@ -76,7 +76,11 @@ impl Paths {
 
     /// The paths along which rows may come from these exits: of the wires that are listed those from the exits, the contacts of the runs
     /// to which they lead, the wires from the exits of these, and the contacts to which those lead. Contacts lead from entries to exits, and
-    /// behind the last entry of each run there are eight places more.
+    /// behind the last entry of each run there are eight places more. Wires lead from places below 1,040 to places from 1,040 to 1,935.
+    ///
+    /// # Errors
+    ///
+    /// `AllocError` if memory runs out, and no other.
     pub fn of(
         alloc: Global,
         runs: &[Run],

@@ -22,7 +22,7 @@ use Rattle.stations.proofs.RowHubs.{first_row, second_row}
 use Rattle.stations.proofs.RowWords.{no_bit}
 
 -- a row's place is one of twelve
-place_below : (row : Row) → passing_place row < 12
+pub place_below : (row : Row) → passing_place row < 12
 place_below Zero = omega arith
 place_below other = omega arith
 

@@ -17,7 +17,7 @@ use mir.Syntax.{w16}
 use mir.Val.{bool_byte}
 
 -- the lowest bits of a word
-bits-cut : (word count bit : ℕ) → is_bit (bit_and word (2 ^ count - 1)) bit ≡ (nat_lt bit count && is_bit word bit)
+pub bits-cut : (word count bit : ℕ) → is_bit (bit_and word (2 ^ count - 1)) bit ≡ (nat_lt bit count && is_bit word bit)
 bits-cut word count bit =
     is_bit-and word (2 ^ count - 1) bit ∙ ap (λ b. is_bit word bit && b) (is_bit-ones count bit) ∙ and_comm (is_bit word bit) (nat_lt bit count)
 

@@ -4,5 +4,6 @@ pub mod Differences
 pub mod RowWords
 pub mod RowHubs
 pub mod RowMasks
+pub mod CollectedWords
 pub mod ColumnSets
 pub mod KeptColumns

@@ -1,5 +1,6 @@
 pub mod Punches
 pub mod Stations
+pub mod CollectedSets
 pub mod Comparing
 pub mod Laws
 pub mod Kept

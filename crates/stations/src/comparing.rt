@@ -1,9 +1,10 @@
 //! Comparing: thirty positions, each with two entries whose rows are compared over a card cycle.
 
-ghost use Rattle.std.specs.Prelude.{◌≡◌, ℕ, ◌<◌, ◌≤◌, ◌&&◌, ◌||◌, nat_lt, length, slice_index_or};
+ghost use Rattle.std.specs.Prelude.{◌≡◌, ℕ, ◌<◌, ◌≤◌, ◌&&◌, ◌||◌, nat_lt, length, slice_index_or, take};
 ghost use Rattle.net.specs.HubRows.{has_at};
 ghost use Rattle.net.specs.HubSets.{is_bit};
 ghost use Rattle.stations.specs.Comparing.{with_row};
+ghost use Rattle.stations.specs.CollectedSets.{AreSetsOf};
 
 use hubs::Hub;
 use net::{Cycle, Picture, Point, RowSets, Unit, has_bit};
@@ -13,7 +14,7 @@ use std::simd::prelude::*;
 // How many positions there are.
 const POSITIONS: usize = 30;
 
-// Room for the sets of their first entries, or of their second ones: so all are taken at once.
+// Room for the sets of thirty entries, so that all are taken at once.
 const ROOM: usize = 32;
 
 // The set of all rows of a card.
@@ -47,6 +48,7 @@ impl Comparing {
     ghost use Rattle.net.specs.declared.cycle.Cycle.{Cycle};
     ghost use Rattle.net.specs.declared.cycle.Point.{Point};
     ghost use Rattle.net.specs.declared.cycle.Point.TheVariants.{K};
+    ghost use Rattle.stations.specs.CollectedSets.{AreSetsOf};
     ghost use Rattle.stations.specs.Comparing.{HaveNoEntries, comparing_at_start, comparing_emits, comparing_sensed, differ_at};
 
     /// Comparing with nothing collected.
@@ -57,6 +59,14 @@ impl Comparing {
             first: [0; ROOM],
             second: [0; ROOM],
         }
+    }
+
+    /// What was collected since the last end of a cycle: for each row, 9 to 0, then 11 and 12, the positions whose first entry was impulsed
+    /// at its point, and those whose second entry was. Position p stands at bit p - 1.
+    pub fn sets(&self) -> [(u32, u32); 12]
+        ensures { AreSetsOf self.now result }
+    {
+        sets_of(&self.first, &self.second)
     }
 
     /// Whether a position differs in what was collected. If none does, comparing emits nothing at the closing point.
@@ -81,7 +91,7 @@ impl Comparing {
         ensures { (cycle : Cycle) (pictures : Point → Hub → Bool) → HaveNoEntries pictures
             → self.now ≡ after_rows comparing_sensed cycle pictures self.now }
     {
-        // How many sets there are the prover learns only where they are used.
+        // How many sets there are the prover learns only where they are used: this spares an invariant.
         let _sets = &self.first;
     }
 
@@ -138,6 +148,26 @@ impl Unit for Comparing {
     ghost emits_steadily = { λ compared cycle at other picture hub. Prim.search rules };
 
     ghost closes_steadily = { λ compared cycle at other picture hub. refl };
+}
+
+// The positions by rows, of the sets of their first and their second entries.
+fn sets_of(first: &[u16; ROOM], second: &[u16; ROOM]) -> [(u32, u32); 12]
+    ensures { AreSetsOf (record { first = take 30 first.now; second = take 30 second.now }) result }
+{
+    let mut sets = [(0, 0); 12];
+    for place in 0..12 {
+        sets[place] = (entries_having(first, place), entries_having(second, place));
+    }
+    sets
+}
+
+// Of thirty entries those that have the row at a place: bit k stands for the entry whose set is at place k.
+fn entries_having(sets: &[u16; ROOM], place: usize) -> u32
+    requires { place < 12 }
+    ensures { (k : ℕ) → is_bit result k ≡ has_at (take 30 sets.now) k place }
+{
+    let rows = u16x32::from_slice(sets) & u16x32::splat(1 << place);
+    (rows.simd_ne(u16x32::splat(0)).to_bitmask() & 0x3fff_ffff) as u32
 }
 
 // Adds the row at a place to the sets of those of thirty entries that are impulsed: bit k stands for the entry whose set is at place k.

@@ -10,7 +10,7 @@ use std::simd::prelude::*;
 // The number of the first storage unit among the units, less one.
 const UNITS_BEFORE: u8 = 34;
 
-// The hub number of the first exit of all units.
+// The hub number of the first exit of the first storage unit.
 const FIRST_EXIT: u32 = 743;
 
 /// One of the four storage units.
