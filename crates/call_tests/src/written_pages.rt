@@ -16,11 +16,11 @@ fn blocks_are_large(rt: HostRuntime) -> Result<(), Fail> {
         }
     }
     assert!(rt; in_order(lines.as_slice(), 144));
-    let mut writer = LimitedWriter::new(rt.alloc(), 16384, None);
+    let mut writer = LimitedWriter::new(rt.alloc(), 131_072, None);
     let ended = write_pages(&mut ToWrite::new(&mut writer), lines.as_slice(), 144);
     assert!(rt; ended.is_ok());
     assert_eq!(rt; writer.bytes().len(), 20 * (144 * 121 + 1));
-    assert!(rt; writer.writes() <= 20 * (144 * 121 + 1) / 8192 + 1);
+    assert!(rt; writer.writes() <= 20 * (144 * 121 + 1) / 65_536 + 1);
     assert_eq!(rt; writer.flushes(), 1);
     Ok(())
 }

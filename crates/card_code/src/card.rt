@@ -15,7 +15,7 @@ use std::simd::prelude::*;
 /// How many columns a card has.
 pub const CARD_COLUMNS: usize = 80;
 
-/// A card of 80 columns, numbered from 1.
+/// A card of 80 columns, numbered from 1. Each has the rows of a deck character.
 ///
 /// Contracts see a card as the list of its columns.
 #[derive(Clone, Copy, Debug, PartialEq, Eq)]
@@ -43,9 +43,9 @@ impl Card {
         }
     }
 
-    // Punches a line in the place of what was punched before. Answers the column of the first byte that is no deck character, from 1; the
-    // card is that of the line if each is one. The sets of all bytes are joined, and only if they have more than rows together, the first
-    // byte that is no deck character is looked for.
+    // Punches a line in the place of what was punched before. If each byte is a deck character, the card is that of the line; else this
+    // answers the column of the first byte that is none, from 1. That byte is looked for only if the sets of all bytes together have a bit
+    // behind the rows.
     pub(crate) fn punch(&mut self, line: &[u8]) -> Option<u32>
         requires { length line.now ≤ 80 }
         ensures card { IfNone result (IsCardOf line.now self.new) }
@@ -72,7 +72,7 @@ impl Card {
         }
     }
 
-    /// Its columns, the first one being column 1.
+    /// Its columns, the first one being column 1. Each has the rows of a deck character.
     pub fn columns(&self) -> &[Column; CARD_COLUMNS]
         ensures columns { result.now ≡ self.now }
         ensures whole { length self.now ≡ 80 }

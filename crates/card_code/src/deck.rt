@@ -108,7 +108,7 @@ pub fn read_card(number: u32, line: &[u8]) -> Result<Card, DeckFault>
 }
 
 /// Punches the line with the number `number`, from 1, into a card, in the place of what was punched in it. After `CardTooLong` the card is
-/// as it was. After `NoSuchCharacter` it is punched with the deck characters of the line alone.
+/// as it was. After `NoSuchCharacter` it is some card, and nothing more is promised of it.
 ///
 /// # Errors
 ///

@@ -8,7 +8,7 @@ use devices::{DeviceFailed, Source};
 use std::marker::Model;
 
 // Room for many lines, so that a read of the system brings many.
-const ROOM: usize = 16384;
+const ROOM: usize = 65536;
 
 // The bytes held.
 #[derive(Drop)]
@@ -23,7 +23,7 @@ impl Model for Buffer {
 
     ghost view = { λ buffer. slice_range buffer.bytes buffer.from buffer.to };
 
-    ghost invariant = { λ buffer. (buffer.from ≤ buffer.to) × (buffer.to ≤ 16384) };
+    ghost invariant = { λ buffer. (buffer.from ≤ buffer.to) × (buffer.to ≤ 65536) };
 }
 
 impl Buffer {

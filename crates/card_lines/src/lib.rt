@@ -1,6 +1,6 @@
 //! Decks read card by card from any source of bytes.
 //!
-//! [`CardLines`] holds what was read and not given yet, at most 16,384 bytes, in a buffer of that size, and gives the cards of the
+//! [`CardLines`] holds what was read and not given yet, at most 65,536 bytes, in a buffer of that size, and gives the cards of the
 //! deck that the source's bytes are, one by one, however the source cuts them. It asks for no memory.
 //!
 //! ```text

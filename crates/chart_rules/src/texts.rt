@@ -11,7 +11,7 @@ use charts::Field;
 /// Which columns of a card are columns of a chart's texts.
 ///
 /// Nearly all cards have print characters and blanks in all of them. So they are looked at together, without a branch for each column,
-/// and only if one has none the fields are asked one by one.
+/// and the fields are asked one by one only if one of them has a `!`, which alone isn't printed.
 #[derive(Drop)]
 pub(crate) struct TextColumns {
     // For each column all bits where it is one of a text.
@@ -45,7 +45,7 @@ impl TextColumns {
         }
     }
 
-    /// Whether each of them has a print character or is blank.
+    /// Whether none of them has a `!`. If so, each has a print character or is blank.
     pub(crate) fn are_printed(&self, card: &Card) -> bool
         ensures { IsTrue result → ArePrinted self.now.masks self.now.end card.now }
     {
@@ -74,7 +74,7 @@ pub(crate) fn mark(masks: &mut [u16; CARD_COLUMNS], first: u16, last: u16)
 // The set of the rows 11 and 0, those of `!`: the only deck character that isn't printed.
 const EXCLAMATION_MARK: u16 = 0x0600;
 
-// All bits if a column of a card, which has the rows of a deck character, isn't printed, else none.
+// All bits if the set of a column is that of `!`, else none.
 fn unprinted_bits(set: u16) -> u16
     requires small { set < 4096 }
     requires character { IsSome (deck_character (column_of set)) }

@@ -1,4 +1,4 @@
-//! The legend of a panel: what a visitor holds beside it.
+//! The legend of a panel: what each line of its chart asks for.
 //!
 //! [`legend`] goes through the lines of a chart. Under each it puts a sentence, that of the line's [`LegendRow`] of the wiring table, and the
 //! stops, the jacks and the wires that this line asks for, as a wiring chart spells them. What several lines ask for stands under each

@@ -10,8 +10,8 @@ use arrayvec::ArrayVec;
 use devices::Sink;
 use std::marker::Model;
 
-// Room for 8 KB beside a line, so that a block that has no room for a line has 8 KB.
-const BLOCK: usize = 8192 + 128;
+// Room for 64 KB beside a line, so that a block that has no room for a line has 64 KB.
+const BLOCK: usize = 65536 + 128;
 
 // A sink, and the bytes that wait until they are a block.
 #[derive(Drop)]
@@ -70,7 +70,7 @@ impl<S: Sink + Drop> Outlet<S> {
 
     // Takes up bytes, a block at most.
     pub(crate) fn take(&mut self, bytes: &[u8]) -> Result<(), WriteFault>
-        requires few { length bytes.now ≤ 8320 }
+        requires few { length bytes.now ≤ 65664 }
         requires fits { total self.old + length bytes.now < 2 ^ 64 }
         ensures bytes { Takes S.held S.has_failed bytes.now result self.old self.new }
         ensures same { S.borrow self.new.sink ≡ S.borrow self.old.sink }

@@ -16,7 +16,7 @@ use std::marker::Model;
 
 /// Writes the pages of lines in order, line by line, to a sink that may fail.
 ///
-/// [`add`](PageWriter::add) takes a line up, and its bytes are written once they are a block of 8 KB; [`put`](PageWriter::put) writes
+/// [`add`](PageWriter::add) takes a line up, and its bytes are written once they are a block of 64 KB; [`put`](PageWriter::put) writes
 /// it at once, with all that waits. [`finish`](PageWriter::finish) ends the last page. What was written is always a prefix of the pages.
 ///
 /// Contracts see the sink; the bytes taken up and not written yet; how many are written; whether a fault was told; the lines of a form;

@@ -10,20 +10,6 @@ use Rattle.print_unit.specs.ZeroControl.{character_of}
 use Rattle.card_code.specs.CardCode.{print_character, deck_character, code}
 use Rattle.net.specs.HubSets.{is_bit}
 
--- no set has more than all of them joined
-pub bound-more : (sets : List ℕ) (from count rows : ℕ)
-    → ((k : ℕ) → from ≤ k → k < count → slice_index_or sets k 0 ≤ rows)
-    → (k : ℕ) → from ≤ k → k < count + 1 → slice_index_or sets k 0 ≤ bit_or rows (slice_index_or sets count 0)
-bound-more sets from count rows before k low high = ⊎_elim
-    (λ (same : k ≡ count).
-    let right = le_or_r rows (slice_index_or sets count 0) in
-    subst (λ (j : ℕ). slice_index_or sets j 0 ≤ bit_or rows (slice_index_or sets count 0)) (sym same) right)
-    (λ (other : k ≢ count).
-    let left = le_or_l rows (slice_index_or sets count 0) in
-    let less = before k low (omega (arith, high, other)) in
-    omega (arith, left, less))
-    (cases_eq k count)
-
 -- one wheel more is printed
 pub printed-more : (sets line : List ℕ) (k character : ℕ) → k < 120 → character ≡ character_of (received_at sets k)
     → HasPrinted sets k line → HasPrinted sets (k + 1) (slice_set line k character)

@@ -115,38 +115,21 @@ wheels-masked left right k test below one other =
         wrong : (k : ℕ) → nat_le 56 k ≡ false → nat_lt k 64 ≡ false → ⊥
         wrong k a b = grind (arith, nat_tests, a, b)
 
--- what is empty when it is joined with another was empty, and so was the other
-nothing-joined : (one other : ℕ) → bit_or one other ≡ 0 → (one ≡ 0) × (other ≡ 0)
-nothing-joined one other none =
-    let left = le_or_l one other in
-    let right = le_or_r one other in
-    (omega (arith, left, none), omega (arith, right, none))
-
--- three times eight sets, joined lane by lane
-abbrev pub joined_eights : List ℕ → ℕ → List ℕ
-joined_eights sets from =
-    zip2 bit_or (zip2 bit_or (chunk from 8 sets) (chunk (from + 8) 8 sets)) (chunk (from + 16) 8 sets)
-
--- three times eight sets are empty where the mask of them joined is
-pub none-received : (sets : List ℕ) (from k : ℕ) → from + 24 ≤ length sets
-    → nat_eq (mask_l (map (top 15) (zip2 (λ a b. cond (not (eqb a b)) (2 ^ 16 - 1) 0) (joined_eights sets from) (replicate 8 0))) % 2 ^ 64) 0 ≡ true
-    → from ≤ k → k < from + 24 → slice_index_or sets k 0 ≡ 0
-none-received sets from k within empty low high = by (cases_lt k (from + 8)) (cases_lt k (from + 16))
+-- eight sets are empty where their mask is
+pub none-received : (sets : List ℕ) (from k : ℕ) → from + 8 ≤ length sets
+    → nat_eq (mask_l (map (top 15) (zip2 (λ a b. cond (not (eqb a b)) (2 ^ 16 - 1) 0) (chunk from 8 sets) (replicate 8 0))) % 2 ^ 64) 0 ≡ true
+    → from ≤ k → k < from + 8 → slice_index_or sets k 0 ≡ 0
+none-received sets from k within empty low high =
+    ap (λ (j : ℕ). slice_index_or sets j 0) place ∙ sym (get_or-chunk from 8 sets (k - from) 0 below) ∙ lane
   where
-    first : length (chunk from 8 sets) ≡ 8
-    first = length-chunk from 8 sets (omega (arith, within))
+    long : length (chunk from 8 sets) ≡ 8
+    long = length-chunk from 8 sets within
 
-    second : length (chunk (from + 8) 8 sets) ≡ 8
-    second = length-chunk (from + 8) 8 sets (omega (arith, within))
+    below : k - from < 8
+    below = omega (arith, low, high)
 
-    third : length (chunk (from + 16) 8 sets) ≡ 8
-    third = length-chunk (from + 16) 8 sets (omega (arith, within))
-
-    pair : length (zip2 bit_or (chunk from 8 sets) (chunk (from + 8) 8 sets)) ≡ 8
-    pair = length-zip2 bit_or (chunk from 8 sets) (chunk (from + 8) 8 sets) (first ∙ sym second) ∙ first
-
-    long : length (joined_eights sets from) ≡ 8
-    long = length-zip2 bit_or (zip2 bit_or (chunk from 8 sets) (chunk (from + 8) 8 sets)) (chunk (from + 16) 8 sets) (pair ∙ sym third) ∙ pair
+    place : k ≡ from + (k - from)
+    place = omega (arith, low)
 
     zero-is : (n : ℕ) → nat_eq n 0 ≡ true → n ≡ 0
     zero-is n e = grind (arith, nat_tests, e)
@@ -154,49 +137,11 @@ none-received sets from k within empty low high = by (cases_lt k (from + 8)) (ca
     nothing : (set : ℕ) → not (eqb set 0) ≡ false → set ≡ 0
     nothing set e = grind (arith, nat_tests, e)
 
-    mask : mask_l (map (λ set. not (eqb set 0)) (joined_eights sets from)) ≡ 0
-    mask = sym (bitmask_splat w16 (λ a b. not (eqb a b)) (joined_eights sets from) 8 0 long (omega arith)) ∙ zero-is _ empty
+    mask : mask_l (map (λ set. not (eqb set 0)) (chunk from 8 sets)) ≡ 0
+    mask = sym (bitmask_splat w16 (λ a b. not (eqb a b)) (chunk from 8 sets) 8 0 long (omega arith)) ∙ zero-is _ empty
 
-    lane : (j : ℕ) → j < 8 → get_or (joined_eights sets from) j 0 ≡ 0
-    lane j below = nothing (get_or (joined_eights sets from) j 0)
-        (sym (get_or-map (λ set. not (eqb set 0)) (joined_eights sets from) j 0 false (omega (arith, below, long)))
-        ∙ sym (is_bit-mask (map (λ set. not (eqb set 0)) (joined_eights sets from)) j)
-        ∙ ap (λ (word : ℕ). is_bit word j) mask ∙ is_bit-zero j)
-
-    values : (j : ℕ) → j < 8 → get_or (joined_eights sets from) j 0
-        ≡ bit_or (bit_or (slice_index_or sets (from + j) 0) (slice_index_or sets (from + 8 + j) 0)) (slice_index_or sets (from + 16 + j) 0)
-    values j below =
-        get_or-zip2 bit_or (zip2 bit_or (chunk from 8 sets) (chunk (from + 8) 8 sets)) (chunk (from + 16) 8 sets) j 0 0 0
-        (omega (arith, below, pair)) (omega (arith, below, third))
-        ∙ ap (λ (set : ℕ). bit_or set (get_or (chunk (from + 16) 8 sets) j 0))
-        (get_or-zip2 bit_or (chunk from 8 sets) (chunk (from + 8) 8 sets) j 0 0 0 (omega (arith, below, first)) (omega (arith, below, second)))
-        ∙ (λ i. bit_or (bit_or (get_or-chunk from 8 sets j 0 below i) (get_or-chunk (from + 8) 8 sets j 0 below i)) (get_or-chunk (from + 16) 8 sets j 0 below i))
-
-    joined : (j : ℕ) → j < 8
-        → bit_or (bit_or (slice_index_or sets (from + j) 0) (slice_index_or sets (from + 8 + j) 0)) (slice_index_or sets (from + 16 + j) 0) ≡ 0
-    joined j below = sym (values j below) ∙ lane j below
-
-    by : (k < from + 8) ⊎ (from + 8 ≤ k) → (k < from + 16) ⊎ (from + 16 ≤ k) → slice_index_or sets k 0 ≡ 0
-    by (inl here) other =
-        let place : k ≡ from + (k - from) = omega (arith, low) in
-        let one = nothing-joined _ _ (joined (k - from) (omega (arith, low, here))) in
-        ap (λ (j : ℕ). slice_index_or sets j 0) place ∙ (nothing-joined _ _ one.0).0
-    by (inr past) (inl here) =
-        let place : k ≡ from + 8 + (k - (from + 8)) = omega (arith, past) in
-        let one = nothing-joined _ _ (joined (k - (from + 8)) (omega (arith, past, here))) in
-        ap (λ (j : ℕ). slice_index_or sets j 0) place ∙ (nothing-joined _ _ one.0).1
-    by (inr before) (inr past) =
-        let place : k ≡ from + 16 + (k - (from + 16)) = omega (arith, past) in
-        let one = nothing-joined _ _ (joined (k - (from + 16)) (omega (arith, past, high))) in
-        ap (λ (j : ℕ). slice_index_or sets j 0) place ∙ one.1
-
--- a lane of eight sets that were cut to the twelve rows has the rows of its wheel
-pub lane-received : (sets : List ℕ) (from k d : ℕ) → from + 8 ≤ length sets → k < 8
-    → rows_in (get_or (zip2 bit_and (chunk from 8 sets) (replicate 8 4095)) k d) ≡ received_at sets (from + k)
-lane-received sets from k d within below =
-    let long = length-chunk from 8 sets within in
-    let many = length-replicate {A = ℕ} 8 4095 in
-    ap rows_in
-    (get_or-zip2 bit_and (chunk from 8 sets) (replicate 8 4095) k 0 0 d (omega (arith, below, long)) (omega (arith, below, many))
-    ∙ (λ i. bit_and (get_or-chunk from 8 sets k 0 below i) (get_or-replicate 8 k 4095 0 below i)))
-    ∙ rows_in-low (slice_index_or sets (from + k) 0)
+    lane : get_or (chunk from 8 sets) (k - from) 0 ≡ 0
+    lane = nothing (get_or (chunk from 8 sets) (k - from) 0)
+        (sym (get_or-map (λ set. not (eqb set 0)) (chunk from 8 sets) (k - from) 0 false (omega (arith, below, long)))
+        ∙ sym (is_bit-mask (map (λ set. not (eqb set 0)) (chunk from 8 sets)) (k - from))
+        ∙ ap (λ (word : ℕ). is_bit word (k - from)) mask ∙ is_bit-zero (k - from))

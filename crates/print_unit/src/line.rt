@@ -3,8 +3,8 @@
 ghost use Rattle.std.specs.Prelude.{◌≡◌, ℕ, All, ◌+◌, ◌-◌, ◌<◌, ◌≤◌, ◌&&◌, nat_le, true, length, slice_index_or, if◌then◌else◌};
 ghost use Rattle.net.specs.HubSets.{is_bit};
 ghost use Rattle.net.specs.Straight.{IsInside};
-ghost use Rattle.print_unit.specs.RowSets.{rows_in, Receives, ReceivesRuns, TakesRow};
-ghost use Rattle.print_unit.specs.WheelWords.{received_at, HasPrinted};
+ghost use Rattle.print_unit.specs.RowSets.{Receives, ReceivesRuns, TakesRow};
+ghost use Rattle.print_unit.specs.WheelWords.{HasPrinted};
 
 use crate::characters::Characters;
 use crate::wheel_words::WHEELS;
@@ -22,36 +22,34 @@ const LOW_HALF: u128 = (1 << 64) - 1;
 pub fn print(characters: &Characters, sets: &[u16; BITS], line: &mut [u8; WHEELS])
     ensures { HasPrinted sets.now 120 line.new }
 {
-    for block in 0..5 {
-        if is_empty(sets, 24 * block) {
-            put_blanks(sets, 24 * block, line);
+    for eight in 0..15 {
+        if is_empty(sets, 8 * eight) {
+            put_blanks(sets, 8 * eight, line);
         } else {
-            print_wheels(characters, sets, 24 * block, line);
-            print_wheels(characters, sets, 24 * block + 8, line);
-            print_wheels(characters, sets, 24 * block + 16, line);
+            print_wheels(characters, sets, 8 * eight, line);
         }
     }
 }
 
-// Whether none of twenty-four wheels received anything. Mostly none did, since few wheels are wired.
+// Whether none of eight wheels received anything. Mostly none did, since few wheels are wired.
 fn is_empty(sets: &[u16], from: usize) -> bool
-    requires { from + 24 ≤ length sets.now }
-    ensures { result ≡ true → (k : ℕ) → from ≤ k → k < from + 24 → slice_index_or sets.now k 0 ≡ 0 }
+    requires { from + 8 ≤ length sets.now }
+    ensures { result ≡ true → (k : ℕ) → from ≤ k → k < from + 8 → slice_index_or sets.now k 0 ≡ 0 }
 {
-    let eights = u16x8::from_slice(&sets[from..])
-        | u16x8::from_slice(&sets[from + 8..])
-        | u16x8::from_slice(&sets[from + 16..]);
-    eights.simd_ne(u16x8::splat(0)).to_bitmask() == 0
+    u16x8::from_slice(&sets[from..])
+        .simd_ne(u16x8::splat(0))
+        .to_bitmask()
+        == 0
 }
 
-// Prints twenty-four wheels after those on the line, none of which received anything.
+// Prints eight wheels after those on the line, none of which received anything.
 fn put_blanks(sets: &[u16; BITS], from: usize, line: &mut [u8; WHEELS])
-    requires within { from + 24 ≤ 120 }
-    requires empty { (k : ℕ) → from ≤ k → k < from + 24 → slice_index_or sets.now k 0 ≡ 0 }
+    requires within { from + 8 ≤ 120 }
+    requires empty { (k : ℕ) → from ≤ k → k < from + 8 → slice_index_or sets.now k 0 ≡ 0 }
     requires before { HasPrinted sets.now from line.old }
-    ensures { HasPrinted sets.now (from + 24) line.new }
+    ensures { HasPrinted sets.now (from + 8) line.new }
 {
-    for k in from..from + 24 {
+    for k in from..from + 8 {
         line[k] = b' ';
     }
 }
@@ -62,18 +60,9 @@ fn print_wheels(characters: &Characters, sets: &[u16; BITS], from: usize, line: 
     requires before { HasPrinted sets.now from line.old }
     ensures { HasPrinted sets.now (from + 8) line.new }
 {
-    let eight = eight_sets(sets, from);
-    for k in 0..8 {
-        line[from + k] = characters.of(eight[k]);
+    for k in from..from + 8 {
+        line[k] = characters.of(sets[k]);
     }
-}
-
-// The sets of eight wheels, with nothing in them but the twelve rows.
-fn eight_sets(sets: &[u16], from: usize) -> [u16; 8]
-    requires { from + 8 ≤ length sets.now }
-    ensures { (k : ℕ) → k < 8 → rows_in (slice_index_or result k 0) ≡ received_at sets.now (from + k) }
-{
-    (u16x8::from_slice(&sets[from..]) & u16x8::splat(0xfff)).to_array()
 }
 
 /// Makes the wheels of a word blank. Those that are not hidden are not looked at.

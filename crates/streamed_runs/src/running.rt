@@ -116,7 +116,7 @@ pub fn stream_deck<S: Source + Drop, W: Sink + Drop>(
 /// their report go to the sink, which is flushed at the end. Answers how many cards there were. Memory is taken for the machine and for the
 /// lines of one card alone.
 ///
-/// The pages are written in blocks of 8 KB; what waits for its block is written before a fault of a card or of a total is told.
+/// The pages are written in blocks of 64 KB; what waits for its block is written before a fault of a card or of a total is told.
 ///
 /// # Errors
 ///

@@ -43,4 +43,4 @@ phrase stage.FormOverflow = codes "the overflow line, a number of 1 to 3 digits 
 phrase stage.TapeChannel = codes "a channel, a number of 1 to 3 digits without a leading zero"
 phrase stage.FirstStop = codes "a stop, a number of 1 to 3 digits without a leading zero"
 phrase (stage.Stops left) = codes "a stop, a number of 1 to 3 digits without a leading zero, 10 stops at most, or nothing"
-phrase stage.Nothing = codes "nothing more"
+phrase stage.Nothing = codes "the end of the line"

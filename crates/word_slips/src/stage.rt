@@ -319,6 +319,6 @@ pub(crate) fn phrase(stage: Stage) -> &'static str
         Stage::FirstStop => "a stop, a number of 1 to 3 digits without a leading zero",
         Stage::Stops(_) =>
             "a stop, a number of 1 to 3 digits without a leading zero, 10 stops at most, or nothing",
-        Stage::Nothing => "nothing more",
+        Stage::Nothing => "the end of the line",
     }
 }

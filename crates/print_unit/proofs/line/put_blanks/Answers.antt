@@ -12,4 +12,4 @@ loop-k-preserved c =
     (blank-printed c.args.sets.now c.loop-k.k (c.requires.empty c.loop-k.k low test)) c.loop-k.invariant
 
 pub returns : goal.returns
-returns c = let end : c.loop-k.k ≡ c.args.from + 24 = omega arith in subst (λ (k : ℕ). HasPrinted c.args.sets.now k c.loop-k.line) end c.loop-k.invariant
+returns c = let end : c.loop-k.k ≡ c.args.from + 8 = omega arith in subst (λ (k : ℕ). HasPrinted c.args.sets.now k c.loop-k.line) end c.loop-k.invariant
