@@ -17,6 +17,7 @@ use Rattle.hubs.specs.declared.hub.Hub.TheVariants.{BAC, BAN, BAT, CI, CO, CSD, 
 use Rattle.net.proofs.Rows.{is_hub-same}
 use Rattle.net.specs.HubSets.{has_hub, is_hub}
 use Rattle.net.specs.Impulsed.{IsPicture}
+use Rattle.net.specs.Cycles.{emitter_of}
 use Rattle.net.specs.HubRows.{has_row_at}
 use Rattle.net.specs.Panel.{contact_of}
 use Rattle.net.specs.Passing.{AreContactsSilent, closes_at_row}
@@ -26,7 +27,7 @@ use Rattle.net.specs.declared.cycle.Cycle.{Cycle}
 use Rattle.net.specs.declared.cycle.Cycle.TheVariants.{RunIn, Card, Prog, Head}
 use Rattle.net.specs.declared.cycle.Point.{Point}
 use Rattle.net.specs.declared.cycle.Point.TheVariants.{Row}
-use Rattle.print_unit.specs.Emitters.{emits_row, emitter_of, emitters_emit}
+use Rattle.print_unit.specs.Emitters.{emits_row, emitters_emit}
 use Rattle.stations.specs.Comparing.{Compared, comparing_emits, comparing_sensed}
 use Rattle.stations.specs.Stations.{StationCards, first_emits, second_emits, stations_emits}
 use Rattle.storage_units.specs.Storage.{StorageState, storage_emits, storage_sensed}

@@ -12,30 +12,20 @@ use Rattle.hubs.specs.declared.hub.Hub.TheVariants.{EM, FR, GX, RO, SO, SR, SX}
 use Rattle.setups.specs.Wiring.{Wiring}
 use Rattle.net.proofs.ImpulsedLaws.{impulsed_more}
 use Rattle.net.proofs.Rows.{is_hub-same}
+use Rattle.net.specs.Cycles.{emitter_of}
 use Rattle.net.specs.HubSets.{is_hub}
-use Rattle.net.specs.Kinds.{MayBeTold, MayEmitRows, emitter_of}
+use Rattle.net.specs.Kinds.{MayBeTold, MayEmitRows}
 use Rattle.net.specs.Tells.{tells}
 use Rattle.net.specs.declared.cycle.Cycle.{Cycle}
 use Rattle.net.specs.declared.cycle.Cycle.TheVariants.{RunIn, Card, Prog, Head}
-use Rattle.net.specs.declared.cycle.Ordinal.TheVariants.{First, Second, Third}
 use Rattle.net.specs.declared.cycle.Point.TheVariants.{C, Row}
 use Rattle.print_unit.specs.Emitters.{emits_row, emitters_emit}
-use Rattle.print_unit.specs.Emitters.{emitter_of as emitter_in}
 use Rattle.stations.specs.Stations.{StationCards, stations_emits}
 use Rattle.storage_units.specs.Storage.{StorageState, storage_emits, storage_sensed}
 use Rattle.machine.specs.Cycles.{PointStep, Reached}
 use Rattle.machine.specs.Machine.{MachineState, closes, emits, sensed}
 use Rattle.machine.proofs.AllRows.{units-emit}
 use Rattle.machine.proofs.ControlPoint.{emits-told}
-
--- the emitter of a cycle
-same-emitter : (cycle : Cycle) → emitter_in cycle ≡ emitter_of cycle
-same-emitter RunIn = refl
-same-emitter Card = refl
-same-emitter (Prog level First) = refl
-same-emitter (Prog level Second) = refl
-same-emitter (Prog level Third) = refl
-same-emitter (Head heading) = refl
 
 module _ (wiring : Wiring) (cycle : Cycle) where
   -- what the stations emit
@@ -51,10 +41,10 @@ module _ (wiring : Wiring) (cycle : Cycle) where
     by (Head heading) h e = absurd (false≢true e)
 
   -- what an emitter emits
-  emitters-may : (at : CardRow) (hub : Hub) (emitter : Option ℕ) → emitter_in cycle ≡ emitter → emits_row emitter at hub ≡ true → MayEmitRows wiring cycle hub
+  emitters-may : (at : CardRow) (hub : Hub) (emitter : Option ℕ) → emitter_of cycle ≡ emitter → emits_row emitter at hub ≡ true → MayEmitRows wiring cycle hub
   emitters-may at hub None is on = absurd (false≢true on)
   emitters-may at hub (Some emitter) is on =
-      subst (MayEmitRows wiring cycle) (is_hub-same (EM emitter (row_number at)) hub on) (sym (same-emitter cycle) ∙ is)
+      subst (MayEmitRows wiring cycle) (is_hub-same (EM emitter (row_number at)) hub on) is
 
   module _ (picture : Hub → Bool) (told : (hub : Hub) → picture hub ≡ true → MayBeTold wiring cycle hub) (at : CardRow) (hub : Hub) where
     -- what a group shows
@@ -127,5 +117,5 @@ emits-may wiring cycle start mid reached at hub on = by reached.0 reached.1 reac
           ]
           | inr storage ↦ storage-may wiring cycle step.picture told at hub old.storage storage
         ]
-        | inr emitter ↦ emitters-may wiring cycle at hub (emitter_in cycle) refl emitter
+        | inr emitter ↦ emitters-may wiring cycle at hub (emitter_of cycle) refl emitter
       ]

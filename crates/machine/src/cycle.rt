@@ -48,7 +48,7 @@ impl Units {
         if let (Cycle::Card, Some(runs)) = (cycle, net.straight()) {
             self.run_straight_points(net, runs, sets);
         } else {
-            self.run_led_points(net, sets, cycle);
+            self.run_all_points(net, sets, cycle);
         }
     }
 
@@ -66,9 +66,9 @@ impl Units {
         self.run_closing(net, None, Cycle::Card);
     }
 
-    // The points of a cycle, if wires may lead to contacts. The closed ones have a function of their own, since room for them is cleared
-    // in the one that has them, whether they are asked for or not.
-    fn run_led_points(&mut self, net: &Net, sets: &mut RowSets, cycle: Cycle)
+    // The points of any cycle, as wires and closed contacts lead: the common way. It is a function of its own, since room for the closed
+    // contacts is cleared in the function that has them, whether they are asked for or not.
+    fn run_all_points(&mut self, net: &Net, sets: &mut RowSets, cycle: Cycle)
         ensures reached { (wiring : Wiring) → IsNetOf wiring net.now → Reached wiring cycle 14 self.old self.new }
         ensures keeps { Keeps cycle self.old self.new }
     {

@@ -1,6 +1,5 @@
 pub mod Below
 pub mod EachPicture
-pub mod EmptySets
 pub mod GrownSets
 pub mod ImpulsedLaws
 pub mod KindRows
@@ -12,6 +11,7 @@ pub mod Sets
 pub mod RowsFed
 pub mod SetLemmas
 pub mod DirectWires
+pub mod PassedSets
 pub mod PassedRows
 pub mod PassedHubs
 pub mod WiredPictures

@@ -25,11 +25,12 @@ use Rattle.net.specs.HubRows.{has_at_number, has_row_at}
 use Rattle.spreads.specs.Links.{HasRoom, IsEight, IsInRange, Spreads, is_fed_at, has_at, is_led_to, is_linked}
 use Rattle.net.specs.Nets.{IsNetOf, NetRows, leads_by}
 use Rattle.net.specs.Panel.{contact_of}
-use Rattle.net.specs.Passing.{IsPassedOn, PassesBehind, PassesOn, SpreadsOn, SpreadsRow, closes_at_row}
+use Rattle.net.specs.Passing.{IsPassedOn, closes_at_row}
 use Rattle.spreads.specs.Passing.{Passes, RunsPass, is_closed_at, is_passed_in}
 use Rattle.net.specs.declared.contacts.TheConstants.{CONTACTS}
 use Rattle.spreads.specs.declared.links.Link.{Link}
 use Rattle.net.proofs.DirectWires.{exit_numbered}
+use Rattle.net.proofs.PassedSets.{PassesBehind, PassesOn, SpreadsOn, SpreadsRow}
 use Rattle.net.proofs.PanelContacts.{IsInRuns, contact_by_place, contact_numbered, in_runs, of_runs}
 use Rattle.spreads.proofs.PassLemmas.{linked-led, passed-from}
 use Rattle.spreads.proofs.ContactRuns.{run-found, run-from}

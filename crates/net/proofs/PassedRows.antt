@@ -15,7 +15,8 @@ use Rattle.net.specs.Laws.{EmitsOrIsFed, FollowsLeads}
 use Rattle.net.specs.HubRows.{has_at_number, has_row_at}
 use Rattle.spreads.specs.Links.{has_at}
 use Rattle.net.specs.Panel.{contact_of}
-use Rattle.net.specs.Passing.{AreContactsSilent, IsPassedOn, PassesBehind, PassesOn, SpreadsOn, SpreadsRows, closes_at_row}
+use Rattle.net.specs.Passing.{AreContactsSilent, IsPassedOn, closes_at_row}
+use Rattle.net.proofs.PassedSets.{PassesBehind, PassesOn, SpreadsOn, SpreadsRows}
 use Rattle.spreads.specs.Passing.{SameSets}
 use Rattle.net.specs.RowSets.{pictures_of}
 use Rattle.net.specs.declared.cycle.Point.TheVariants.{Row}

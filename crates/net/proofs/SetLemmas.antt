@@ -1,13 +1,13 @@
--- Sets of rows for hubs: none, one row more, sets that are joined from a place on, and sets that are read.
+-- Sets of rows for hubs: none, sets that are joined from a place on, and sets that are read.
 use Rattle.std.proofs.Common.{◌≡◌, ◌∙◌, ℕ, ◌+◌, ◌-◌, ◌<◌, ◌≤◌, ◌&&◌, ◌||◌, Bool, false, List, Option, Some, None, sym, ap, refl, arith, drop}
-use Rattle.std.specs.Prelude.{◌==◌, nat_le}
-use Rattle.std.proofs.Math.Bool.{and-false, or-false}
+use Rattle.std.specs.Prelude.{nat_le}
+use Rattle.std.proofs.Math.Bool.{or-false}
 use Rattle.std.proofs.lemmas.Bool.Decides.{nat_tests}
 use Rattle.std.proofs.lemmas.List.{get_or-drop}
 use Rattle.bit_sets.specs.Bits.{is_bit}
 use Rattle.hubs.specs.Hubs.{number_of}
 use Rattle.hubs.specs.declared.hub.Hub.{Hub}
-use Rattle.net.specs.HubSets.{is_bit_from, is_hub, is_in_row, is_same_number}
+use Rattle.net.specs.HubSets.{is_bit_from, is_in_row}
 use Rattle.net.specs.HubRows.{has_at_number, has_row_at}
 use Rattle.spreads.specs.Links.{has_at}
 use Rattle.net.specs.RowSets.{GainsRows, is_in_sets, is_set_from}
@@ -18,29 +18,6 @@ pub empty-sets : (sets : List ℕ) → ((place row : ℕ) → has_at sets place 
     → has_at_number sets row given ≡ false
 empty-sets sets none row (Some number) = none (number - 1) row
 empty-sets sets none row None = refl
-
--- the hub of a number has one row more, where its place has
-pub row-added : (old new : List ℕ) (hub other : Hub) (number at row : ℕ) → number_of hub ≡ Some number → 1 ≤ number
-    → ((place r : ℕ) → has_at new place r ≡ (has_at old place r || ((r == at) && (place == number - 1))))
-    → ((given : ℕ) → number_of other ≡ Some given → (1 ≤ given))
-    → has_row_at new row other ≡ (has_row_at old row other || ((row == at) && is_hub hub other))
-row-added old new hub other number at row is low added positive = by (number_of other) refl where
-  same_place : (one two : ℕ) → 1 ≤ one → 1 ≤ two → (one - 1 == two - 1) ≡ (two == one)
-  same_place one two l m = grind (arith, nat_tests)
-
-  by : (given : Option ℕ) → number_of other ≡ given → has_row_at new row other ≡ (has_row_at old row other || ((row == at) && is_hub hub other))
-  by (Some n) and_is =
-      ap (has_at_number new row) and_is
-      ∙ added (n - 1) row
-      ∙ ap (λ b. has_at old (n - 1) row || ((row == at) && b)) (same_place n number (positive n and_is) low)
-      ∙ ap (λ b. has_at old (n - 1) row || ((row == at) && b))
-      (sym (ap (λ m. is_same_number m (number_of other)) is ∙ ap (is_same_number (Some number)) and_is))
-      ∙ ap (λ b. b || ((row == at) && is_hub hub other)) (sym (ap (has_at_number old row) and_is))
-  by None and_is =
-      ap (has_at_number new row) and_is
-      ∙ sym (and-false (row == at))
-      ∙ ap (λ b. (row == at) && b) (sym (ap (λ m. is_same_number m (number_of other)) is ∙ ap (is_same_number (Some number)) and_is))
-      ∙ ap (λ b. b || ((row == at) && is_hub hub other)) (sym (ap (has_at_number old row) and_is))
 
 -- sets joined at the place of a hub are those of the hubs from it on
 pub sets-joined : (first hub : Hub) (number row : ℕ) (sets old new : List ℕ) → number_of first ≡ Some number → 1 ≤ number

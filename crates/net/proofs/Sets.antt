@@ -6,7 +6,6 @@ use Rattle.std.proofs.lemmas.Bool.{cases_eq}
 use Rattle.std.proofs.lemmas.Bool.Decides.{nat_tests}
 use Rattle.std.proofs.lemmas.Grind.{common_steps}
 use Rattle.std.proofs.Math.Bool.{and-false, and-true}
-use Rattle.bit_sets.specs.Contacts.{ArePlacesApart}
 use Rattle.bit_sets.specs.Bits.{GainsPlaces, has_place, is_in_run}
 use Rattle.bit_sets.proofs.BitLemmas.{is_bit-and, is_bit-ones}
 use Rattle.bit_sets.proofs.PlaceLemmas.{has_place-past, has_place-word, has_place-zeros}
@@ -20,14 +19,6 @@ IsHubNumber given = (number : ℕ) → given ≡ Some number → (1 ≤ number) 
 pub has_number-zeros : (n : ℕ) (given : Option ℕ) → has_number (record { words = replicate n 0 }) given ≡ false
 has_number-zeros n (Some number) = has_place-zeros n (number - 1)
 has_number-zeros n None = refl
-
--- nor has one that is apart from itself
-pub apart_of_itself : (words : List ℕ) → ArePlacesApart words words → (given : Option ℕ) → has_number (record { words = words }) given ≡ false
-apart_of_itself words apart (Some number) = by (has_place words (number - 1)) refl where
-  by : (b : Bool) → has_place words (number - 1) ≡ b → has_place words (number - 1) ≡ false
-  by true on = apart (number - 1) on
-  by false off = off
-apart_of_itself words apart None = refl
 
 -- The last word of a set, cut to the bits of hubs: bit 15 is the last hub's.
 abbrev pub cut : List ℕ → List ℕ

@@ -1,6 +1,8 @@
--- Cycles and points: the numbers of levels and of the three cycles of a kind, and the fourteen points in their order.
-use Rattle.std.specs.Prelude.{ℕ, Bool, true, false, List, [], ◌∷◌, slice_index_or}
+-- Cycles and points: the numbers of levels and of the three cycles of a kind, the emitters of cycles, and the fourteen points in their order.
+use Rattle.std.specs.Prelude.{ℕ, ◌+◌, Bool, true, false, Option, Some, None, List, [], ◌∷◌, slice_index_or}
 use Rattle.card_code.specs.declared.row.Row.TheVariants as row
+use Rattle.net.specs.declared.cycle.Cycle.{Cycle}
+use Rattle.net.specs.declared.cycle.Cycle.TheVariants.{RunIn, Card, Prog, Head}
 use Rattle.net.specs.declared.cycle.ProgramLevel.{ProgramLevel}
 use Rattle.net.specs.declared.cycle.ProgramLevel.TheVariants.{Minor, Intermediate, Major, Final}
 use Rattle.net.specs.declared.cycle.Ordinal.{Ordinal}
@@ -20,6 +22,15 @@ abbrev pub ordinal_number : Ordinal → ℕ
 ordinal_number First = 1
 ordinal_number Second = 2
 ordinal_number Third = 3
+
+-- the emitter of a cycle, if it has one
+abbrev pub emitter_of : Cycle → Option ℕ
+emitter_of RunIn = None
+emitter_of Card = Some 4
+emitter_of (Prog level First) = None
+emitter_of (Prog level Second) = None
+emitter_of (Prog level Third) = Some (4 + level_number level)
+emitter_of (Head heading) = Some (ordinal_number heading)
 
 -- whether a point is the closing point, at which carries pass
 abbrev pub is_closing : Point → Bool

@@ -1,10 +1,10 @@
 -- What may emit at the points of the rows of a cycle, whichever contacts are closed at its control point.
-use Rattle.std.specs.Prelude.{◌≡◌, ℕ, ◌+◌, ◌<◌, ◌||◌, Bool, true, false, Option, Some, None, List}
+use Rattle.std.specs.Prelude.{◌≡◌, ℕ, ◌<◌, ◌||◌, Bool, true, false, Some, List}
 use Rattle.hubs.specs.Hubs.{group_of, is_hub_in_range}
 use Rattle.hubs.specs.declared.hub.Hub.{Hub}
 use Rattle.hubs.specs.declared.hub.Hub.TheVariants.{FR, SR, GX, SX, EM, PL, RO, SI, SO}
 use Rattle.setups.specs.Wiring.{Wiring}
-use Rattle.net.specs.Cycles.{level_number, ordinal_number}
+use Rattle.net.specs.Cycles.{emitter_of}
 use Rattle.net.specs.HubSets.{HubSet, has_hub, is_in_reach}
 use Rattle.card_code.specs.Rows.{passing_place}
 use Rattle.card_code.specs.declared.row.Row.{Row as CardRow}
@@ -13,7 +13,6 @@ use Rattle.net.specs.Impulsed.{IsImpulsed}
 use Rattle.net.specs.Tells.{tells}
 use Rattle.net.specs.declared.cycle.Cycle.{Cycle}
 use Rattle.net.specs.declared.cycle.Cycle.TheVariants.{RunIn, Card, Prog, Head}
-use Rattle.net.specs.declared.cycle.Ordinal.TheVariants.{First, Second, Third}
 
 -- whether a card passes the first reading station
 abbrev pub passes_first : Cycle → Bool
@@ -28,15 +27,6 @@ passes_second RunIn = false
 passes_second Card = true
 passes_second (Prog level ordinal) = false
 passes_second (Head heading) = false
-
--- the emitter of a cycle, if it has one
-abbrev pub emitter_of : Cycle → Option ℕ
-emitter_of RunIn = None
-emitter_of Card = Some 4
-emitter_of (Prog level First) = None
-emitter_of (Prog level Second) = None
-emitter_of (Prog level Third) = Some (4 + level_number level)
-emitter_of (Head heading) = Some (ordinal_number heading)
 
 -- a hub may be told in a cycle: it is impulsed at the control point for some set of closed contacts
 abbrev pub MayBeTold : Wiring → Cycle → Hub → Type 0

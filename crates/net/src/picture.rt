@@ -44,15 +44,6 @@ impl Picture {
         Picture { words: [0; WORDS] }
     }
 
-    /// Whether it is the empty set.
-    #[inline(always)]
-    pub fn is_empty(&self) -> bool
-        ensures empty { result ≡ true → (hub : Hub) → has_hub self.now hub ≡ false }
-        ensures told { ((hub : Hub) → has_hub self.now hub ≡ false) → result ≡ true }
-    {
-        !bit_sets::meet(&self.words, &self.words)
-    }
-
     /// Its words: the hub with the number h, 1 to 1936, is bit (h - 1) % 64 of word (h - 1) / 64. The bits after the last hub
     /// are 0.
     pub fn words(&self) -> &[u64; WORDS]

@@ -21,10 +21,9 @@ impl Model for RowSets {
 }
 
 impl RowSets {
-    ghost use Rattle.std.specs.Prelude.{◌≡◌, ℕ, ◌-◌, ◌+◌, ◌<◌, ◌==◌, ◌&&◌, ◌||◌, ◌/◌, false, Some, None, [], drop, length};
+    ghost use Rattle.std.specs.Prelude.{◌≡◌, ℕ, ◌-◌, ◌+◌, ◌||◌, false, Some, None, [], drop, length};
     ghost use Rattle.hubs.specs.Hubs.{number_of};
     ghost use Rattle.hubs.specs.declared.hub.Hub.{Hub};
-    ghost use Rattle.net.specs.HubSets.{is_hub};
     ghost use Rattle.net.specs.HubRows.{has_row_at};
     ghost use Rattle.net.specs.RowSets.{is_in_sets};
 
@@ -43,18 +42,6 @@ impl RowSets {
         ensures { (row : ℕ) (hub : Hub) → has_row_at self.new row hub ≡ false }
     {
         self.places.clear();
-    }
-
-    /// Adds the row at a place to the set of a hub. A hub out of range changes nothing.
-    #[inline(always)]
-    pub fn insert(&mut self, hub: Hub, place: usize)
-        requires { place < 12 }
-        ensures { (row : ℕ) (other : Hub) → has_row_at self.new row other
-            ≡ (has_row_at self.old row other || ((row == place) && is_hub hub other)) }
-    {
-        if let Some(number) = hub.number() {
-            self.places.insert(number as usize - 1, place);
-        }
     }
 
     /// Adds sets to those of hubs that follow one another from the first one on. Sets after the last hub change nothing, and neither

@@ -1,27 +1,25 @@
 //! Wires that lead straight from columns of the card at second reading to print wheels.
 
-ghost use Rattle.std.specs.Prelude.{◌≡◌, ◌+◌, ◌-◌, ◌<◌, ◌≤◌, ◌==◌, ◌&&◌, All, IfOk, IfSome, OnOk, false, true};
+ghost use Rattle.std.specs.Prelude.{◌≡◌, ◌+◌, ◌-◌, ◌<◌, ◌==◌, ◌&&◌, All, IfOk, IfSome, OnOk, false, true};
 ghost use Rattle.bit_sets.specs.Bits.{has_place};
 ghost use Rattle.spreads.specs.Links.{is_linked};
 ghost use Rattle.net.specs.Straight.{AreRunsOf, IsColumnToWheel, IsInside, JoinsWire};
 
 use crate::links::leads_to_any;
+use crate::tellings::FIRST_TELLING;
 use bit_sets::WORDS;
 use spreads::Link;
 use std::alloc::{AllocError, Global};
 
-// Places: the exits of second reading are those from COLUMNS on and before AFTER_COLUMNS, the print wheels those from WHEELS on and before
-// AFTER_WHEELS.
-const COLUMNS: u16 = 80;
+// Places of hubs: the exits of second reading are those from FIRST_COLUMN on and before AFTER_COLUMNS, the print wheels those from
+// FIRST_WHEEL on and before AFTER_WHEELS.
+const FIRST_COLUMN: u16 = 80;
 
 const AFTER_COLUMNS: u16 = 160;
 
-const WHEELS: u16 = 1798;
+const FIRST_WHEEL: u16 = 1798;
 
 const AFTER_WHEELS: u16 = 1918;
-
-// The place of the first of the exits that tell of cycles. They are the last ones, and emit at control points alone.
-const TELLING: u16 = 1024;
 
 /// Wires side by side, from columns of the card at second reading to print wheels. Both are counted from 0.
 #[derive(Clone, Copy, Debug)]
@@ -48,12 +46,12 @@ pub(crate) fn straight_of(
     }
     let mut runs = Vec::new(alloc);
     for link in links {
-        if link.from < TELLING {
+        if link.from < FIRST_TELLING {
             if !is_to_wheel(*link) {
                 return Ok(None);
             }
-            let column = (link.from - COLUMNS) as usize;
-            let wheel = (link.to - WHEELS) as usize;
+            let column = (link.from - FIRST_COLUMN) as usize;
+            let wheel = (link.to - FIRST_WHEEL) as usize;
             add_wire(&mut runs, column, wheel)?;
         }
     }
@@ -64,7 +62,10 @@ pub(crate) fn straight_of(
 fn is_to_wheel(link: Link) -> bool
     ensures { result ≡ true → IsColumnToWheel link.from link.to }
 {
-    COLUMNS <= link.from && link.from < AFTER_COLUMNS && WHEELS <= link.to && link.to < AFTER_WHEELS
+    FIRST_COLUMN <= link.from
+        && link.from < AFTER_COLUMNS
+        && FIRST_WHEEL <= link.to
+        && link.to < AFTER_WHEELS
 }
 
 // Adds a wire to the last run if it lies beside the last wire of that run, else as a run of its own.

@@ -21,8 +21,8 @@ use bit_sets::{EXITS, Rows, WORDS, meet, reach_by_rows};
 use hubs::Hub;
 use std::alloc::{AllocError, Global};
 
-// The place of the first of the exits that tell of cycles: CC, PX and HX are the last ones.
-const FIRST: usize = 1024;
+// The place of the first of the exits that tell of cycles: CC, PX and HX. They are the last exits, and emit at control points alone.
+pub(crate) const FIRST_TELLING: u16 = 1024;
 
 // What is told where the contact to the exit at a place is closed.
 #[derive(Clone, Copy)]
@@ -51,7 +51,7 @@ pub(crate) fn tellings_of(
     ensures { IfOk result (λ tellings. AreTellings rows.now tellings.items) }
 {
     let mut tellings = Vec::new(alloc);
-    for place in FIRST..EXITS {
+    for place in FIRST_TELLING as usize..EXITS {
         tellings.push(telling_of(alloc, rows, commons, place)?)?;
     }
     Ok(tellings)

@@ -1,8 +1,6 @@
 -- Wheels printed eight at a time.
-use Rattle.std.proofs.Common.{⊎_elim, ◌≡◌, ◌≢◌, ◌∙◌, ℕ, ◌+◌, ◌<◌, ◌≤◌, ap, arith, refl, sym, subst, List, bit_or, slice_index_or, slice_set}
-use Rattle.std.proofs.lemmas.Bool.{cases_eq}
+use Rattle.std.proofs.Common.{◌≡◌, ◌∙◌, ℕ, ◌+◌, ◌<◌, ap, arith, refl, sym, List, slice_index_or, slice_set}
 use Rattle.std.proofs.lemmas.List.{length-set}
-use Rattle.std.proofs.lemmas.Nat.{le_or_l, le_or_r}
 use Rattle.print_unit.proofs.Ranges.{places-more}
 use Rattle.print_unit.specs.RowSets.{rows_in}
 use Rattle.print_unit.specs.WheelWords.{HasPrinted, received_at}

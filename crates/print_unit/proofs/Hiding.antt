@@ -7,8 +7,18 @@ use Rattle.std.proofs.lemmas.Nat.{and_le_l, and_le_r}
 use Rattle.std.specs.Int.{bit_not, w64, trailing_zeros}
 use Rattle.net.proofs.Below.bit_sets.BitLemmas.{is_bit-above, is_bit-low_word, is_bit-shr, is_bit-taken, lowest_bit}
 use Rattle.net.specs.HubSets.{is_bit}
-use Rattle.print_unit.specs.RowSets.{HidesLeft}
 use Rattle.print_unit.proofs.Bits.{is_bit-zero}
+
+-- The wheels of half a word that are no longer left are blank on the line, and the others have what old had. Its bits stand for the wheels
+-- from one on.
+pub record HidesLeft (from hidden left : ℕ) (old new : List ℕ) : Type 0 where
+  pub small : left < 2 ^ 64
+  pub within : (k : ℕ) → k < 64 → (is_bit left k && is_bit hidden k) ≡ is_bit left k
+  pub blank :
+      (k : ℕ) → k < 120
+      → slice_index_or new k 0
+      ≡ (if nat_le from k && (is_bit hidden (k - from) && not (is_bit left (k - from))) then 32 else slice_index_or old k 0)
+  pub wheels : length new ≡ 120
 
 -- no wheel is blank yet
 pub hides-none : (from hidden : ℕ) (line : List ℕ) → hidden < 2 ^ 64 → length line ≡ 120 → HidesLeft from hidden hidden line line

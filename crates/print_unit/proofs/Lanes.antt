@@ -1,16 +1,12 @@
 -- Wheels in lanes: masks of characters and of sets.
-use Rattle.std.proofs.Common.{◌≡◌, ◌∙◌, ◌⊎◌, inl, inr, ℕ, ◌+◌, ◌-◌, ◌*◌, ◌%◌, ◌^◌, ◌<◌, ◌≤◌, arith, refl, sym, ap, Bool, true, false, not, ◌&&◌, ◌||◌, ◌==◌, nat_eq, nat_lt, List, length, get_or, map, replicate, slice_index_or, bit_and, bit_or, cond, eqb, leb, ltb}
+use Rattle.std.proofs.Common.{◌≡◌, ◌∙◌, ℕ, ◌+◌, ◌-◌, ◌*◌, ◌%◌, ◌^◌, ◌<◌, ◌≤◌, arith, refl, sym, ap, Bool, true, false, not, ◌&&◌, ◌||◌, ◌==◌, nat_eq, nat_lt, List, length, get_or, map, replicate, slice_index_or, bit_and, bit_or, cond, eqb, leb, ltb}
 use Rattle.std.specs.Prelude.{nat_le}
-use Rattle.std.proofs.lemmas.Bool.{cases_lt}
 use Rattle.std.proofs.lemmas.Bool.Decides.{nat_tests}
 use Rattle.std.proofs.lemmas.List.{get_or_past, get_or-map, length-map}
-use Rattle.std.proofs.lemmas.Nat.{le_or_l, le_or_r}
-use Rattle.std.proofs.lemmas.Simd.{bitmask_splat, bit_mask_l, get_or-chunk, get_or-replicate, get_or-zip2, length-chunk, length-replicate, length-zip2, map-map, mask_l-mod, zip2_of_maps, zip2_splat, zip2_splat_left}
+use Rattle.std.proofs.lemmas.Simd.{bitmask_splat, bit_mask_l, get_or-chunk, length-chunk, map-map, mask_l-mod, zip2_of_maps, zip2_splat, zip2_splat_left}
 use Rattle.net.proofs.Below.bit_sets.BitLemmas.{is_bit-low, is_bit-or, is_bit-shl, is_bit-zero}
 use Rattle.net.specs.HubSets.{is_bit}
-use Rattle.print_unit.proofs.Sets.{rows_in-low}
-use Rattle.print_unit.specs.RowSets.{rows_in}
-use Rattle.print_unit.specs.WheelWords.{is_between, received_at}
+use Rattle.print_unit.specs.WheelWords.{is_between}
 use lib.Lanes.{chunk, mask_l, top, zip2}
 use mir.Syntax.{w16}
 

@@ -10,9 +10,18 @@ use Rattle.std.specs.Int.{bit_not, w128, trailing_zeros}
 use Rattle.net.specs.HubSets.{is_bit}
 use Rattle.net.specs.Straight.{is_brought_by}
 use Rattle.net.specs.declared.straight.Straight.{Straight}
-use Rattle.print_unit.specs.RowSets.{rows_in, Receives, ReceivesRuns, TakesRow, TakesLeft}
+use Rattle.print_unit.specs.RowSets.{rows_in, Receives, ReceivesRuns, TakesRow}
 use Rattle.print_unit.proofs.Bits.{is_bit-zero, is_bit-and, is_bit-or, is_bit-joined, is_bit-cleared, is_bit-ones}
 use Rattle.print_unit.proofs.Ranges.{map-same}
+
+-- The wheels of a word that are no longer left have taken the row of a place.
+pub record TakesLeft (word left place : ℕ) (old new : List ℕ) : Type 0 where
+  pub within : (k : ℕ) → k < 128 → (is_bit left k && is_bit word k) ≡ is_bit left k
+  pub taken :
+      (k : ℕ) → k < 128 → (p : ℕ)
+      → is_bit (slice_index_or new k 0) p
+      ≡ (is_bit (slice_index_or old k 0) p || (p == place) && (is_bit word k && not (is_bit left k)))
+  pub bits : length new ≡ 128
 
 -- the place of the lowest bit of a word that has one
 lowest : (left : ℕ) → left ≢ 0 → left < 2 ^ 128 → (trailing_zeros w128 left < 128) × (is_bit left (trailing_zeros w128 left) ≡ true)

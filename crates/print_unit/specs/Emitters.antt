@@ -1,16 +1,14 @@
 -- The emitters, unit 42. Each of the eight has an exit for every row of a card, and emits there at the row's point in the
 -- cycles of its kind: 1 to 3 in the heading cycles, 4 in card cycles, 5 to 8 in the third program cycles of the levels 1 to 4.
 -- They keep nothing, sense nothing and have no contacts.
-use Rattle.std.specs.Prelude.{ℕ, ◌+◌, Bool, false, Option, Some, None}
+use Rattle.std.specs.Prelude.{ℕ, Bool, false, Option, Some, None}
 use Rattle.card_code.specs.Rows.{row_number}
 use Rattle.card_code.specs.declared.row.Row.{Row as CardRow}
 use Rattle.hubs.specs.declared.hub.Hub.{Hub}
 use Rattle.hubs.specs.declared.hub.Hub.TheVariants.{EM}
-use Rattle.net.specs.Cycles.{level_number, ordinal_number}
+pub use Rattle.net.specs.Cycles.{emitter_of}
 use Rattle.net.specs.HubSets.{is_hub}
 use Rattle.net.specs.declared.cycle.Cycle.{Cycle}
-use Rattle.net.specs.declared.cycle.Cycle.TheVariants.{RunIn, Card, Prog, Head}
-use Rattle.net.specs.declared.cycle.Ordinal.TheVariants.{First, Second, Third}
 use Rattle.net.specs.declared.cycle.Point.{Point}
 use Rattle.net.specs.declared.cycle.Point.TheVariants.{C, Row, K}
 use Rattle.print_unit.specs.declared.emitters.Emitters.{Emitters}
@@ -18,15 +16,6 @@ use Rattle.print_unit.specs.declared.emitters.Emitters.{Emitters}
 -- at the start there is nothing to keep
 abbrev pub emitters_at_start : Emitters
 emitters_at_start = record {}
-
--- the emitter of a cycle, if it has one
-abbrev pub emitter_of : Cycle → Option ℕ
-emitter_of RunIn = None
-emitter_of Card = Some 4
-emitter_of (Prog level First) = None
-emitter_of (Prog level Second) = None
-emitter_of (Prog level Third) = Some (4 + level_number level)
-emitter_of (Head heading) = Some (ordinal_number heading)
 
 -- at a row's point an emitter emits at its exit for that row
 abbrev pub emits_row : Option ℕ → CardRow → Hub → Bool

@@ -5,11 +5,12 @@ use Rattle.card_code.specs.declared.row.Row.{Row as CardRow}
 use Rattle.hubs.specs.declared.hub.Hub.{Hub}
 use Rattle.hubs.specs.declared.hub.Hub.TheVariants.{EM, W}
 use Rattle.net.proofs.Rows.{is_hub-same}
+use Rattle.net.specs.Cycles.{emitter_of}
 use Rattle.net.specs.Panel.{owner_of, reader_of}
 use Rattle.net.specs.declared.cycle.Cycle.{Cycle}
 use Rattle.net.specs.declared.cycle.Point.{Point}
 use Rattle.net.specs.declared.cycle.Point.TheVariants.{C, Row, K}
-use Rattle.print_unit.specs.Emitters.{emits_row, emitter_of, emitters_emit}
+use Rattle.print_unit.specs.Emitters.{emits_row, emitters_emit}
 use Rattle.print_unit.specs.Wheels.{WheelsState, collected, wheel_sensed, wheels_sensed}
 use Rattle.print_unit.specs.ZeroControl.{Wheel}
 use Rattle.print_unit.specs.declared.emitters.Emitters.{Emitters}

@@ -1,6 +1,6 @@
 -- Sets of rows as numbers: bit p stands for the row that comes p rows after row 9, in the order of the points. What is said
 -- here is for proofs: what wheels print stands in ZeroControl.
-use Rattle.std.specs.Prelude.{◌≡◌, ℕ, ◌-◌, ◌^◌, ◌<◌, ◌==◌, ◌&&◌, ◌||◌, not, nat_le, nat_lt, length, slice_index_or, Bool, List, map, if◌then◌else◌}
+use Rattle.std.specs.Prelude.{◌≡◌, ℕ, ◌-◌, ◌<◌, ◌==◌, ◌&&◌, ◌||◌, nat_le, nat_lt, slice_index_or, Bool, List, map}
 use Rattle.std.specs.List.{range_with_len}
 use Rattle.net.specs.HubSets.{is_bit}
 use Rattle.net.specs.Straight.{is_brought}
@@ -35,23 +35,3 @@ abbrev pub ReceivesRuns : List ℕ → List Straight → List ℕ → List ℕ �
 ReceivesRuns columns runs old new =
     (k : ℕ) → k < 120 → (p : ℕ)
     → is_bit (slice_index_or new k 0) p ≡ (is_bit (slice_index_or old k 0) p || is_brought columns runs k p)
-
--- The wheels of a word that are no longer left have taken the row of a place.
-pub record TakesLeft (word left place : ℕ) (old new : List ℕ) : Type 0 where
-  pub within : (k : ℕ) → k < 128 → (is_bit left k && is_bit word k) ≡ is_bit left k
-  pub taken :
-      (k : ℕ) → k < 128 → (p : ℕ)
-      → is_bit (slice_index_or new k 0) p
-      ≡ (is_bit (slice_index_or old k 0) p || (p == place) && (is_bit word k && not (is_bit left k)))
-  pub bits : length new ≡ 128
-
--- The wheels of half a word that are no longer left are blank on the line, and the others have what old had. Its bits stand for the wheels
--- from one on.
-pub record HidesLeft (from hidden left : ℕ) (old new : List ℕ) : Type 0 where
-  pub small : left < 2 ^ 64
-  pub within : (k : ℕ) → k < 64 → (is_bit left k && is_bit hidden k) ≡ is_bit left k
-  pub blank :
-      (k : ℕ) → k < 120
-      → slice_index_or new k 0
-      ≡ (if nat_le from k && (is_bit hidden (k - from) && not (is_bit left (k - from))) then 32 else slice_index_or old k 0)
-  pub wheels : length new ≡ 120

@@ -1,8 +1,9 @@
 //! The emitters, unit 42: exits that emit a row at its point in the cycles of their kind.
 
 ghost use Rattle.std.specs.Prelude.{◌≡◌, ◌≤◌, IfSome, Some};
+ghost use Rattle.net.specs.Cycles.{emitter_of};
 ghost use Rattle.net.specs.RowSets.{GainsRows};
-ghost use Rattle.print_unit.specs.Emitters.{emitter_of, emits_row};
+ghost use Rattle.print_unit.specs.Emitters.{emits_row};
 
 use hubs::Hub;
 use net::{Cycle, Ordinal, Picture, Point, RowSets, Unit};

@@ -1,5 +1,5 @@
 -- Sets of rows, one for each place: one that is joined with a word, and sets that are joined from a place on.
-use Rattle.std.proofs.Common.{⊎_elim, ◌≡◌, ◌≢◌, ◌∙◌, ℕ, ◌+◌, ◌-◌, ◌*◌, ◌%◌, ◌^◌, ◌<◌, ◌≤◌, ◌&&◌, ◌||◌, nat_lt, Bool, true, false, List, sym, ap, refl, arith, length, min, replicate, slice_index_or, slice_set}
+use Rattle.std.proofs.Common.{⊎_elim, ◌≡◌, ◌≢◌, ◌∙◌, ℕ, ◌+◌, ◌-◌, ◌<◌, ◌≤◌, ◌&&◌, ◌||◌, nat_lt, Bool, true, false, List, sym, ap, refl, arith, length, min, replicate, slice_index_or, slice_set}
 use Rattle.std.specs.Prelude.{◌==◌, nat_le}
 use Rattle.std.specs.Int.Bits.{bit_or}
 use Rattle.std.proofs.Math.Bool.{or-false}
@@ -7,8 +7,7 @@ use Rattle.std.proofs.lemmas.Bool.{cases_eq, cases_lt}
 use Rattle.std.proofs.lemmas.Bool.Decides.{nat_tests}
 use Rattle.std.proofs.lemmas.Grind.{common_steps}
 use Rattle.std.proofs.lemmas.List.{get_or-replicate, get_or_past}
-use Rattle.std.proofs.lemmas.Nat.{one_shl}
-use Rattle.bit_sets.proofs.BitLemmas.{is_bit-or, is_bit-pow, is_bit-zero}
+use Rattle.bit_sets.proofs.BitLemmas.{is_bit-or, is_bit-zero}
 use Rattle.bit_sets.specs.Bits.{is_bit}
 use Rattle.spreads.specs.Links.{has_at}
 
@@ -41,19 +40,6 @@ pub empty-sets : (n place row : ℕ) → has_at (replicate n 0) place row ≡ fa
 empty-sets n place row =
     let zero : slice_index_or (replicate n 0) place 0 ≡ 0 = grind (arith, common_steps, get_or-replicate, get_or_past) in
     ap (λ w. is_bit w row) zero ∙ is_bit-zero row
-
--- a place has one row more
-pub row-added : (sets : List ℕ) (place at other row : ℕ) → length sets ≡ 1936 → place < 1936 → at < 12
-    → has_at (slice_set sets place (bit_or (slice_index_or sets place 0) (1 * 2 ^ at % 2 ^ 16))) other row
-    ≡ (has_at sets other row || ((row == at) && (other == place)))
-row-added sets place at other row long low near =
-    set-joined sets place (1 * 2 ^ at % 2 ^ 16) other row (omega (arith, long, low))
-    ∙ ap (λ w. has_at sets other row || ((other == place) && is_bit w row)) (one_shl at 16 (omega (arith, near)))
-    ∙ ap (λ b. has_at sets other row || ((other == place) && b)) (is_bit-pow at row)
-    ∙ ap (λ b. has_at sets other row || b) (turned (other == place) (row == at))
-  where
-    turned : (a b : Bool) → (a && b) ≡ (b && a)
-    turned a b = grind (arith, nat_tests)
 
 -- so many sets are joined from a place on
 pub record AreJoined (count first : ℕ) (sets old now : List ℕ) : Type 0 where

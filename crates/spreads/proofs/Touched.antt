@@ -1,17 +1,16 @@
 -- Blocks of places as bits of a word, and that places of no other blocks have rows.
-use Rattle.std.proofs.Common.{⊎_elim, ◌≡◌, ◌∙◌, ℕ, ◌+◌, ◌-◌, ◌*◌, ◌/◌, ◌%◌, ◌^◌, ◌<◌, ◌≤◌, ◌&&◌, ◌||◌, Bool, true, false, List, sym, ap, refl, arith, length, replicate, slice_index_or, slice_set, bit_or}
+use Rattle.std.proofs.Common.{⊎_elim, ◌≡◌, ◌∙◌, ℕ, ◌+◌, ◌-◌, ◌*◌, ◌/◌, ◌%◌, ◌^◌, ◌<◌, ◌≤◌, ◌&&◌, ◌||◌, Bool, true, false, List, sym, ap, refl, arith, length, replicate, slice_index_or, bit_or}
 use Rattle.std.specs.Prelude.{◌==◌, nat_le, nat_lt}
 use Rattle.std.proofs.lemmas.Bool.{and_parts, cases_lt, false≢true}
 use Rattle.std.proofs.lemmas.Bool.Decides.{nat_tests}
 use Rattle.std.proofs.lemmas.Grind.{common_steps}
-use Rattle.std.proofs.lemmas.List.{get_or-replicate, get_or_past, length-replicate, length-set}
+use Rattle.std.proofs.lemmas.List.{get_or-replicate, get_or_past, length-replicate}
 use Rattle.std.proofs.lemmas.Nat.{one_shl}
 use Rattle.bit_sets.proofs.BitLemmas.{is_bit-low, is_bit-ones, is_bit-or, is_bit-pow, is_bit-shl, is_bit-zero}
 use Rattle.bit_sets.specs.Bits.{is_bit}
 use Rattle.spreads.specs.Blocks.{AreTouched}
 use Rattle.spreads.specs.Links.{has_at}
 use Rattle.spreads.proofs.PassLemmas.{neither}
-use Rattle.spreads.proofs.JoinedSets.{set-joined}
 
 pub not-both : (a : Bool) → (a ≡ true → ⊥) → a ≡ false
 not-both true none = absurd (none refl)
@@ -51,20 +50,6 @@ touched-more touched blocks old new are long gains = record {
 } where
   past : (place row : ℕ) → 1936 ≤ place → has_at new place row ≡ false
   past place row high = ap (λ (w : ℕ). is_bit w row) (get_or_past new place 0 (omega (arith, long, high))) ∙ is_bit-zero row
-
--- one set gains rows
-pub touched-set : (touched block : ℕ) (sets : List ℕ) (at word : ℕ) → AreTouched touched sets → at < 1936
-    → ((b : ℕ) → is_bit block b ≡ (b == at / 32))
-    → AreTouched (bit_or touched block) (slice_set sets at (bit_or (slice_index_or sets at 0) word))
-touched-set touched block sets at word are inside of =
-    touched-more touched block sets _ are (length-set sets at _ ∙ are.long)
-    (λ place row low off none.
-    set-joined sets at word place row (let long = are.long in omega (arith, long, inside))
-    ∙ ap (λ b. b || ((place == at) && is_bit word row)) none
-    ∙ ap (λ b. b && is_bit word row) (apart place (sym (of (place / 32)) ∙ off)))
-  where
-    apart : (place : ℕ) → (place / 32 == at / 32) ≡ false → (place == at) ≡ false
-    apart place other = grind (arith, nat_tests, other)
 
 -- sets are joined from a place on
 pub touched-joined : (touched blocks : ℕ) (sets old new : List ℕ) (first : ℕ) → AreTouched touched old → length new ≡ 1936

@@ -4,7 +4,7 @@ ghost use Rattle.std.specs.Prelude.{◌≡◌, ℕ, ◌-◌, ◌/◌, ◌<◌, �
 ghost use Rattle.spreads.specs.Blocks.{AreTouched};
 ghost use Rattle.spreads.specs.Links.{has_at};
 
-use crate::blocks::{LAST_BLOCK, block_of, blocks_from};
+use crate::blocks::{LAST_BLOCK, blocks_from};
 use std::marker::Model;
 
 /// How many places the panel has, and so how many sets there are. A set of bits has room for some more places.
@@ -43,17 +43,6 @@ impl PlaceSets {
             sets: [0; PANEL_PLACES],
             touched: 0,
         }
-    }
-
-    /// Adds a row to the set of a place. `row` is its place among the rows of a cycle: that of row 9 is 0, and that of row 12 is 11.
-    #[inline(always)]
-    pub fn insert(&mut self, place: usize, row: usize)
-        requires place { place < PANEL_PLACES }
-        requires row { row < 12 }
-        ensures { (other r : ℕ) → has_at self.new other r ≡ (has_at self.old other r || ((r == row) && (other == place))) }
-    {
-        self.sets[place] |= 1 << row;
-        self.touched |= block_of(place);
     }
 
     /// Adds sets to those of places that follow one another from the first one on. Sets after the last place change nothing.

@@ -1,4 +1,4 @@
-use Rattle.print_unit.specs.RowSets.{HidesLeft}
+use Rattle.print_unit.proofs.Hiding.{HidesLeft}
 use Rattle.print_unit.proofs.line.hide_half.Given as goal
 
 -- the wheels that are no longer left are blank

@@ -1,4 +1,4 @@
-use Rattle.print_unit.specs.RowSets.{TakesLeft}
+use Rattle.print_unit.proofs.Sets.{TakesLeft}
 use Rattle.print_unit.proofs.line.take_row.Given as goal
 
 -- the wheels that are no longer left have taken the row
