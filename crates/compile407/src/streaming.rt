@@ -15,7 +15,7 @@ use streamed_runs::StreamFault;
 ///
 /// For each card in turn the next one, or the end, is read and checked; then the totals of the groups that end with the card are tried;
 /// then the machine is fed, and the lines that this gives are taken up. They are written in blocks of 64 KB, so a sink that fails is met
-/// where its block is full, up to some thousand cards after the card whose lines it doesn't take.
+/// only once a block is full, perhaps many cards after the card whose lines it doesn't take.
 ///
 /// Besides the machine a run holds two cards, the lines of one card, the sum of the unfinished group of each total, 64 KB of the deck
 /// that was read and 64 KB of pages that wait to be written. A long deck takes no more memory than a short one.

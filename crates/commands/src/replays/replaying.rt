@@ -83,8 +83,8 @@ pub struct Replayed<S: Sink + Drop> {
     pub written: Result<(), ReplayFault>,
 }
 
-/// Runs the deck of a text through the machine of a setup, and writes the pages of its lines to a sink in blocks of 64 KB, those of
-/// each card before the next one is taken from the text, so that no card is kept. Any setup and any deck will do: the text is one that
+/// Runs the deck of a text through the machine of a setup, and writes the pages of its lines to a sink in blocks of 64 KB. The lines of
+/// each card are taken up before the next one is taken from the text, so that no card is kept. Any setup and any deck will do: the text is one that
 /// `check_deck` accepts. Hands the sink back, also where it has failed.
 ///
 /// The fault is `Memory` where a growth is refused and `Write` where the sink fails. Either way the sink has gained the front of the
