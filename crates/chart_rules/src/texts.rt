@@ -11,7 +11,7 @@ use charts::Field;
 /// Which columns of a card are columns of a chart's texts.
 ///
 /// Nearly all cards have print characters and blanks in all of them. So they are looked at together, without a branch for each column,
-/// and the fields are asked one by one only if one of them has a `!`, which alone isn't printed.
+/// and the fields are asked one by one only if one of these columns has a `!`, the only deck character that isn't printed.
 #[derive(Drop)]
 pub(crate) struct TextColumns {
     // For each column all bits where it is one of a text.

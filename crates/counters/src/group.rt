@@ -5,7 +5,7 @@ ghost use Rattle.std.specs.Prelude.{◌≡◌, ◌≤◌};
 use crate::all_rows::{entered_after, positions_before, rows_shown};
 use crate::controls::Controls;
 use crate::digits::{Digits, from_units, number_of};
-use crate::sensing::{controls_in, controls_of, low_half, show, take_row, takes};
+use crate::sensing::{FIRST, controls_in, controls_of, low_half, show, take_row, takes};
 use crate::turn::{all_nines, carries_out, latch_after, turned};
 use hubs::Hub;
 use net::{Cycle, Picture, Point, RowSets, Unit};
@@ -14,13 +14,7 @@ use std::marker::Model;
 /// The most positions that a group has.
 pub(crate) const PLACES: usize = 8;
 
-// The first of all groups.
-const FIRST: hubs::Group = hubs::Group {
-    width: 3,
-    number: 1,
-};
-
-// The hub number of its first exit.
+// The hub number of the first exit of the first group.
 const FIRST_EXIT: u32 = 191;
 
 /// A counter group: 3, 4, 6 or 8 positions that add, subtract and read out together.

@@ -39,7 +39,7 @@ fn positions_of(digits: &[u8], given: u8) -> u128
 
 // The first of the groups. The control hubs of the 32 groups are a row that begins with its plus: 32 each of plus,
 // minus, read-out and balance test.
-const FIRST: hubs::Group = hubs::Group {
+pub(crate) const FIRST: hubs::Group = hubs::Group {
     width: 3,
     number: 1,
 };

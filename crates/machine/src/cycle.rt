@@ -48,7 +48,7 @@ impl Units {
         if let (Cycle::Card, Some(runs)) = (cycle, net.straight()) {
             self.run_straight_points(net, runs, sets);
         } else {
-            self.run_all_points(net, sets, cycle);
+            self.run_contact_points(net, sets, cycle);
         }
     }
 
@@ -66,9 +66,9 @@ impl Units {
         self.run_closing(net, None, Cycle::Card);
     }
 
-    // The points of any cycle, as wires and closed contacts lead: the common way. It is a function of its own, since room for the closed
-    // contacts is cleared in the function that has them, whether they are asked for or not.
-    fn run_all_points(&mut self, net: &Net, sets: &mut RowSets, cycle: Cycle)
+    // The points of any cycle. Closed contacts are gathered here, and not in `run_points`, since a function clears room for them even if it
+    // doesn't use it.
+    fn run_contact_points(&mut self, net: &Net, sets: &mut RowSets, cycle: Cycle)
         ensures reached { (wiring : Wiring) → IsNetOf wiring net.now → Reached wiring cycle 14 self.old self.new }
         ensures keeps { Keeps cycle self.old self.new }
     {
@@ -221,8 +221,7 @@ impl Units {
             .receive_columns(runs, self.all.stations.second_columns());
     }
 
-    // The points of the rows, all at once. They are taken one by one if an impulse passes one contact behind another, or may do so at the
-    // control point.
+    // The points of the rows, all at once. They are taken one by one if an impulse passes one contact behind another.
     fn run_rows(&mut self, net: &Net, closed: &Closed, sets: &mut RowSets, cycle: Cycle)
         requires { AreSteady cycle closed.now self.old }
         ensures ran { (wiring : Wiring) → IsNetOf wiring net.now → RunsRows wiring cycle self.old self.new }

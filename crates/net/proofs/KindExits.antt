@@ -17,10 +17,10 @@ use Rattle.hubs.specs.declared.hub.Hub.TheVariants.{FR, SR, GX, SX, EM, PL, RO, 
 use Rattle.setups.specs.Wiring.{LeadsToEntries, Wiring}
 use Rattle.bit_sets.proofs.PlaceLemmas.{has_place-word}
 use Rattle.bit_sets.specs.Bits.{has_place, is_bit}
-use Rattle.net.specs.HubSets.{GainsHubs, HubSet, has_hub, is_in_reach, is_in_row}
+use Rattle.net.specs.HubSets.{GainsHubs, HubSet, has_hub, is_bit_from, is_in_reach, is_in_row, is_near}
 use Rattle.net.specs.Kinds.{HasEmitter, HasEmitting, HasGroups, HasOrders, HasUnits, HasUntold, KeepsHubs, MayBeTold}
 use Rattle.net.specs.Nets.{IsNetOf}
-use Rattle.net.specs.Orders.{AreOrdersOf}
+use Rattle.net.specs.Orders.{AreOrdersOf, IsRowOf}
 use Rattle.net.specs.Tellings.{AreBranches, AreLast, is_branch, is_led_at, is_told}
 use Rattle.net.specs.Tells.{kind_of, tells}
 use Rattle.net.specs.declared.cycle.Cycle.{Cycle}
@@ -35,6 +35,15 @@ use Rattle.net.proofs.ToldPictures.{tells-kind, told-picture}
 ones : (last k : ℕ) → k < last → is_bit (2 ^ last - 1) k ≡ true
 unfolding is_bit
 ones last k low = ap (λ (bit : ℕ). bit == 1) (bit_at_ones last k low)
+
+-- a word of ones has each hub in reach
+pub row-ones : (first : Hub) → IsRowOf first (λ hub. true) (2 ^ 128 - 1)
+row-ones first hub near = by (number_of first) (number_of hub) near where
+  by : (f n : Option ℕ) → is_near f n ≡ true → is_bit_from f (2 ^ 128 - 1) n ≡ true
+  by (Some f) (Some n) e =
+      let range : (nat_le f n ≡ true) × (n - f < 128) = grind (arith, nat_tests, e) in and_from (nat_le f n) _ range.0 (ones 128 (n - f) range.1)
+  by (Some f) None e = absurd (false≢true e)
+  by None n e = absurd (false≢true e)
 
 -- a whole row has each of its hubs
 full-row : (at : ℕ → Hub) (start last n : ℕ) → ((k : ℕ) → number_of (at k) ≡ numbered_at start last k) → 1 ≤ last

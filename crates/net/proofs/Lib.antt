@@ -18,6 +18,6 @@ pub mod WiredPictures
 pub mod TellingLemmas
 pub mod ToldPictures
 pub mod KindExits
-pub mod KindPlans
+pub mod KindPaths
 pub mod StraightRuns
 pub mod StraightRows

@@ -25,12 +25,12 @@ use Rattle.net.specs.HubRows.{has_at_number, has_row_at}
 use Rattle.spreads.specs.Links.{HasRoom, IsEight, IsInRange, Spreads, is_fed_at, has_at, is_led_to, is_linked}
 use Rattle.net.specs.Nets.{IsNetOf, NetRows, leads_by}
 use Rattle.net.specs.Panel.{contact_of}
-use Rattle.net.specs.Passing.{IsPassedOn, closes_at_row}
+use Rattle.net.specs.Passing.{closes_at_row}
 use Rattle.spreads.specs.Passing.{Passes, RunsPass, is_closed_at, is_passed_in}
 use Rattle.net.specs.declared.contacts.TheConstants.{CONTACTS}
 use Rattle.spreads.specs.declared.links.Link.{Link}
 use Rattle.net.proofs.DirectWires.{exit_numbered}
-use Rattle.net.proofs.PassedSets.{PassesBehind, PassesOn, SpreadsOn, SpreadsRow}
+use Rattle.net.proofs.PassedSets.{IsPassedAt, PassesBehind, PassesOn, SpreadsOn, SpreadsRow}
 use Rattle.net.proofs.PanelContacts.{IsInRuns, contact_by_place, contact_numbered, in_runs, of_runs}
 use Rattle.spreads.proofs.PassLemmas.{linked-led, passed-from}
 use Rattle.spreads.proofs.ContactRuns.{run-found, run-from}
@@ -106,7 +106,7 @@ module _ (wiring : Wiring) (test : Hub → Bool) (digits zones : HubSet) (eights
       ∙ or_left _ _ (sym (at-number old (passing_place row) hub number.0 number.1) ∙ on)
 
   only : (row : CardRow) (hub : Hub) → has_row_at new (passing_place row) hub ≡ true
-      → (has_row_at old (passing_place row) hub ≡ true) ⊎ IsPassedOn digits zones old row hub
+      → (has_row_at old (passing_place row) hub ≡ true) ⊎ IsPassedAt digits zones old row hub
   only row hub on =
       let number = numbered new (passing_place row) hub on in
       let n = number.0 in
@@ -121,7 +121,7 @@ module _ (wiring : Wiring) (test : Hub → Bool) (digits zones : HubSet) (eights
           → (from : ℕ) × (from < 1936) × (n - 1 < 1040) × (is_any_contact eights from (n - 1) ≡ true)
           × (has_at old from (passing_place row) ≡ true)
           × (is_closed_at digits.words zones.words (passing_place row) (n - 1) ≡ true)
-          → IsPassedOn digits zones old row hub
+          → IsPassedAt digits zones old row hub
       by n is found =
           let from = found.0 in
           let common = hub_numbered (from + 1) (omega arith) (let low = found.1 in omega (arith, low)) in
@@ -135,7 +135,7 @@ module _ (wiring : Wiring) (test : Hub → Bool) (digits zones : HubSet) (eights
             on = at-number old (passing_place row) common.0 (from + 1) common.1 ∙ ap (λ (p : ℕ). has_at old p (passing_place row)) index ∙ found.4;
           }
 
-  passed : (row : CardRow) (before hub : Hub) (on : IsPassedOn digits zones old row hub) → test before ≡ true
+  passed : (row : CardRow) (before hub : Hub) (on : IsPassedAt digits zones old row hub) → test before ≡ true
       → HasWire wiring before on.common → has_row_at new (passing_place row) hub ≡ true
   passed row before hub on tested wire =
       let r = passing_place row in
@@ -317,7 +317,7 @@ module _ (wiring : Wiring) (net : NetRows) (links : List Link) (exits : List ℕ
   pub passes-behind : (digits zones : HubSet) (old new : List ℕ) → Passes digits.words zones.words paths.behind old new
       → PassesBehind wiring (is_exit_of exits) digits zones old new
   passes-behind digits zones old new passes = record { passed = passed_behind } where
-    passed_behind : (row : CardRow) (before first exit hub : Hub) (on : IsPassedOn digits zones old row hub) → is_exit_of exits before ≡ true
+    passed_behind : (row : CardRow) (before first exit hub : Hub) (on : IsPassedAt digits zones old row hub) → is_exit_of exits before ≡ true
         → HasWire wiring before first → contact_of exit ≡ Some first → HasWire wiring exit on.common
         → has_row_at new (passing_place row) hub ≡ true
     passed_behind row before first exit hub on is into contact wire =

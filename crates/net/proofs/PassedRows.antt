@@ -15,8 +15,8 @@ use Rattle.net.specs.Laws.{EmitsOrIsFed, FollowsLeads}
 use Rattle.net.specs.HubRows.{has_at_number, has_row_at}
 use Rattle.spreads.specs.Links.{has_at}
 use Rattle.net.specs.Panel.{contact_of}
-use Rattle.net.specs.Passing.{AreContactsSilent, IsPassedOn, closes_at_row}
-use Rattle.net.proofs.PassedSets.{PassesBehind, PassesOn, SpreadsOn, SpreadsRows}
+use Rattle.net.specs.Passing.{AreContactsSilent, closes_at_row}
+use Rattle.net.proofs.PassedSets.{IsPassedAt, PassesBehind, PassesOn, SpreadsOn, SpreadsRows}
 use Rattle.spreads.specs.Passing.{SameSets}
 use Rattle.net.specs.RowSets.{pictures_of}
 use Rattle.net.specs.declared.cycle.Point.TheVariants.{Row}
@@ -67,7 +67,7 @@ module _ (wiring : Wiring) (test : Hub → Bool) (digits zones : HubSet) (row : 
 
   passed-impulsed : (old new : List ℕ) → PassesOn wiring test digits zones old new → AreImpulsed old → AreImpulsed new
   passed-impulsed old new passes before hub on = by (passes.only row hub on) where
-    by : (has_row_at old (passing_place row) hub ≡ true) ⊎ IsPassedOn digits zones old row hub → IsImpulsed wiring exits closed hub
+    by : (has_row_at old (passing_place row) hub ≡ true) ⊎ IsPassedAt digits zones old row hub → IsImpulsed wiring exits closed hub
     by (inl at) = before hub at
     by (inr passed) = led_on passed.common hub (before passed.common passed.on) (inr (passed.contact, passed.closed))
 
@@ -131,7 +131,7 @@ module _ (wiring : Wiring) (test : Hub → Bool) (digits zones : HubSet) (row : 
       | inr contact ↦ wired contact ((spreads row contact.common).0 contact.on)
     ]
       where
-        wired : (contact : IsPassedOn digits zones spread row fed.exit) → EmitsOrIsFed wiring exits contact.common
+        wired : (contact : IsPassedAt digits zones spread row fed.exit) → EmitsOrIsFed wiring exits contact.common
             → has_row_at spread_on (passing_place row) hub ≡ true
         wired contact (inl emits) = absurd (false≢true (sym (silent contact.common fed.exit contact.contact row).0 ∙ emits.1))
         wired contact (inr before) =
@@ -178,7 +178,7 @@ module _ (wiring : Wiring) (test : Hub → Bool) (digits zones : HubSet) (row : 
         | inr other ↦ through other ((spreads row other.common).0 other.on)
       ]
         where
-          through : (other : IsPassedOn digits zones spread row fed.exit) → EmitsOrIsFed wiring exits other.common
+          through : (other : IsPassedAt digits zones spread row fed.exit) → EmitsOrIsFed wiring exits other.common
               → has_row_at spread_on (passing_place row) hub ≡ true
           through other (inl emits) = absurd (false≢true (sym (silent other.common fed.exit other.contact row).0 ∙ emits.1))
           through other (inr first_wire) =

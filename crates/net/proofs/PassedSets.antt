@@ -8,7 +8,14 @@ use Rattle.net.specs.HubSets.{HubSet}
 use Rattle.net.specs.HubRows.{has_row_at}
 use Rattle.net.specs.Laws.{EmitsOrIsFed}
 use Rattle.net.specs.Panel.{contact_of}
-use Rattle.net.specs.Passing.{IsPassedOn}
+use Rattle.net.specs.Passing.{closes_at_row}
+
+-- a closed contact leads to the hub from one that has the row
+pub record IsPassedAt (digits zones : HubSet) (sets : List ℕ) (row : CardRow) (hub : Hub) : Type 0 where
+  pub common : Hub
+  pub contact : contact_of hub ≡ Some common
+  pub closed : closes_at_row digits zones row hub ≡ true
+  pub on : has_row_at sets (passing_place row) common ≡ true
 
 -- a row is spread: each hub has it that had it, or to which a wire leads from an exit that had it, and no other
 abbrev pub SpreadsRow : Wiring → ℕ → List ℕ → List ℕ → Type 0
@@ -34,9 +41,9 @@ pub record PassesOn (wiring : Wiring) (test : Hub → Bool) (digits zones : HubS
       (row : CardRow) (hub : Hub) → has_row_at old (passing_place row) hub ≡ true → has_row_at new (passing_place row) hub ≡ true
   pub only :
       (row : CardRow) (hub : Hub) → has_row_at new (passing_place row) hub ≡ true
-      → (has_row_at old (passing_place row) hub ≡ true) ⊎ IsPassedOn digits zones old row hub
+      → (has_row_at old (passing_place row) hub ≡ true) ⊎ IsPassedAt digits zones old row hub
   pub passed :
-      (row : CardRow) (before hub : Hub) (passed : IsPassedOn digits zones old row hub) → test before ≡ true
+      (row : CardRow) (before hub : Hub) (passed : IsPassedAt digits zones old row hub) → test before ≡ true
       → HasWire wiring before passed.common → has_row_at new (passing_place row) hub ≡ true
   pub commons :
       (row : CardRow) (common hub : Hub) → contact_of hub ≡ Some common → has_row_at new (passing_place row) common ≡ true
@@ -45,6 +52,6 @@ pub record PassesOn (wiring : Wiring) (test : Hub → Bool) (digits zones : HubS
 -- Closed contacts pass on what has come to them by a wire from the exit of another contact, to which a wire leads from an exit of the test.
 pub record PassesBehind (wiring : Wiring) (test : Hub → Bool) (digits zones : HubSet) (old new : List ℕ) : Type 0 where
   pub passed :
-      (row : CardRow) (before first exit hub : Hub) (passed : IsPassedOn digits zones old row hub) → test before ≡ true
+      (row : CardRow) (before first exit hub : Hub) (passed : IsPassedAt digits zones old row hub) → test before ≡ true
       → HasWire wiring before first → contact_of exit ≡ Some first → HasWire wiring exit passed.common
       → has_row_at new (passing_place row) hub ≡ true

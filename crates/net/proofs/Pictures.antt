@@ -19,7 +19,7 @@ use Rattle.net.specs.declared.contacts.TheConstants.{CONTACTS}
 use Rattle.net.proofs.PanelContacts.{IsInRuns, contact_by_place, contact_numbered, in_runs, of_runs}
 
 -- a hub's test, by its place
-pub has_hub-place : (set : HubSet) (hub : Hub) (place : ℕ) → number_of hub ≡ Some (place + 1) → has_hub set hub ≡ has_place set.words place
+has_hub-place : (set : HubSet) (hub : Hub) (place : ℕ) → number_of hub ≡ Some (place + 1) → has_hub set hub ≡ has_place set.words place
 has_hub-place set hub place is =
     let index : place + 1 - 1 ≡ place = omega arith in
     ap (has_number set) is ∙ ap (has_place set.words) index
@@ -38,7 +38,7 @@ numbered_from hub n is =
 
 module _ (wiring : Wiring) (net : NetRows) (is_net : IsNetOf wiring net) (short : length net.rows ≤ 1040)
     (exits closed : HubSet) where
-  pub leads_on-place : (from to : Hub) (g h : ℕ) → number_of from ≡ Some (g + 1) → number_of to ≡ Some (h + 1)
+  leads_on-place : (from to : Hub) (g h : ℕ) → number_of from ≡ Some (g + 1) → number_of to ≡ Some (h + 1)
       → leads_on net from to ≡ leads net.rows g h
   leads_on-place from to g h is and_is =
       let index : g + 1 - 1 ≡ g = omega arith in

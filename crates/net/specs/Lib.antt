@@ -18,4 +18,4 @@ pub mod Orders
 pub mod Tells
 pub mod Kinds
 pub mod Tellings
-pub mod Plans
+pub mod CyclePaths

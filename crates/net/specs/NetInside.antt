@@ -6,13 +6,11 @@ use Rattle.bit_sets.specs.Bits.{has_place}
 use Rattle.bit_sets.specs.Contacts.{AreCommons}
 use Rattle.bit_sets.specs.Rows.{leads}
 use Rattle.bit_sets.specs.declared.contacts.Run.{Run}
-use Rattle.spreads.specs.Links.{IsInRange, is_linked}
 use Rattle.net.specs.Nets.{IsNetOf}
 use Rattle.spreads.specs.Paths.{PathLinks}
 use Rattle.spreads.specs.declared.links.Link.{Link}
-use Rattle.net.specs.Plans.{AreLinks, ArePlansTo, Serves}
+use Rattle.net.specs.CyclePaths.{AreLinks, ArePathsIn, ArePathsOfKinds}
 use Rattle.net.specs.declared.cycle.Cycle.TheVariants.{RunIn}
-use Rattle.net.specs.declared.kinds.Plan.{Plan}
 use Rattle.net.specs.Straight.{AreRunsOf}
 use Rattle.net.specs.Tellings.{AreTellings}
 use Rattle.net.specs.declared.net.Wired.{Wired}
@@ -22,19 +20,18 @@ use Rattle.net.specs.declared.tellings.Telling.{Telling}
 -- the wires of a setup, as rows and one by one
 pub record IsWiredFor (wiring : Wiring) (wired : Wired) : Type 0 where
   pub net : IsNetOf wiring (record { rows = wired.rows })
-  pub in_range : All IsInRange wired.links.items
-  pub agree : (from to : ℕ) → is_linked wired.links.items from to ≡ leads wired.rows from to
+  pub lead : AreLinks wired.rows wired.links.items
 
 -- Links lead on where the rows do. The common places of the contacts are known, and what the exits that tell of cycles tell; so are the
 -- paths of rows in their cycles and in the run-in, and the runs of straight wires if no others may carry rows and none leads to a contact.
-pub record IsNetInside (contacts : List Run) (common_places other_places : List ℕ) (tellings : List Telling) (plans : List Plan)
+pub record IsNetInside (contacts : List Run) (common_places other_places : List ℕ) (tellings : List Telling) (paths : List PathLinks)
     (run_in : PathLinks) (runs : Option (Vec Straight Global)) (rows : List (List ℕ)) : Type 0 where
   pub links : List Link
   pub lead : AreLinks rows links
   pub commons : AreCommons contacts common_places
   pub others : AreCommons (drop 1 contacts) other_places
   pub told : AreTellings rows tellings
-  pub planned : ArePlansTo links tellings 16 plans
-  pub begun : (wiring : Wiring) → Serves wiring (record { rows = rows }) RunIn run_in
+  pub pathed : ArePathsOfKinds links tellings paths
+  pub begun : (wiring : Wiring) → ArePathsIn wiring (record { rows = rows }) RunIn run_in
   pub straight : IfSome runs (λ all. AreRunsOf (leads rows) all.items)
   pub direct : IfSome runs (λ all. All (λ link. has_place common_places link.to ≡ false) links)

@@ -14,13 +14,6 @@ use Rattle.net.specs.Panel.{contact_of}
 abbrev pub closes_at_row : HubSet → HubSet → CardRow → Hub → Bool
 closes_at_row digits zones row hub = has_hub (if nat_lt (passing_place row) 10 then digits else zones) hub
 
--- a closed contact leads to the hub from one that has the row
-pub record IsPassedOn (digits zones : HubSet) (sets : List ℕ) (row : CardRow) (hub : Hub) : Type 0 where
-  pub common : Hub
-  pub contact : contact_of hub ≡ Some common
-  pub closed : closes_at_row digits zones row hub ≡ true
-  pub on : has_row_at sets (passing_place row) common ≡ true
-
 -- no carry entry of the picture has a closed contact
 abbrev pub PassesNoCarry : (Hub → Bool) → (Hub → Bool) → Type 0
 PassesNoCarry closed picture = (group : Group) → picture (CI group) ≡ true → closed (CO group) ≡ false

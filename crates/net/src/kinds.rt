@@ -1,8 +1,8 @@
 //! What may emit at the rows in each kind of cycle, whichever contacts are closed at its control point.
 
-ghost use Rattle.std.specs.Prelude.{◌≡◌, ℕ, ◌+◌, ◌<◌, ◌≤◌, All, List, Bool, IfOk, IfSome, Some, length, true};
+ghost use Rattle.std.specs.Prelude.{◌≡◌, ℕ, ◌+◌, ◌<◌, ◌≤◌, All, List, Bool, IfOk, Some, length, true};
 ghost use Rattle.spreads.specs.Links.{IsInRange};
-ghost use Rattle.net.specs.Plans.{ArePlansTo, IsPlanOf};
+ghost use Rattle.net.specs.CyclePaths.{ArePathsOfKinds};
 ghost use Rattle.hubs.specs.declared.hub.Hub.{Hub};
 ghost use Rattle.setups.specs.Wiring.{LeadsToEntries, Wiring};
 ghost use Rattle.net.specs.Cycles.{emitter_of};
@@ -23,61 +23,48 @@ use hubs::{Group, Hub};
 use spreads::{Link, Paths};
 use std::alloc::{AllocError, Global};
 
-// The paths of rows in a kind of cycle; none if an impulse may pass one contact and come to another at its control point.
-#[derive(Drop)]
-pub(crate) struct Plan {
-    pub(crate) paths: Option<Paths>,
-}
-
-// The plans of the cycles that these exits tell of, in their order.
-pub(crate) fn plans_of(
+// The paths of rows in the cycles that these exits tell of, in their order.
+pub(crate) fn paths_of_kinds(
     alloc: Global,
     tellings: &[Telling],
     links: &[Link],
-) -> Result<Vec<Plan>, AllocError>
+) -> Result<Vec<Paths>, AllocError>
     requires range { All IsInRange links.now }
     requires all { length tellings.now ≡ 16 }
-    ensures { IfOk result (λ plans. ArePlansTo links.now tellings.now 16 plans.items) }
+    ensures { IfOk result (λ paths. ArePathsOfKinds links.now tellings.now paths.items) }
 {
-    let mut plans = Vec::new(alloc);
+    let mut paths = Vec::new(alloc);
     for kind in 0..16 {
-        plans.push(plan_of(alloc, kind, &tellings[kind], links)?)?;
+        let exits = emitting(kind, &tellings[kind]);
+        paths.push(Paths::of(alloc, &CONTACTS, links, &exits)?)?;
     }
-    Ok(plans)
+    Ok(paths)
 }
 
-// The plan of a kind of cycle.
-fn plan_of(
-    alloc: Global,
-    kind: usize,
-    telling: &Telling,
-    links: &[Link],
-) -> Result<Plan, AllocError>
-    requires range { All IsInRange links.now }
-    requires kind { kind < 16 }
-    ensures { IfOk result (IsPlanOf links.now kind telling.now) }
-{
-    match emitting(kind, telling) {
-        Some(exits) => Ok(Plan {
-            paths: Some(Paths::of(alloc, &CONTACTS, links, &exits)?),
-        }),
-        None => Ok(Plan { paths: None }),
-    }
-}
-
-// The places of the exits that may emit at the rows in a kind of cycle. With all contacts closed everything is told that may be told. None
-// if an impulse may pass one contact and come to another, since more may be told then.
-pub(crate) fn emitting(kind: usize, telling: &Telling) -> Option<[u64; WORDS]>
+// The places of the exits that may emit at the rows in a kind of cycle.
+fn emitting(kind: usize, telling: &Telling) -> [u64; WORDS]
     requires { kind < 16 }
     ensures { (wiring : Wiring) (rows : List (List ℕ)) (cycle : Cycle) → IsNetOf wiring (record { rows = rows }) → LeadsToEntries wiring
         → kind_of cycle ≡ Some kind → IsTelling rows (1024 + kind) telling.now
-        → IfSome result (λ places. HasEmitting wiring cycle (record { words = places })) }
+        → HasEmitting wiring cycle (record { words = result }) }
+{
+    let told = widest_told(telling);
+    let exits = exits_of(kind, &told);
+    exits.words
+}
+
+// Of the hubs that groups and storage units sense, those that may be told: with all contacts closed everything is told that may be. If an
+// impulse may pass one contact and come to another, more may be told than is known, and all these hubs are taken.
+fn widest_told(telling: &Telling) -> Picture
+    ensures { (wiring : Wiring) (rows : List (List ℕ)) (cycle : Cycle) (kind : ℕ) → IsNetOf wiring (record { rows = rows })
+        → LeadsToEntries wiring → kind_of cycle ≡ Some kind → kind < 16 → IsTelling rows (1024 + kind) telling.now
+        → HasOrders (MayBeTold wiring cycle) result }
 {
     let every = [u64::MAX; WORDS];
-    let orders = told_through(&telling.base, telling.branches.as_slice(), &every)?;
-    let told = told_hubs(&orders);
-    let exits = exits_of(kind, &told);
-    Some(exits.words)
+    match told_through(&telling.base, telling.branches.as_slice(), &every) {
+        Some(orders) => told_hubs(&orders),
+        None => told_hubs(&Orders::all()),
+    }
 }
 
 // The places of the exits that may emit at the rows of the run-in, in which nothing is told.

@@ -10,14 +10,14 @@ ghost use Rattle.net.specs.Impulsed.{IsPicture};
 ghost use Rattle.net.specs.Kinds.{MayHaveRows};
 ghost use Rattle.net.specs.Nets.{IsNetOf, NetRows};
 ghost use Rattle.net.specs.Passing.{AreContactsSilent, closes_at_row};
-ghost use Rattle.net.specs.Plans.{Serves};
+ghost use Rattle.net.specs.CyclePaths.{ArePathsIn};
 ghost use Rattle.net.specs.RowSets.{pictures_of};
 ghost use Rattle.net.specs.declared.cycle.Cycle.{Cycle};
 ghost use Rattle.net.specs.declared.cycle.Point.TheVariants.{Row};
 
 use crate::contacts::CONTACTS;
 use crate::cycle::Cycle;
-use crate::kinds::{Plan, emitting_in_run_in, plans_of};
+use crate::kinds::{emitting_in_run_in, paths_of_kinds};
 use crate::links::add_links;
 use crate::orders::Orders;
 use crate::picture::{Contacts, Picture, cut_after_hubs};
@@ -42,7 +42,7 @@ pub struct Net {
     // What each of the exits that tell of cycles makes at the control point.
     tellings: Vec<Telling>,
     // For each of these exits the paths of rows in the cycles that it tells of, and those in the run-in.
-    plans: Vec<Plan>,
+    paths: Vec<Paths>,
     run_in: Paths,
     // The wires that lead from second reading to wheels, if no others may carry rows and none leads to a common hub.
     straight: Option<Vec<Straight>>,
@@ -56,7 +56,7 @@ impl Drop for Net {
             commons: _commons,
             others: _others,
             tellings: _tellings,
-            plans: _plans,
+            paths: _paths,
             run_in: _run_in,
             straight: _straight,
         } = self;
@@ -73,7 +73,7 @@ impl Model for Net {
 
     ghost use Rattle.net.specs.NetInside.{IsNetInside};
 
-    ghost invariant = { λ net. IsNetInside CONTACTS net.commons net.others net.tellings.items net.plans.items net.run_in net.straight net.rows };
+    ghost invariant = { λ net. IsNetInside CONTACTS net.commons net.others net.tellings.items net.paths.items net.run_in net.straight net.rows };
 }
 
 impl Net {
@@ -87,7 +87,7 @@ impl Net {
     ghost use Rattle.card_code.specs.declared.row.Row.{Row as CardRow};
     ghost use Rattle.net.specs.Passing.{AreContactsSilent, PassesNoCarry, closes_at_row};
     ghost use Rattle.net.specs.Kinds.{MayHaveRows};
-    ghost use Rattle.net.specs.Plans.{Serves};
+    ghost use Rattle.net.specs.CyclePaths.{ArePathsIn};
     ghost use Rattle.net.specs.declared.cycle.Cycle.{Cycle};
     ghost use Rattle.net.specs.Straight.{AreStraight, IsInside};
     ghost use Rattle.net.specs.RowSets.{LeadsToNoContact, pictures_of};
@@ -101,7 +101,7 @@ impl Net {
         let commons = commons_of(&CONTACTS);
         let others = commons_of(&CONTACTS[1..]);
         let tellings = tellings_of(alloc, &rows, &commons)?;
-        let plans = plans_of(alloc, tellings.as_slice(), links.as_slice())?;
+        let paths = paths_of_kinds(alloc, tellings.as_slice(), links.as_slice())?;
         let run_in = Paths::of(alloc, &CONTACTS, links.as_slice(), &emitting_in_run_in())?;
         let straight = straight_of(alloc, links.as_slice(), &commons)?;
         Ok(Net {
@@ -109,7 +109,7 @@ impl Net {
             commons,
             others,
             tellings,
-            plans,
+            paths,
             run_in,
             straight,
         })
@@ -193,7 +193,7 @@ impl Net {
     /// hubs that may emit in the cycle have rows, and none from which or to which a contact leads. `digits` has the contacts that are closed
     /// at the rows 9 to 0, `zones` those that are closed at 11 and 12.
     ///
-    /// Answers false if an impulse may pass one contact behind another, at a row or at the control point: then the sets may lack rows.
+    /// Answers false if an impulse may pass one contact behind another: then the sets may lack rows.
     pub fn spread_through(
         &self,
         cycle: Cycle,
@@ -212,22 +212,16 @@ impl Net {
         if sets.places.are_empty() {
             return true;
         }
-        match self.paths_in(cycle) {
-            Some(paths) => spread_by(paths, digits, zones, sets),
-            None => false,
-        }
+        spread_by(self.paths_in(cycle), digits, zones, sets)
     }
 
-    // The paths of rows in a cycle. None if an impulse may pass one contact and come to another at its control point.
-    fn paths_in(&self, cycle: Cycle) -> Option<&Paths>
-        ensures { (wiring : Wiring) → IsNetOf wiring self.now → IfSome result (λ paths. Serves wiring self.now cycle paths.now) }
+    // The paths of rows in a cycle.
+    fn paths_in(&self, cycle: Cycle) -> &Paths
+        ensures { (wiring : Wiring) → IsNetOf wiring self.now → ArePathsIn wiring self.now cycle result.now }
     {
         match kind_of(cycle) {
-            Some(kind) => match &self.plans[kind].paths {
-                Some(paths) => Some(paths),
-                None => None,
-            },
-            None => Some(&self.run_in),
+            Some(kind) => &self.paths[kind],
+            None => &self.run_in,
         }
     }
 }
@@ -238,7 +232,7 @@ fn spread_by(paths: &Paths, digits: &Contacts, zones: &Contacts, sets: &mut RowS
     ensures { result ≡ true
         → (wiring : Wiring) (net : NetRows) (cycle : Cycle)
         → IsNetOf wiring net
-        → Serves wiring net cycle paths.now
+        → ArePathsIn wiring net cycle paths.now
         → MayHaveRows wiring cycle sets.old
         → (row : CardRow)
         → IsPicture wiring (pictures_of sets.old (Row row)) (closes_at_row digits.now zones.now row) (pictures_of sets.new (Row row)) }

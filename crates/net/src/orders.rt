@@ -1,6 +1,6 @@
 //! What a picture of the control point tells the units.
 
-ghost use Rattle.std.specs.Prelude.{◌||◌, Bool, false};
+ghost use Rattle.std.specs.Prelude.{◌||◌, Bool, false, true};
 
 use crate::picture::Picture;
 use hubs::{Group, Hub};
@@ -36,6 +36,17 @@ impl Orders {
             controls: 0,
             storage: 0,
             carriage: 0,
+        }
+    }
+
+    // Each hub is impulsed.
+    pub(crate) fn all() -> Self
+        ensures { AreOrdersOf (λ hub. true) result }
+    {
+        Orders {
+            controls: u128::MAX,
+            storage: u128::MAX,
+            carriage: u128::MAX,
         }
     }
 

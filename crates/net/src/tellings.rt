@@ -21,7 +21,7 @@ use bit_sets::{EXITS, Rows, WORDS, meet, reach_by_rows};
 use hubs::Hub;
 use std::alloc::{AllocError, Global};
 
-// The place of the first of the exits that tell of cycles: CC, PX and HX. They are the last exits, and emit at control points alone.
+// CC, PX and HX tell of cycles. They are the last exits, and emit at control points alone. This is the place of the first of them.
 pub(crate) const FIRST_TELLING: u16 = 1024;
 
 // What is told where the contact to the exit at a place is closed.

@@ -9,8 +9,8 @@ use Rattle.net.proofs.Below.bit_sets.BitLemmas.{is_bit-above, is_bit-low_word, i
 use Rattle.net.specs.HubSets.{is_bit}
 use Rattle.print_unit.proofs.Bits.{is_bit-zero}
 
--- The wheels of half a word that are no longer left are blank on the line, and the others have what old had. Its bits stand for the wheels
--- from one on.
+-- Bits of half a word stand for the wheels from one on. Of the hidden wheels those that are no longer left are blank on the new line; all
+-- others have what the old one had.
 pub record HidesLeft (from hidden left : ℕ) (old new : List ℕ) : Type 0 where
   pub small : left < 2 ^ 64
   pub within : (k : ℕ) → k < 64 → (is_bit left k && is_bit hidden k) ≡ is_bit left k

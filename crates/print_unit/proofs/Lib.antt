@@ -12,4 +12,4 @@ pub mod WheelRows
 pub mod HiddenWheels
 pub mod Hiding
 pub mod EmittedRows
-pub mod Blocks
+pub mod Printed

@@ -1,5 +1,5 @@
--- Sets of rows as numbers: bit p stands for the row that comes p rows after row 9, in the order of the points. What is said
--- here is for proofs: what wheels print stands in ZeroControl.
+-- Sets of rows as numbers, for the contracts of this crate: bit p stands for the row that comes p rows after row 9, in the order of the
+-- points. What a set prints stands in ZeroControl.
 use Rattle.std.specs.Prelude.{◌≡◌, ℕ, ◌-◌, ◌<◌, ◌==◌, ◌&&◌, ◌||◌, nat_le, nat_lt, slice_index_or, Bool, List, map}
 use Rattle.std.specs.List.{range_with_len}
 use Rattle.net.specs.HubSets.{is_bit}

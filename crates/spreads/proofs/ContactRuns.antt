@@ -13,12 +13,12 @@ use borrow.Rule.Slice.PartMut.{mid_of, put_mid}
 use Rattle.std.proofs.lemmas.List.Folds.{list_any_more}
 use Rattle.std.proofs.lemmas.List.{take_all, append-nil, drop_all, get_or-drop, get_or-take, length-drop, length-take-le}
 use Rattle.std.proofs.lemmas.Simd.{get_or-put_chunk_above, get_or-put_chunk_at, get_or-put_chunk_below, get_or-zip2, length-zip2, put_chunk_is}
-use Rattle.spreads.specs.Links.{HasEntriesOf, HasRoom, IsEight, has_at}
+use Rattle.spreads.specs.Links.{HasRoom, IsEight, has_at}
 use Rattle.bit_sets.specs.Contacts.{is_any_contact, is_contact}
 use Rattle.bit_sets.specs.declared.contacts.Run.{Run}
 use Rattle.spreads.specs.Passing.{IsRunPassed, RunsPass, SameSets, is_closed_at, is_passed_in}
 use Rattle.spreads.proofs.LinkLemmas.{equal, itself, picked, regrouped}
-use Rattle.spreads.proofs.PassLemmas.{any-contact, closed-by}
+use Rattle.spreads.proofs.PassLemmas.{HasEntriesOf, any-contact, closed-by}
 use Rattle.bit_sets.proofs.BitLemmas.{is_bit-above, is_bit-and, is_bit-low, is_bit-ones, is_bit-or, is_bit-shl, is_bit-shr, is_bit-zero}
 use Rattle.bit_sets.specs.Bits.{has_place, is_bit}
 

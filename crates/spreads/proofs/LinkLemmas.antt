@@ -8,9 +8,13 @@ use Rattle.std.proofs.lemmas.Bool.{and_from, and_parts}
 use Rattle.std.proofs.lemmas.Bool.Decides.{nat_tests}
 use Rattle.std.proofs.lemmas.List.{take_all}
 use Rattle.std.proofs.lemmas.List.Folds.{Any-from_list_any, list_any-append, list_any_at, list_any_more}
-use Rattle.spreads.specs.Links.{HasExitsOf, IsFollowed, IsInRange, Spreads, has_at, is_fed_at, is_link, is_linked}
+use Rattle.spreads.specs.Links.{IsFollowed, IsInRange, Spreads, has_at, is_fed_at, is_link, is_linked}
 use Rattle.spreads.specs.declared.links.Link.{Link}
 use Rattle.spreads.proofs.JoinedSets.{set-joined}
+
+-- each exit of the panel has the rows that it had
+abbrev pub HasExitsOf : List ℕ → List ℕ → Type 0
+HasExitsOf old new = (place row : ℕ) → place < 1040 → has_at new place row ≡ has_at old place row
 
 pub equal : (m n : ℕ) → (m == n) ≡ true → m ≡ n
 equal m n e = grind (arith, nat_tests, e)

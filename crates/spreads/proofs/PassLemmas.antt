@@ -12,11 +12,15 @@ use Rattle.bit_sets.proofs.BitLemmas.{is_bit-and, is_bit-ones, is_bit-or, is_bit
 use Rattle.bit_sets.specs.Bits.{has_place, is_bit}
 use Rattle.bit_sets.specs.Contacts.{is_any_contact, is_contact}
 use Rattle.bit_sets.specs.declared.contacts.Run.{Run}
-use Rattle.spreads.specs.Links.{HasEntriesOf, IsPassing, has_at, is_led_to, is_link, is_linked}
+use Rattle.spreads.specs.Links.{IsPassing, has_at, is_led_to, is_link, is_linked}
 use Rattle.spreads.specs.Passing.{AddsContacts, IsPassed, Passes, is_closed_at, is_passed_by}
 use Rattle.spreads.specs.declared.links.Link.{Link}
 use Rattle.spreads.proofs.JoinedSets.{set-joined}
 use Rattle.spreads.proofs.LinkLemmas.{equal, itself, linked-found, picked, regrouped, turned}
+
+-- each entry has the rows that it had
+abbrev pub HasEntriesOf : List ℕ → List ℕ → Type 0
+HasEntriesOf old new = (place row : ℕ) → 1040 ≤ place → has_at new place row ≡ has_at old place row
 
 -- the first ten rows, and the next two, as bits
 ten_rows : (row : ℕ) → is_bit 1023 row ≡ nat_lt row 10

@@ -62,14 +62,6 @@ abbrev pub IsFollowed : Link → List ℕ → List ℕ → Type 0
 IsFollowed link old new =
     (place row : ℕ) → has_at new place row ≡ (has_at old place row || ((link.to == place) && has_at old link.from row))
 
--- each exit of the panel has the rows that it had
-abbrev pub HasExitsOf : List ℕ → List ℕ → Type 0
-HasExitsOf old new = (place row : ℕ) → place < 1040 → has_at new place row ≡ has_at old place row
-
--- each entry has the rows that it had
-abbrev pub HasEntriesOf : List ℕ → List ℕ → Type 0
-HasEntriesOf old new = (place row : ℕ) → 1040 ≤ place → has_at new place row ≡ has_at old place row
-
 -- each place has the rows that it had, and those of the places from which links lead to it, and no other
 abbrev pub Spreads : List Link → List ℕ → List ℕ → Type 0
 Spreads links old new = (place row : ℕ) → has_at new place row ≡ (has_at old place row || is_fed_at links old place row)

@@ -11,7 +11,7 @@ use Rattle.hub_table.specs.Ranges.{is_within}
 use Rattle.hubs.specs.declared.hub.Hub.{Hub}
 use Rattle.hubs.specs.declared.hub.Hub.TheVariants.{CA, CB}
 use Rattle.net.specs.HubSets.{is_bit}
-use Rattle.stations.specs.Comparing.{comparing_at_start, are_unlike, differ_at, with_row}
+use Rattle.stations.specs.Comparing.{comparing_at_start, are_unlike, differ_at, set_after_point}
 use Rattle.stations.specs.Laws.{ComparingTellsDifferences, compared_after}
 use Rattle.stations.proofs.RowsCollected.{bit-after, set-after, set_after, sets_after}
 use Rattle.stations.proofs.RowWords.{no_bit}
@@ -37,8 +37,8 @@ same-collected : (one other : CardRow → Bool) (list : List CardRow) (set : ℕ
 same-collected one other [] set none = refl
 same-collected one other (row ∷ others) set none =
     let parts = alike (one row) (other row) (list_any (λ r. are_unlike (one r) (other r)) others) none in
-    ap (λ (b : Bool). set_after others one (with_row (passing_place row) b set)) parts.0
-    ∙ same-collected one other others (with_row (passing_place row) (other row) set) parts.1
+    ap (λ (b : Bool). set_after others one (set_after_point (passing_place row) b set)) parts.0
+    ∙ same-collected one other others (set_after_point (passing_place row) (other row) set) parts.1
   where
     alike : (a b c : Bool) → (are_unlike a b || c) ≡ false → (a ≡ b) × (c ≡ false)
     alike true true c e = (refl, e)

@@ -5,11 +5,12 @@ use Rattle.std.proofs.lemmas.List.{get_or-map, get_or-take, length-map, length-s
 use Rattle.std.proofs.Math.Bool.{and_comm}
 use Rattle.std.proofs.lemmas.Simd.{get_or-zip2, length-zip2, mask_l-mod, tops_compared, zip2_splat}
 use Rattle.net.proofs.Below.bit_sets.MaskLemmas.{is_bit-mask}
-use Rattle.net.proofs.Below.bit_sets.BitLemmas.{is_bit-and, is_bit-ones, is_bit-or}
+use Rattle.net.proofs.Below.bit_sets.BitLemmas.{is_bit-and, is_bit-ones, is_bit-or, is_bit-zero}
 use Rattle.net.specs.HubSets.{is_bit}
 use Rattle.net.specs.HubRows.{has_at}
-use Rattle.stations.specs.Comparing.{differ_at, with_row}
+use Rattle.stations.specs.Comparing.{differ_at, set_after_point}
 use Rattle.std.proofs.lemmas.Nat.{one_shl}
+use Rattle.std.specs.Int.Bits.{or_zero_r}
 use Rattle.std.proofs.Math.Nat.{zero-mul}
 use Rattle.std.proofs.lemmas.Grind.{common_steps}
 use lib.Lanes.{mask_l, top, zip2}
@@ -69,8 +70,16 @@ sets-differ first second k long also =
 -- The sets up to a place have a row where they are impulsed, and the others are as they were.
 pub record HasRowTo (count place impulsed : ℕ) (old now : List ℕ) : Type 0 where
   pub long : length now ≡ 32
-  pub done : (k : ℕ) → k < count → slice_index_or now k 0 ≡ with_row place (is_bit impulsed k) (slice_index_or old k 0)
+  pub done : (k : ℕ) → k < count → slice_index_or now k 0 ≡ set_after_point place (is_bit impulsed k) (slice_index_or old k 0)
   pub rest : (k : ℕ) → count ≤ k → slice_index_or now k 0 ≡ slice_index_or old k 0
+
+-- where none of thirty entries is impulsed each set stays
+pub none-added : (impulsed place k set : ℕ) → bit_and impulsed (2 ^ 30 - 1) ≡ 0 → k < 30 → set ≡ set_after_point place (is_bit impulsed k) set
+none-added impulsed place k set none low =
+    let below : true ≡ nat_lt k 30 = grind (arith, nat_tests, low) in
+    let clear : is_bit impulsed k ≡ false =
+    ap (λ b. b && is_bit impulsed k) below ∙ sym (bits-cut impulsed 30 k) ∙ ap (λ w. is_bit w k) none ∙ is_bit-zero k in
+    sym (ap (λ b. set_after_point place b set) clear ∙ or_zero_r set)
 
 -- a set more
 pub one-added : (count place impulsed byte : ℕ) (has : Bool) (old now : List ℕ) → count < 32 → place < 12
@@ -89,7 +98,7 @@ one-added count place impulsed byte has old now below low is from before = recor
     bit true = one_shl place 16 (omega (arith, low))
     bit false = ap (λ (n : ℕ). n % 2 ^ 16) (zero-mul (2 ^ place))
 
-    row : added ≡ with_row place (is_bit impulsed count) (slice_index_or old count 0)
+    row : added ≡ set_after_point place (is_bit impulsed count) (slice_index_or old count 0)
     row =
         let here = before.rest count (omega arith) in
         let this = ap (λ (n : ℕ). n * 2 ^ place % 2 ^ 16) from ∙ bit has ∙ ap (λ (b : Bool). if b then 2 ^ place else 0) is in

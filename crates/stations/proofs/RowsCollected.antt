@@ -21,13 +21,13 @@ use Rattle.net.specs.declared.cycle.Cycle.{Cycle}
 use Rattle.net.specs.declared.cycle.Cycle.TheVariants.{RunIn, Card, Prog, Head}
 use Rattle.net.specs.declared.cycle.Point.{Point}
 use Rattle.net.specs.declared.cycle.Point.TheVariants.{Row}
-use Rattle.stations.specs.Comparing.{Compared, HaveNoEntries, after_row, comparing_sensed, with_row}
+use Rattle.stations.specs.Comparing.{Compared, HaveNoEntries, after_row, comparing_sensed, set_after_point}
 use Rattle.stations.proofs.RowHubs.{first-number, row_bit, second-number}
 
 -- a set after the points of some rows, by whether its entry is impulsed there
 abbrev pub set_after : List CardRow → (CardRow → Bool) → ℕ → ℕ
 set_after [] is_impulsed set = set
-set_after (row ∷ others) is_impulsed set = set_after others is_impulsed (with_row (passing_place row) (is_impulsed row) set)
+set_after (row ∷ others) is_impulsed set = set_after others is_impulsed (set_after_point (passing_place row) (is_impulsed row) set)
 
 -- the sets of thirty entries after them
 abbrev pub sets_after : List CardRow → (CardRow → ℕ → Bool) → List ℕ → List ℕ
@@ -36,9 +36,9 @@ sets_after (row ∷ others) is_impulsed sets = sets_after others is_impulsed (af
 
 -- each set by itself
 set-after-row : (place : ℕ) (is_impulsed : ℕ → Bool) (sets : List ℕ) (k : ℕ) → k < 30
-    → slice_index_or (after_row place is_impulsed sets) k 0 ≡ with_row place (is_impulsed (suc k)) (slice_index_or sets k 0)
+    → slice_index_or (after_row place is_impulsed sets) k 0 ≡ set_after_point place (is_impulsed (suc k)) (slice_index_or sets k 0)
 set-after-row place is_impulsed sets k low =
-    get_or-map-range_with_len (λ j. with_row place (is_impulsed (suc j)) (slice_index_or sets j 0)) 0 30 k k 0 low (omega arith)
+    get_or-map-range_with_len (λ j. set_after_point place (is_impulsed (suc j)) (slice_index_or sets j 0)) 0 30 k k 0 low (omega arith)
 
 pub set-after : (list : List CardRow) (is_impulsed : CardRow → ℕ → Bool) (sets : List ℕ) (k : ℕ) → k < 30
     → slice_index_or (sets_after list is_impulsed sets) k 0 ≡ set_after list (λ row. is_impulsed row (suc k)) (slice_index_or sets k 0)
@@ -58,29 +58,29 @@ first-thirty sets others long also same =
 
 -- they are those after the point of a row, where each of them is
 row-collected : (place : ℕ) (is_impulsed : ℕ → Bool) (old new : List ℕ) → length new ≡ 32
-    → ((k : ℕ) → k < 30 → slice_index_or new k 0 ≡ with_row place (is_impulsed (suc k)) (slice_index_or old k 0))
+    → ((k : ℕ) → k < 30 → slice_index_or new k 0 ≡ set_after_point place (is_impulsed (suc k)) (slice_index_or old k 0))
     → take 30 new ≡ after_row place is_impulsed (take 30 old)
 row-collected place is_impulsed old new long are =
     first-thirty new (after_row place is_impulsed (take 30 old)) long refl
     (λ k low. are k low
-    ∙ sym (set-after-row place is_impulsed (take 30 old) k low ∙ ap (with_row place (is_impulsed (suc k))) (get_or-take 30 old k 0 low)))
+    ∙ sym (set-after-row place is_impulsed (take 30 old) k low ∙ ap (set_after_point place (is_impulsed (suc k))) (get_or-take 30 old k 0 low)))
 
 -- comparing after the point of a row of a card cycle
 pub row-sensed : (at : CardRow) (place row others : ℕ) (hubs : HubSet) (first second new_first new_second : List ℕ)
     → length new_first ≡ 32 → length new_second ≡ 32 → place ≡ passing_place at
     → ((hub : Hub) → is_in_reach (CA 1) hub ≡ true → is_in_row (CA 1) row hub ≡ has_hub hubs hub)
     → ((hub : Hub) → is_in_reach (CB 1) hub ≡ true → is_in_row (CB 1) others hub ≡ has_hub hubs hub)
-    → ((k : ℕ) → k < 30 → slice_index_or new_first k 0 ≡ with_row place (is_bit row k) (slice_index_or first k 0))
-    → ((k : ℕ) → k < 30 → slice_index_or new_second k 0 ≡ with_row place (is_bit others k) (slice_index_or second k 0))
+    → ((k : ℕ) → k < 30 → slice_index_or new_first k 0 ≡ set_after_point place (is_bit row k) (slice_index_or first k 0))
+    → ((k : ℕ) → k < 30 → slice_index_or new_second k 0 ≡ set_after_point place (is_bit others k) (slice_index_or second k 0))
     → ◌≡◌ {A = Compared} (record { first = take 30 new_first; second = take 30 new_second })
     (comparing_sensed (record { first = take 30 first; second = take 30 second }) Card (Row at) (has_hub hubs))
 row-sensed at place row others hubs first second new_first new_second long also is reads reads_too gained gained_too =
     let one = row-collected (passing_place at) (λ p. has_hub hubs (CA p)) first new_first long
     (λ k low. gained k low
-    ∙ (λ i. with_row (is i) (row_bit (CA 1) (CA (suc k)) 1041 k row hubs refl (first-number k low) (omega (arith, low)) reads i) (slice_index_or first k 0))) in
+    ∙ (λ i. set_after_point (is i) (row_bit (CA 1) (CA (suc k)) 1041 k row hubs refl (first-number k low) (omega (arith, low)) reads i) (slice_index_or first k 0))) in
     let other = row-collected (passing_place at) (λ p. has_hub hubs (CB p)) second new_second also
     (λ k low. gained_too k low
-    ∙ (λ i. with_row (is i) (row_bit (CB 1) (CB (suc k)) 1071 k others hubs refl (second-number k low) (omega (arith, low)) reads_too i) (slice_index_or second k 0))) in
+    ∙ (λ i. set_after_point (is i) (row_bit (CB 1) (CB (suc k)) 1071 k others hubs refl (second-number k low) (omega (arith, low)) reads_too i) (slice_index_or second k 0))) in
     λ i. record { first = one i; second = other i }
 
 -- the bit of a row, where its entry is impulsed
@@ -98,7 +98,7 @@ bit-after [] is_impulsed set bit = no_more (is_bit set bit)
     no_more true = refl
     no_more false = refl
 bit-after (row ∷ others) is_impulsed set bit =
-    bit-after others is_impulsed (with_row (passing_place row) (is_impulsed row) set) bit
+    bit-after others is_impulsed (set_after_point (passing_place row) (is_impulsed row) set) bit
     ∙ rw (is_bit-or set (if is_impulsed row then 2 ^ passing_place row else 0) bit, row-bit (is_impulsed row) (passing_place row) bit)
     (regrouped (is_bit set bit) (is_impulsed row) (bit == passing_place row)
     (list_any (λ r. (bit == passing_place r) && is_impulsed r) others))

@@ -23,13 +23,13 @@ abbrev pub comparing_at_start : Compared
 comparing_at_start = record { first = replicate 30 0; second = replicate 30 0 }
 
 -- a set after the point of the row at a place, by whether its entry is impulsed there
-abbrev pub with_row : ℕ → Bool → ℕ → ℕ
-with_row place is_impulsed set = bit_or set (if is_impulsed then 2 ^ place else 0)
+abbrev pub set_after_point : ℕ → Bool → ℕ → ℕ
+set_after_point place is_impulsed set = bit_or set (if is_impulsed then 2 ^ place else 0)
 
 -- the sets of thirty entries after that point, by whether the entry with a number is impulsed there
 abbrev pub after_row : ℕ → (ℕ → Bool) → List ℕ → List ℕ
 after_row place is_impulsed sets =
-    map (λ k. with_row place (is_impulsed (suc k)) (slice_index_or sets k 0)) (range_with_len 0 30)
+    map (λ k. set_after_point place (is_impulsed (suc k)) (slice_index_or sets k 0)) (range_with_len 0 30)
 
 -- whether two answers are unlike
 abbrev pub are_unlike : Bool → Bool → Bool

@@ -3,7 +3,7 @@
 ghost use Rattle.std.specs.Prelude.{◌≡◌, ℕ, ◌<◌, ◌≤◌, ◌&&◌, ◌||◌, nat_lt, length, slice_index_or, take};
 ghost use Rattle.net.specs.HubRows.{has_at};
 ghost use Rattle.net.specs.HubSets.{is_bit};
-ghost use Rattle.stations.specs.Comparing.{with_row};
+ghost use Rattle.stations.specs.Comparing.{set_after_point};
 ghost use Rattle.stations.specs.CollectedSets.{AreSetsOf};
 
 use hubs::Hub;
@@ -170,12 +170,16 @@ fn entries_having(sets: &[u16; ROOM], place: usize) -> u32
     (rows.simd_ne(u16x32::splat(0)).to_bitmask() & 0x3fff_ffff) as u32
 }
 
-// Adds the row at a place to the sets of those of thirty entries that are impulsed: bit k stands for the entry whose set is at place k.
+// Adds the row at a place to the sets of those of thirty entries that are impulsed: bit k stands for the entry whose set is at place k. If
+// none is, as mostly, no set is looked at.
 fn add_row(sets: &mut [u16; ROOM], impulsed: u128, place: usize)
     requires { place < 12 }
     ensures { (k : ℕ) → k < POSITIONS
-        → slice_index_or sets.new k 0 ≡ with_row place (is_bit impulsed k) (slice_index_or sets.old k 0) }
+        → slice_index_or sets.new k 0 ≡ set_after_point place (is_bit impulsed k) (slice_index_or sets.old k 0) }
 {
+    if impulsed & 0x3fff_ffff == 0 {
+        return;
+    }
     for k in 0..POSITIONS {
         sets[k] |= u16::from(has_bit(impulsed, k)) << place;
     }

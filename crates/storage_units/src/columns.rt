@@ -25,12 +25,12 @@ pub(crate) fn put_row(sets: &mut [u16; COLUMNS], place: usize, columns: u16)
         → has_at sets.new k other ≡ (if other == place then is_bit columns k else has_at sets.old k other) }
 {
     for k in 0..COLUMNS {
-        sets[k] = with_row(sets[k], place, has_bit(columns, k));
+        sets[k] = put_in_set(sets[k], place, has_bit(columns, k));
     }
 }
 
 // A set with a row, or without it.
-fn with_row(set: u16, place: usize, has: bool) -> u16
+fn put_in_set(set: u16, place: usize, has: bool) -> u16
     requires { place < 12 }
     ensures { (other : ℕ) → other < 12 → is_bit result other ≡ (if other == place then has else is_bit set other) }
 {

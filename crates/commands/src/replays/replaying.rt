@@ -84,10 +84,10 @@ pub struct Replayed<S: Sink + Drop> {
 }
 
 /// Runs the deck of a text through the machine of a setup, and writes the pages of its lines to a sink in blocks of 64 KB. The lines of
-/// each card are taken up before the next one is taken from the text, so that no card is kept. Any setup and any deck will do: the text is one that
-/// `check_deck` accepts. Hands the sink back, also where it has failed.
+/// each card are taken up before the next one is taken from the text, so that no card is kept. Any setup and any deck will do: the text is
+/// one that `check_deck` accepts. Hands the sink back, even if it has failed.
 ///
-/// The fault is `Memory` where a growth is refused and `Write` where the sink fails. Either way the sink has gained the front of the
+/// The fault is `Memory` if a growth is refused and `Write` if the sink fails. Either way the sink has gained the front of the
 /// pages, as many bytes as the fault tells.
 pub fn replay<S: Sink + Drop>(alloc: Global, setup: &Setup, deck: &[u8], sink: S) -> Replayed<S>
     requires { IsDeckText deck.now }

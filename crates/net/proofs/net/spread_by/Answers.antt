@@ -8,34 +8,34 @@ use Rattle.net.proofs.PassedRows.{passed_once, passed_twice}
 use Rattle.net.proofs.net.spread_by.Goals as goal
 
 pub returns-then-not-pass : goal.returns-then-not-pass
-returns-then-not-pass c all wiring net cycle is_net serves may row =
+returns-then-not-pass c all wiring net cycle is_net are may row =
     let old = c.args.sets.now in
     let spread = c.follow_outer.new.sets in
-    let listed = may-listed wiring cycle serves.exits old serves.emitting may in
-    passed_once wiring (is_exit_of serves.exits) c.args.digits.now c.args.zones.now row old spread c.pass.new.sets
-    (wires-lead wiring net serves.links is_net serves.lead.range serves.lead.agree) (listed row) c.requires
+    let listed = may-listed wiring cycle are.exits old are.emitting may in
+    passed_once wiring (is_exit_of are.exits) c.args.digits.now c.args.zones.now row old spread c.pass.new.sets
+    (wires-lead wiring net are.links is_net are.lead.range are.lead.agree) (listed row) c.requires
     (λ r.
-    outer-fed wiring net serves.links serves.exits c.args.paths.now is_net serves.lead.range serves.lead.agree serves.parted old spread
+    outer-fed wiring net are.links are.exits c.args.paths.now is_net are.lead.range are.lead.agree are.parted old spread
     (passing_place r) (listed r) (subst (λ (sets : List ℕ). Spreads c.args.paths.now.outer sets spread) c.sets.view_is c.follow_outer.ensures))
-    (passes-on wiring net serves.links serves.exits c.args.paths.now is_net serves.lead.range serves.lead.agree serves.parted c.args.digits.now
+    (passes-on wiring net are.links are.exits c.args.paths.now is_net are.lead.range are.lead.agree are.parted c.args.digits.now
     c.args.zones.now spread c.pass.new.sets (rw (sym c.words.ensures.words, sym c.words-2.ensures.words) c.pass.ensures.passed))
     (c.pass.ensures.same c.if-not-pass.true)
 
 pub returns : goal.returns
-returns c all wiring net cycle is_net serves may row =
+returns c all wiring net cycle is_net are may row =
     let old = c.args.sets.now in
     let spread = c.follow_outer.new.sets in
-    let listed = may-listed wiring cycle serves.exits old serves.emitting may in
-    passed_twice wiring (is_exit_of serves.exits) c.args.digits.now c.args.zones.now row old spread c.pass.new.sets c.follow_further.new.sets
-    c.pass_behind.new.sets (wires-lead wiring net serves.links is_net serves.lead.range serves.lead.agree) (listed row) c.requires
+    let listed = may-listed wiring cycle are.exits old are.emitting may in
+    passed_twice wiring (is_exit_of are.exits) c.args.digits.now c.args.zones.now row old spread c.pass.new.sets c.follow_further.new.sets
+    c.pass_behind.new.sets (wires-lead wiring net are.links is_net are.lead.range are.lead.agree) (listed row) c.requires
     (λ r.
-    outer-fed wiring net serves.links serves.exits c.args.paths.now is_net serves.lead.range serves.lead.agree serves.parted old spread
+    outer-fed wiring net are.links are.exits c.args.paths.now is_net are.lead.range are.lead.agree are.parted old spread
     (passing_place r) (listed r) (subst (λ (sets : List ℕ). Spreads c.args.paths.now.outer sets spread) c.sets.view_is c.follow_outer.ensures))
-    (passes-on wiring net serves.links serves.exits c.args.paths.now is_net serves.lead.range serves.lead.agree serves.parted c.args.digits.now
+    (passes-on wiring net are.links are.exits c.args.paths.now is_net are.lead.range are.lead.agree are.parted c.args.digits.now
     c.args.zones.now spread c.pass.new.sets (rw (sym c.words.ensures.words, sym c.words-2.ensures.words) c.pass.ensures.passed))
-    (spreads-on wiring net serves.links serves.exits c.args.paths.now is_net serves.lead.range serves.lead.agree serves.parted c.pass.new.sets
+    (spreads-on wiring net are.links are.exits c.args.paths.now is_net are.lead.range are.lead.agree are.parted c.pass.new.sets
     c.follow_further.new.sets c.follow_further.ensures)
-    (passes-behind wiring net serves.links serves.exits c.args.paths.now is_net serves.lead.range serves.lead.agree serves.parted
+    (passes-behind wiring net are.links are.exits c.args.paths.now is_net are.lead.range are.lead.agree are.parted
     c.args.digits.now c.args.zones.now c.follow_further.new.sets c.pass_behind.new.sets
     (rw (sym c.words-3.ensures.words, sym c.words-4.ensures.words) c.pass_behind.ensures.passed))
     (c.pass_behind.ensures.same (not-true _ all))

@@ -11,9 +11,11 @@ pub loop-number-init : goal.loop-number-init
 loop-number-init c = record {
   long = c.in_ok-rows.ensures.long;
   below = IsNetBelow-first c.args.setup.now c.in_ok-rows.rows c.in_ok-rows.ensures.empty;
-  in_range = subst (λ (links : List Link). All IsInRange links) (sym c.new-links.ensures.items) (All-nil IsInRange);
-  agree = λ from to.
-      ap (λ (links : List Link). is_linked links from to) c.new-links.ensures.items ∙ sym (c.in_ok-rows.ensures.empty from to);
+  lead = record {
+    range = subst (λ (links : List Link). All IsInRange links) (sym c.new-links.ensures.items) (All-nil IsInRange);
+    agree = λ from to.
+        ap (λ (links : List Link). is_linked links from to) c.new-links.ensures.items ∙ sym (c.in_ok-rows.ensures.empty from to);
+  };
 }
 
 pub loop-number-preserved : goal.loop-number-preserved
@@ -25,10 +27,12 @@ loop-number-preserved c =
         below = IsNetBelow-more c.loop-number.number c.args.setup.now w.in-Some.exit _ c.loop-number.rows _ from
             w.in-Some.ensures.numbered w.entries_of-entries.ensures.value w.entries_of-entries.ensures.lawful w.add_row.ensures.added
             c.loop-number.invariant.below;
-        in_range = w.in_ok-add_links.ensures.lawful;
-        agree =
-            agree-more (leads c.loop-number.rows) (leads w.add_row.new.rows) (is_linked c.loop-number.links.items)
-            (is_linked w.add_links.new.links.items) _ _ w.add_row.ensures.added w.in_ok-add_links.ensures.added c.loop-number.invariant.agree;
+        lead = record {
+          range = w.in_ok-add_links.ensures.lawful;
+          agree =
+              agree-more (leads c.loop-number.rows) (leads w.add_row.new.rows) (is_linked c.loop-number.links.items)
+              (is_linked w.add_links.new.links.items) _ _ w.add_row.ensures.added w.in_ok-add_links.ensures.added c.loop-number.invariant.lead.agree;
+        };
       })
       | in_default w ↦ absurd (no_hub c.loop-number.number from (omega arith) w.in_default.ensures.found)
     ]
@@ -39,6 +43,5 @@ returns c =
     record {
       net = rw c.bundle.ensures
           (IsNetOf-all c.loop-number.number c.args.setup.now (record { rows = c.loop-number.rows }) end c.loop-number.invariant.below);
-      in_range = c.loop-number.invariant.in_range;
-      agree = rw c.bundle.ensures c.loop-number.invariant.agree;
+      lead = rw c.bundle.ensures c.loop-number.invariant.lead;
     }

@@ -1,6 +1,6 @@
 use Rattle.std.proofs.Common.{◌≡◌, ◌+◌, ℕ, arith, subst}
 use Rattle.print_unit.specs.WheelWords.{HasPrinted}
-use Rattle.print_unit.proofs.Blocks.{printed-more}
+use Rattle.print_unit.proofs.Printed.{printed-more}
 use Rattle.print_unit.proofs.line.print_wheels.Goals as goal
 
 pub loop-k-preserved : goal.loop-k-preserved

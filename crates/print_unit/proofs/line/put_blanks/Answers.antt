@@ -1,6 +1,6 @@
 use Rattle.std.proofs.Common.{◌≡◌, ◌+◌, ℕ, arith, subst}
 use Rattle.print_unit.specs.WheelWords.{HasPrinted}
-use Rattle.print_unit.proofs.Blocks.{blank-printed, printed-more}
+use Rattle.print_unit.proofs.Printed.{blank-printed, printed-more}
 use Rattle.print_unit.proofs.line.put_blanks.Goals as goal
 
 pub loop-k-preserved : goal.loop-k-preserved

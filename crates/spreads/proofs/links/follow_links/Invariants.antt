@@ -1,5 +1,6 @@
 use Rattle.std.proofs.Common.{◌≡◌, length, take}
-use Rattle.spreads.specs.Links.{HasExitsOf, Spreads}
+use Rattle.spreads.specs.Links.{Spreads}
+use Rattle.spreads.proofs.LinkLemmas.{HasExitsOf}
 use Rattle.spreads.proofs.links.follow_links.Given as goal
 
 -- the links so far have been followed, and exits keep their sets

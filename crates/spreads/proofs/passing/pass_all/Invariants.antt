@@ -1,5 +1,5 @@
 use Rattle.std.proofs.Common.{◌≡◌, false, length, take}
-use Rattle.spreads.specs.Links.{HasEntriesOf}
+use Rattle.spreads.proofs.PassLemmas.{HasEntriesOf}
 use Rattle.spreads.specs.Passing.{Passes, SameSets}
 use Rattle.spreads.proofs.passing.pass_all.Given as goal
 

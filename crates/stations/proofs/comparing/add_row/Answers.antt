@@ -1,6 +1,9 @@
 use Rattle.std.proofs.Common.{arith}
-use Rattle.stations.proofs.EntryLanes.{one-added}
+use Rattle.stations.proofs.EntryLanes.{none-added, one-added}
 use Rattle.stations.proofs.comparing.add_row.Goals as goal
+
+pub returns-then : goal.returns-then
+returns-then c k low = none-added c.args.impulsed c.args.place k _ c.if.true low
 
 pub loop-k-preserved : goal.loop-k-preserved
 loop-k-preserved c =

@@ -8,9 +8,9 @@ loop-k-init c = record { put = λ k other below low. absurd (omega (arith, below
 
 pub loop-k-preserved : goal.loop-k-preserved
 loop-k-preserved c =
-    IsPut-more c.loop-k.k c.args.place c.args.columns c.with_row.result c.args.sets.now c.loop-k.sets c.loop-k-test.true
+    IsPut-more c.loop-k.k c.args.place c.args.columns c.put_in_set.result c.args.sets.now c.loop-k.sets c.loop-k-test.true
     (λ other low.
-    c.with_row.ensures other low
+    c.put_in_set.ensures other low
     ∙ ap (λ b. if other == c.args.place then b else has_at c.loop-k.sets c.loop-k.k other) c.has_bit.ensures)
     c.loop-k.invariant
 

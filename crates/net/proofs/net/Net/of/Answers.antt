@@ -4,7 +4,7 @@ use Rattle.bit_sets.specs.Rows.{leads}
 use Rattle.spreads.specs.Links.{is_linked}
 use Rattle.spreads.specs.declared.links.Link.{Link}
 use Rattle.spreads.specs.Paths.{AreParted}
-use Rattle.net.specs.Plans.{AreLinks, ArePlansTo}
+use Rattle.net.specs.CyclePaths.{ArePathsOfKinds}
 use Rattle.net.specs.Straight.{AreRunsOf}
 use Rattle.net.specs.declared.contacts.TheConstants.{CONTACTS}
 use Rattle.net.specs.declared.tellings.Telling.{Telling}
@@ -18,26 +18,26 @@ returns c = c.in_ok-rows.ensures.net
 pub tellings_of-requires : goal.tellings_of-requires
 tellings_of-requires c = record {
   onward = λ from to on.
-      (linked-range c.in_ok-rows.field-0.links.items from to c.in_ok-rows.ensures.in_range (c.in_ok-rows.ensures.agree from to ∙ on)).1;
+      (linked-range c.in_ok-rows.field-0.links.items from to c.in_ok-rows.ensures.lead.range (c.in_ok-rows.ensures.lead.agree from to ∙ on)).1;
   commons = c.commons_of-commons.ensures.all;
 }
 
 pub invariant_of-result : goal.invariant_of-result
 invariant_of-result c =
     let links = c.in_ok-rows.field-0.links.items in
-    let lead : AreLinks c.in_ok-rows.field-0.rows links = record { range = c.in_ok-rows.ensures.in_range; agree = c.in_ok-rows.ensures.agree } in
     record {
       links = links;
-      lead = lead;
+      lead = c.in_ok-rows.ensures.lead;
       commons = search rules;
       others = search rules;
       told = c.in_ok-tellings.ensures;
-      planned =
-          subst (λ (some : List Link). ArePlansTo some c.in_ok-tellings.tellings.items 16 c.in_ok-plans.plans.items) c.as_slice-2.ensures.value
-          (subst (λ (some : List Telling). ArePlansTo c.as_slice-2.result.now some 16 c.in_ok-plans.plans.items) c.as_slice.ensures.value c.in_ok-plans.ensures);
+      pathed =
+          subst (λ (some : List Link). ArePathsOfKinds some c.in_ok-tellings.tellings.items c.in_ok-paths.paths.items) c.as_slice-2.ensures.value
+          (subst (λ (some : List Telling). ArePathsOfKinds c.as_slice-2.result.now some c.in_ok-paths.paths.items) c.as_slice.ensures.value
+          c.in_ok-paths.ensures);
       begun = λ wiring. record {
         links = links;
-        lead = lead;
+        lead = c.in_ok-rows.ensures.lead;
         exits = c.emitting_in_run_in.result;
         emitting = c.emitting_in_run_in.ensures wiring;
         parted =
@@ -45,7 +45,7 @@ invariant_of-result c =
             c.in_ok-run_in.ensures;
       };
       straight =
-          runs-alike (is_linked links) (leads c.in_ok-rows.field-0.rows) c.in_ok-straight.straight c.in_ok-rows.ensures.agree
+          runs-alike (is_linked links) (leads c.in_ok-rows.field-0.rows) c.in_ok-straight.straight c.in_ok-rows.ensures.lead.agree
           (subst (λ (some : List Link). IfSome c.in_ok-straight.straight (λ runs. AreRunsOf (is_linked some) runs.items))
           c.as_slice-4.ensures.value c.in_ok-straight.ensures.runs);
       direct =

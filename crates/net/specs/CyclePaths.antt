@@ -1,5 +1,5 @@
--- Plans: the paths of rows in each kind of cycle.
-use Rattle.std.specs.Prelude.{◌≡◌, ℕ, ◌+◌, ◌<◌, All, IfSome, List, Some, length, slice_index_or}
+-- The paths of rows in each kind of cycle.
+use Rattle.std.specs.Prelude.{◌≡◌, ℕ, ◌+◌, ◌<◌, All, List, Some, length, slice_index_or}
 use Rattle.bit_sets.specs.Rows.{leads}
 use Rattle.setups.specs.Wiring.{Wiring}
 use Rattle.spreads.specs.Links.{IsInRange, is_linked}
@@ -11,7 +11,6 @@ use Rattle.net.specs.Tellings.{IsTelling}
 use Rattle.net.specs.Tells.{kind_of}
 use Rattle.net.specs.declared.contacts.TheConstants.{CONTACTS}
 use Rattle.net.specs.declared.cycle.Cycle.{Cycle}
-use Rattle.net.specs.declared.kinds.Plan.{Plan}
 use Rattle.net.specs.declared.tellings.Telling.{Telling}
 
 -- links lead on where rows do
@@ -20,22 +19,22 @@ pub record AreLinks (rows : List (List ℕ)) (links : List Link) : Type 0 where
   pub agree : (from to : ℕ) → is_linked links from to ≡ leads rows from to
 
 -- The paths are made of a net's wires from some exits. These hold all that may emit at the rows of a cycle.
-pub record Serves (wiring : Wiring) (net : NetRows) (cycle : Cycle) (paths : PathLinks) : Type 0 where
+pub record ArePathsIn (wiring : Wiring) (net : NetRows) (cycle : Cycle) (paths : PathLinks) : Type 0 where
   pub links : List Link
   pub lead : AreLinks net.rows links
   pub exits : List ℕ
   pub emitting : HasEmitting wiring cycle (record { words = exits })
   pub parted : AreParted CONTACTS links exits paths
 
--- the paths of a plan, if it has any, serve the cycles of a kind
-abbrev pub IsPlanOf : List Link → ℕ → Telling → Plan → Type 0
-IsPlanOf links kind telling plan =
+-- the paths are right in all cycles of a kind
+abbrev pub ArePathsOfKind : List Link → ℕ → Telling → PathLinks → Type 0
+ArePathsOfKind links kind telling paths =
     (wiring : Wiring) (rows : List (List ℕ)) (cycle : Cycle) → IsNetOf wiring (record { rows = rows }) → AreLinks rows links
-    → kind_of cycle ≡ Some kind → IsTelling rows (1024 + kind) telling → IfSome plan.paths (Serves wiring (record { rows = rows }) cycle)
+    → kind_of cycle ≡ Some kind → IsTelling rows (1024 + kind) telling → ArePathsIn wiring (record { rows = rows }) cycle paths
 
--- there is a plan for each of so many kinds
-pub record ArePlansTo (links : List Link) (tellings : List Telling) (count : ℕ) (plans : List Plan) : Type 0 where
-  pub long : length plans ≡ count
+-- each of the sixteen kinds has its paths
+pub record ArePathsOfKinds (links : List Link) (tellings : List Telling) (all : List PathLinks) : Type 0 where
+  pub long : length all ≡ 16
   pub each :
-      (kind : ℕ) (telling : Telling) (plan : Plan) → kind < count
-      → IsPlanOf links kind (slice_index_or tellings kind telling) (slice_index_or plans kind plan)
+      (kind : ℕ) (telling : Telling) (paths : PathLinks) → kind < 16
+      → ArePathsOfKind links kind (slice_index_or tellings kind telling) (slice_index_or all kind paths)

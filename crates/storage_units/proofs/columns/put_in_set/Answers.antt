@@ -1,6 +1,6 @@
 use Rattle.std.proofs.Common.{arith}
 use Rattle.storage_units.proofs.ColumnSets.{row-set, row-taken}
-use Rattle.storage_units.proofs.columns.with_row.Goals as goal
+use Rattle.storage_units.proofs.columns.put_in_set.Goals as goal
 
 pub returns-then-has : goal.returns-then-has
 returns-then-has c other low =

@@ -1,4 +1,4 @@
--- Wheels printed eight at a time.
+-- One wheel more is printed, and a blank by a wheel that received nothing.
 use Rattle.std.proofs.Common.{◌≡◌, ◌∙◌, ℕ, ◌+◌, ◌<◌, ap, arith, refl, sym, List, slice_index_or, slice_set}
 use Rattle.std.proofs.lemmas.List.{length-set}
 use Rattle.print_unit.proofs.Ranges.{places-more}

@@ -2,7 +2,7 @@ use Rattle.std.proofs.Common.{refl}
 use Rattle.net.specs.declared.cycle.Point.TheVariants.{C, K}
 use Rattle.machine.proofs.Keeps.{Keeps-both, Keeps-none}
 use Rattle.machine.proofs.Points.{Keeps-more, Reached-more, Reached-none}
-use Rattle.machine.proofs.units.Units.run_all_points.Goals as goal
+use Rattle.machine.proofs.units.Units.run_contact_points.Goals as goal
 
 pub run_rows-requires : goal.run_rows-requires
 run_rows-requires c = c.run_control.ensures.steady _ refl
