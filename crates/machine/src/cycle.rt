@@ -221,7 +221,8 @@ impl Units {
             .receive_columns(runs, self.all.stations.second_columns());
     }
 
-    // The points of the rows, all at once. They are taken one by one if an impulse passes one contact behind another.
+    // The points of the rows, all at once. They are taken one by one if an impulse passes one contact behind another, or if there are
+    // more wires than the net follows one by one.
     fn run_rows(&mut self, net: &Net, closed: &Closed, sets: &mut RowSets, cycle: Cycle)
         requires { AreSteady cycle closed.now self.old }
         ensures ran { (wiring : Wiring) → IsNetOf wiring net.now → RunsRows wiring cycle self.old self.new }

@@ -11,6 +11,8 @@ use Rattle.net.specs.Tellings.{IsTelling}
 use Rattle.net.specs.Tells.{kind_of}
 use Rattle.net.specs.declared.contacts.TheConstants.{CONTACTS}
 use Rattle.net.specs.declared.cycle.Cycle.{Cycle}
+use Rattle.net.specs.declared.cycle.Cycle.TheVariants.{RunIn}
+use Rattle.net.specs.declared.kinds.CyclePaths.{CyclePaths}
 use Rattle.net.specs.declared.tellings.Telling.{Telling}
 
 -- links lead on where rows do
@@ -38,3 +40,8 @@ pub record ArePathsOfKinds (links : List Link) (tellings : List Telling) (all : 
   pub each :
       (kind : ℕ) (telling : Telling) (paths : PathLinks) → kind < 16
       → ArePathsOfKind links kind (slice_index_or tellings kind telling) (slice_index_or all kind paths)
+
+-- So have all cycles, where links lead on where the rows of a net do: the run-in too.
+pub record AreCyclePaths (links : List Link) (tellings : List Telling) (all : CyclePaths) : Type 0 where
+  pub begun : (wiring : Wiring) (rows : List (List ℕ)) → AreLinks rows links → ArePathsIn wiring (record { rows = rows }) RunIn all.run_in
+  pub kinds : ArePathsOfKinds links tellings all.kinds.items

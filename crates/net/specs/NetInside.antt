@@ -7,10 +7,9 @@ use Rattle.bit_sets.specs.Contacts.{AreCommons}
 use Rattle.bit_sets.specs.Rows.{leads}
 use Rattle.bit_sets.specs.declared.contacts.Run.{Run}
 use Rattle.net.specs.Nets.{IsNetOf}
-use Rattle.spreads.specs.Paths.{PathLinks}
 use Rattle.spreads.specs.declared.links.Link.{Link}
-use Rattle.net.specs.CyclePaths.{AreLinks, ArePathsIn, ArePathsOfKinds}
-use Rattle.net.specs.declared.cycle.Cycle.TheVariants.{RunIn}
+use Rattle.net.specs.CyclePaths.{AreCyclePaths, AreLinks}
+use Rattle.net.specs.declared.kinds.CyclePaths.{CyclePaths}
 use Rattle.net.specs.Straight.{AreRunsOf}
 use Rattle.net.specs.Tellings.{AreTellings}
 use Rattle.net.specs.declared.net.Wired.{Wired}
@@ -23,15 +22,14 @@ pub record IsWiredFor (wiring : Wiring) (wired : Wired) : Type 0 where
   pub lead : AreLinks wired.rows wired.links.items
 
 -- Links lead on where the rows do. The common places of the contacts are known, and what the exits that tell of cycles tell; so are the
--- paths of rows in their cycles and in the run-in, and the runs of straight wires if no others may carry rows and none leads to a contact.
-pub record IsNetInside (contacts : List Run) (common_places other_places : List ℕ) (tellings : List Telling) (paths : List PathLinks)
-    (run_in : PathLinks) (runs : Option (Vec Straight Global)) (rows : List (List ℕ)) : Type 0 where
+-- paths of rows unless the wires are too many, and the runs of straight wires if no others may carry rows and none leads to a contact.
+pub record IsNetInside (contacts : List Run) (common_places other_places : List ℕ) (tellings : List Telling) (paths : Option CyclePaths)
+    (runs : Option (Vec Straight Global)) (rows : List (List ℕ)) : Type 0 where
   pub links : List Link
   pub lead : AreLinks rows links
   pub commons : AreCommons contacts common_places
   pub others : AreCommons (drop 1 contacts) other_places
   pub told : AreTellings rows tellings
-  pub pathed : ArePathsOfKinds links tellings paths
-  pub begun : (wiring : Wiring) → ArePathsIn wiring (record { rows = rows }) RunIn run_in
+  pub pathed : IfSome paths (AreCyclePaths links tellings)
   pub straight : IfSome runs (λ all. AreRunsOf (leads rows) all.items)
   pub direct : IfSome runs (λ all. All (λ link. has_place common_places link.to ≡ false) links)

@@ -1,8 +1,8 @@
 //! What may emit at the rows in each kind of cycle, whichever contacts are closed at its control point.
 
-ghost use Rattle.std.specs.Prelude.{◌≡◌, ℕ, ◌+◌, ◌<◌, ◌≤◌, All, List, Bool, IfOk, Some, length, true};
+ghost use Rattle.std.specs.Prelude.{◌≡◌, ℕ, ◌+◌, ◌<◌, ◌≤◌, All, List, Bool, IfOk, IfSome, Some, length, true};
 ghost use Rattle.spreads.specs.Links.{IsInRange};
-ghost use Rattle.net.specs.CyclePaths.{ArePathsOfKinds};
+ghost use Rattle.net.specs.CyclePaths.{AreCyclePaths, ArePathsOfKinds};
 ghost use Rattle.hubs.specs.declared.hub.Hub.{Hub};
 ghost use Rattle.setups.specs.Wiring.{LeadsToEntries, Wiring};
 ghost use Rattle.net.specs.Cycles.{emitter_of};
@@ -23,8 +23,38 @@ use hubs::{Group, Hub};
 use spreads::{Link, Paths};
 use std::alloc::{AllocError, Global};
 
-// The paths of rows in the cycles that these exits tell of, in their order.
-pub(crate) fn paths_of_kinds(
+// The most wires that are followed one by one. Of more wires the pictures of all points are made faster.
+const MOST_LINKS: usize = 4096;
+
+// The paths of rows in all cycles.
+#[derive(Drop)]
+pub(crate) struct CyclePaths {
+    // Those in the run-in.
+    pub(crate) run_in: Paths,
+    // For each exit that tells of cycles those in the cycles that it tells of.
+    pub(crate) kinds: Vec<Paths>,
+}
+
+// The paths of rows along these wires, by what is told at the control points. None if the wires are too many.
+pub(crate) fn cycle_paths(
+    alloc: Global,
+    tellings: &[Telling],
+    links: &[Link],
+) -> Result<Option<CyclePaths>, AllocError>
+    requires range { All IsInRange links.now }
+    requires all { length tellings.now ≡ 16 }
+    ensures { IfOk result (λ found. IfSome found (AreCyclePaths links.now tellings.now)) }
+{
+    if links.len() > MOST_LINKS {
+        return Ok(None);
+    }
+    let run_in = Paths::of(alloc, &CONTACTS, links, &emitting_in_run_in())?;
+    let kinds = paths_of_kinds(alloc, tellings, links)?;
+    Ok(Some(CyclePaths { run_in, kinds }))
+}
+
+// The paths in the cycles that these exits tell of, in their order.
+fn paths_of_kinds(
     alloc: Global,
     tellings: &[Telling],
     links: &[Link],
@@ -68,7 +98,7 @@ fn widest_told(telling: &Telling) -> Picture
 }
 
 // The places of the exits that may emit at the rows of the run-in, in which nothing is told.
-pub(crate) fn emitting_in_run_in() -> [u64; WORDS]
+fn emitting_in_run_in() -> [u64; WORDS]
     ensures { (wiring : Wiring) → HasEmitting wiring RunIn (record { words = result }) }
 {
     let mut exits = Picture::new();

@@ -17,7 +17,7 @@ ghost use Rattle.net.specs.declared.cycle.Point.TheVariants.{Row};
 
 use crate::contacts::CONTACTS;
 use crate::cycle::Cycle;
-use crate::kinds::{emitting_in_run_in, paths_of_kinds};
+use crate::kinds::{CyclePaths, cycle_paths};
 use crate::links::add_links;
 use crate::orders::Orders;
 use crate::picture::{Contacts, Picture, cut_after_hubs};
@@ -41,9 +41,8 @@ pub struct Net {
     others: [u64; WORDS],
     // What each of the exits that tell of cycles makes at the control point.
     tellings: Vec<Telling>,
-    // For each of these exits the paths of rows in the cycles that it tells of, and those in the run-in.
-    paths: Vec<Paths>,
-    run_in: Paths,
+    // The paths of rows, unless the wires are too many.
+    paths: Option<CyclePaths>,
     // The wires that lead from second reading to wheels, if no others may carry rows and none leads to a common hub.
     straight: Option<Vec<Straight>>,
 }
@@ -57,7 +56,6 @@ impl Drop for Net {
             others: _others,
             tellings: _tellings,
             paths: _paths,
-            run_in: _run_in,
             straight: _straight,
         } = self;
     }
@@ -73,7 +71,7 @@ impl Model for Net {
 
     ghost use Rattle.net.specs.NetInside.{IsNetInside};
 
-    ghost invariant = { λ net. IsNetInside CONTACTS net.commons net.others net.tellings.items net.paths.items net.run_in net.straight net.rows };
+    ghost invariant = { λ net. IsNetInside CONTACTS net.commons net.others net.tellings.items net.paths net.straight net.rows };
 }
 
 impl Net {
@@ -101,8 +99,7 @@ impl Net {
         let commons = commons_of(&CONTACTS);
         let others = commons_of(&CONTACTS[1..]);
         let tellings = tellings_of(alloc, &rows, &commons)?;
-        let paths = paths_of_kinds(alloc, tellings.as_slice(), links.as_slice())?;
-        let run_in = Paths::of(alloc, &CONTACTS, links.as_slice(), &emitting_in_run_in())?;
+        let paths = cycle_paths(alloc, tellings.as_slice(), links.as_slice())?;
         let straight = straight_of(alloc, links.as_slice(), &commons)?;
         Ok(Net {
             rows,
@@ -110,7 +107,6 @@ impl Net {
             others,
             tellings,
             paths,
-            run_in,
             straight,
         })
     }
@@ -193,7 +189,7 @@ impl Net {
     /// hubs that may emit in the cycle have rows, and none from which or to which a contact leads. `digits` has the contacts that are closed
     /// at the rows 9 to 0, `zones` those that are closed at 11 and 12.
     ///
-    /// Answers false if an impulse may pass one contact behind another: then the sets may lack rows.
+    /// Answers false if an impulse may pass one contact behind another, or if there are more than 4,096 wires: then the sets may lack rows.
     pub fn spread_through(
         &self,
         cycle: Cycle,
@@ -212,16 +208,20 @@ impl Net {
         if sets.places.are_empty() {
             return true;
         }
-        spread_by(self.paths_in(cycle), digits, zones, sets)
+        match self.paths_in(cycle) {
+            Some(paths) => spread_by(paths, digits, zones, sets),
+            None => false,
+        }
     }
 
-    // The paths of rows in a cycle.
-    fn paths_in(&self, cycle: Cycle) -> &Paths
-        ensures { (wiring : Wiring) → IsNetOf wiring self.now → ArePathsIn wiring self.now cycle result.now }
+    // The paths of rows in a cycle. None if the wires are too many.
+    fn paths_in(&self, cycle: Cycle) -> Option<&Paths>
+        ensures { (wiring : Wiring) → IsNetOf wiring self.now → IfSome result (λ paths. ArePathsIn wiring self.now cycle paths.now) }
     {
+        let paths = self.paths.as_ref()?;
         match kind_of(cycle) {
-            Some(kind) => &self.paths[kind],
-            None => &self.run_in,
+            Some(kind) => Some(&paths.kinds[kind]),
+            None => Some(&paths.run_in),
         }
     }
 }

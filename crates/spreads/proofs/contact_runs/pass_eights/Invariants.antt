@@ -1,5 +1,5 @@
 use Rattle.std.proofs.Common.{◌≡◌, false, length, take}
-use Rattle.spreads.specs.Links.{HasEntriesOf}
+use Rattle.spreads.proofs.PassLemmas.{HasEntriesOf}
 use Rattle.spreads.specs.Passing.{RunsPass, SameSets}
 use Rattle.spreads.proofs.contact_runs.pass_eights.Given as goal
 

@@ -4,7 +4,7 @@ use Rattle.bit_sets.specs.Rows.{leads}
 use Rattle.spreads.specs.Links.{is_linked}
 use Rattle.spreads.specs.declared.links.Link.{Link}
 use Rattle.spreads.specs.Paths.{AreParted}
-use Rattle.net.specs.CyclePaths.{ArePathsOfKinds}
+use Rattle.net.specs.CyclePaths.{AreCyclePaths}
 use Rattle.net.specs.Straight.{AreRunsOf}
 use Rattle.net.specs.declared.contacts.TheConstants.{CONTACTS}
 use Rattle.net.specs.declared.tellings.Telling.{Telling}
@@ -32,23 +32,14 @@ invariant_of-result c =
       others = search rules;
       told = c.in_ok-tellings.ensures;
       pathed =
-          subst (λ (some : List Link). ArePathsOfKinds some c.in_ok-tellings.tellings.items c.in_ok-paths.paths.items) c.as_slice-2.ensures.value
-          (subst (λ (some : List Telling). ArePathsOfKinds c.as_slice-2.result.now some c.in_ok-paths.paths.items) c.as_slice.ensures.value
+          subst (λ (some : List Link). IfSome c.in_ok-paths.paths (AreCyclePaths some c.in_ok-tellings.tellings.items)) c.as_slice-2.ensures.value
+          (subst (λ (some : List Telling). IfSome c.in_ok-paths.paths (AreCyclePaths c.as_slice-2.result.now some)) c.as_slice.ensures.value
           c.in_ok-paths.ensures);
-      begun = λ wiring. record {
-        links = links;
-        lead = c.in_ok-rows.ensures.lead;
-        exits = c.emitting_in_run_in.result;
-        emitting = c.emitting_in_run_in.ensures wiring;
-        parted =
-            subst (λ (some : List Link). AreParted CONTACTS some c.emitting_in_run_in.result c.in_ok-run_in.run_in) c.as_slice-3.ensures.value
-            c.in_ok-run_in.ensures;
-      };
       straight =
           runs-alike (is_linked links) (leads c.in_ok-rows.field-0.rows) c.in_ok-straight.straight c.in_ok-rows.ensures.lead.agree
           (subst (λ (some : List Link). IfSome c.in_ok-straight.straight (λ runs. AreRunsOf (is_linked some) runs.items))
-          c.as_slice-4.ensures.value c.in_ok-straight.ensures.runs);
+          c.as_slice-3.ensures.value c.in_ok-straight.ensures.runs);
       direct =
           subst (λ (some : List Link). IfSome c.in_ok-straight.straight (λ runs. All (λ (link : Link). has_place c.commons_of-commons.result link.to ≡ false) some))
-          c.as_slice-4.ensures.value c.in_ok-straight.ensures.apart;
+          c.as_slice-3.ensures.value c.in_ok-straight.ensures.apart;
     }
