@@ -2,8 +2,8 @@ use Rattle.std.proofs.Common.{arith}
 use Rattle.stations.proofs.EntryLanes.{none-added, one-added}
 use Rattle.stations.proofs.comparing.add_row.Goals as goal
 
-pub returns-then : goal.returns-then
-returns-then c k low = none-added c.args.impulsed c.args.place k _ c.if.true low
+pub returns-then-impulsed-eq0 : goal.returns-then-impulsed-eq0
+returns-then-impulsed-eq0 c k low = none-added c.args.impulsed c.args.place k _ c.if-impulsed-eq0.true low
 
 pub loop-k-preserved : goal.loop-k-preserved
 loop-k-preserved c =
