@@ -415,6 +415,6 @@ HOSTILE = [
     ("texts that never end", without_end, 2),
     ("orders of other numbers, many orders", orders_of_other_numbers, 2),
     ("wiring charts with one line changed", changed_wirings, 2),
-    ("rings through all pilots", contacts_in_a_ring, 2),
-    ("the fullest wiring chart", fullest, 2),
+    ("rings through all pilots", contacts_in_a_ring, 5),  # `chart` reads thousands of panels with one wire changed
+    ("the fullest wiring chart", fullest, 5),
 ]
