@@ -5,7 +5,7 @@ use crate::folds::fold;
 use crate::output::Output;
 use crate::running::waiting_pages;
 use crate::watched::Watched;
-use crate::words::{shows_both, tell_waiting};
+use crate::words::{shows_both, tell_deck_of_wiring, tell_waiting};
 use browser_pages::show_to_end;
 use check_calls::{print_check, print_grouped, print_shown, tell_checked};
 use command_line::Wanted;
@@ -19,7 +19,7 @@ use match_calls::match_texts::Telling;
 use match_calls::{match_deck_to_end, match_to_end};
 use panel_guides::ledger_calls::{Question, tell_to_end};
 use panel_guides::trace_calls::trace_to_end;
-use panel_guides::{Place, legend_to_end};
+use panel_guides::{Place, is_wiring_text, legend_to_end};
 use sheets::sheet_calls::{fields_to_end, layout_to_end};
 use std::alloc::Global;
 use text_lists::list_text_to_end;
@@ -69,6 +69,8 @@ pub fn obey<'a>(rt: &HostRuntime, wanted: Wanted<'a>) -> Result<Ending, Fault<'a
             let text = text.as_slice();
             if has_faults(alloc, text) {
                 list_text_to_end(alloc, text, out, faults)
+            } else if is_wiring_text(text) {
+                tell_deck_of_wiring(rt)
             } else {
                 let cards = open(rt, deck)?;
                 let checked = print_shown(alloc, text, deck, cards, out);
@@ -202,11 +204,11 @@ pub fn obey<'a>(rt: &HostRuntime, wanted: Wanted<'a>) -> Result<Ending, Fault<'a
     Ok(done)
 }
 
-// Whether anything is told of a planning chart.
-fn has_faults(alloc: Global, chart: &[u8]) -> bool {
+// Whether anything is told of a planning chart, or of a wiring chart in its place.
+fn has_faults(alloc: Global, text: &[u8]) -> bool {
     let mut listed = Vec::new(alloc);
     let mut told = Vec::new(alloc);
-    list_text_to_end(alloc, chart, &mut listed, &mut told).status != 0
+    list_text_to_end(alloc, text, &mut listed, &mut told).status != 0
 }
 
 // Does a command that reads no deck.

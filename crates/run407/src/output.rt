@@ -3,33 +3,44 @@
 ghost use Rattle.std.specs.Prelude.{◌≡◌, ◌≢◌, ◌⊎◌, IfErr};
 
 use commands::{Ending, Fault, tell, unprinted};
-use std::fs::File;
+use std::fs::{File, Metadata};
 use std::io::{ErrorKind, IsTerminal, Stdout, Write};
+use std::path::Path;
 use std::{fs, io};
 
 /// How many names are tried for a file that is written beside another.
 const MOST_NAMES: u32 = 100;
 
+/// How many links are followed, one after the other; as many as the system follows.
+const MOST_LINKS: u32 = 40;
+
+/// The names of standard output.
+const STANDARD_OUTPUT: [&str; 2] = ["-", "/dev/stdout"];
+
+/// What the names begin with of files that are open already. They are written as they are, behind what they hold: a file in the place of
+/// one would never reach whoever has it open.
+const OPEN_FILES: [&str; 3] = ["/dev/fd/", "/dev/std", "/proc/"];
+
 /// A file that is written beside the one whose place it takes once it is whole.
 #[derive(Drop)]
-pub struct NewFile<'a> {
-    path: &'a str,
+pub struct NewFile {
+    path: String,
     beside: String,
     file: File,
 }
 
 /// Where the answer of a command goes.
 #[derive(Drop)]
-pub enum Output<'a> {
+pub enum Output {
     /// Standard output.
     Standard(Stdout),
     /// A device, a pipe or the like, which is written as it is.
     Device(File),
     /// A file that takes its place once it is whole.
-    New(NewFile<'a>),
+    New(NewFile),
 }
 
-impl Write for Output<'_> {
+impl Write for Output {
     fn write(&mut self, buf: &[u8]) -> io::Result<usize> {
         match self {
             Output::Standard(out) => out.write(buf),
@@ -46,7 +57,7 @@ impl Write for Output<'_> {
 }
 
 // A new file beside another, by the first of some names that no file has.
-fn beside<'a>(rt: &HostRuntime, path: &'a str) -> io::Result<NewFile<'a>> {
+fn beside(rt: &HostRuntime, path: String) -> io::Result<NewFile> {
     for number in 1..MOST_NAMES {
         let beside = format!(in rt.alloc(); "{path}.{number}.part")?;
         match File::create_new(rt, &beside) {
@@ -58,38 +69,84 @@ fn beside<'a>(rt: &HostRuntime, path: &'a str) -> io::Result<NewFile<'a>> {
     Err(io::Error::from(ErrorKind::AlreadyExists))
 }
 
-// Whether something has this name that is no file, as a device or a pipe.
-fn is_device(rt: &HostRuntime, path: &str) -> bool {
-    fs::metadata(rt, path).is_ok_and(|known| !known.is_file())
-}
-
-fn open_device(rt: &HostRuntime, path: &str) -> io::Result<File> {
-    fs::OpenOptions::new().write(true).open(rt, path)
-}
-
-// What this path names: a device as it is, or else a new file beside it.
-fn open_named<'a>(rt: &HostRuntime, path: &'a str) -> io::Result<Output<'a>> {
-    if is_device(rt, path) {
-        return Ok(Output::Device(open_device(rt, path)?));
+// A new file in the place of another, with its mode: whoever may not read that one may not read this one either.
+fn in_place_of(rt: &HostRuntime, path: String, known: &Metadata) -> io::Result<NewFile> {
+    let new = beside(rt, path)?;
+    match new.file.set_permissions(known.permissions()) {
+        Ok(()) => Ok(new),
+        Err(error) => {
+            // If it can't be removed, it is left behind, and empty.
+            let _ = fs::remove_file(rt, &new.beside);
+            Err(error)
+        }
     }
-    Ok(Output::New(beside(rt, path)?))
 }
 
-impl<'a> Output<'a> {
+// Whether a name is that of a file that is open already.
+fn is_open(path: &str) -> bool {
+    OPEN_FILES.iter().any(|front| path.starts_with(*front))
+}
+
+// Where a link leads, which need not be there; none if a path is no link.
+fn target_of(rt: &HostRuntime, path: &str) -> io::Result<Option<String>> {
+    match fs::read_link(rt, path) {
+        Ok(target) => {
+            let folder = Path::new(path).parent().unwrap_or(Path::new(""));
+            Ok(Some(folder.join(rt.alloc(), target.as_path())?.into_string()))
+        }
+        Err(error) if error.kind() == ErrorKind::OutOfMemory => Err(error),
+        Err(_) => Ok(None),
+    }
+}
+
+// Where a path leads by links. What is open already is followed no further.
+fn end_of(rt: &HostRuntime, path: &str) -> io::Result<String> {
+    let mut place = format!(in rt.alloc(); "{path}")?;
+    for _ in 0..MOST_LINKS {
+        if is_open(&place) {
+            return Ok(place);
+        }
+        match target_of(rt, &place)? {
+            Some(target) => place = target,
+            None => return Ok(place),
+        }
+    }
+    Err(io::Error::from(ErrorKind::InvalidInput))
+}
+
+// What this path names: what is open already or is no file, as a device or a pipe, as it is; or else a new file. Of a link it takes the
+// place of the file that the link leads to.
+fn open_named(rt: &HostRuntime, path: &str) -> io::Result<Output> {
+    let place = end_of(rt, path)?;
+    if is_open(&place) {
+        let file = fs::OpenOptions::new().append(true).open(rt, &place)?;
+        return Ok(Output::Device(file));
+    }
+    match fs::metadata(rt, &place) {
+        Ok(known) if known.is_file() => Ok(Output::New(in_place_of(rt, place, &known)?)),
+        Ok(_) => {
+            let file = fs::OpenOptions::new().write(true).open(rt, &place)?;
+            Ok(Output::Device(file))
+        }
+        Err(_) => Ok(Output::New(beside(rt, place)?)),
+    }
+}
+
+impl Output {
     /// Standard output, or what this path names.
     ///
     /// # Errors
     ///
     /// `Write` if it can't be written, `Memory` if a growth was refused.
-    pub fn open(rt: &HostRuntime, path: Option<&'a str>) -> Result<Output<'a>, Fault<'a>>
+    pub fn open<'a>(rt: &HostRuntime, path: Option<&'a str>) -> Result<Output, Fault<'a>>
         ensures { IfErr result (λ told. (told ≡ Fault.Memory) ⊎ (told ≡ Fault.Write)) }
     {
         match path {
-            None | Some("-") => Ok(Output::Standard(rt.stdout())),
-            Some(path) => match open_named(rt, path) {
+            Some(path) if !STANDARD_OUTPUT.contains(&path) => match open_named(rt, path) {
                 Ok(output) => Ok(output),
                 Err(error) => Err(unprinted(&error)),
             },
+            _ => Ok(Output::Standard(rt.stdout())),
         }
     }
 
@@ -108,7 +165,7 @@ impl<'a> Output<'a> {
         };
         drop(file);
         let named = if done.status == 0 {
-            fs::rename(rt, &beside, path)
+            fs::rename(rt, &beside, &path)
         } else {
             Ok(())
         };

@@ -4,7 +4,7 @@ ghost use Rattle.std.specs.Prelude.{◌≡◌, ◌≢◌};
 ghost use Rattle.std.specs.IoError.{error_kind};
 
 use command_line::Refused;
-use commands::{Fault, tell, unprinted};
+use commands::{Ending, Fault, tell, unprinted};
 use std::io;
 use std::io::{ErrorKind, IsTerminal, Write};
 
@@ -56,7 +56,7 @@ pub fn tell_more(rt: &HostRuntime, status: u8) {
     if status == FAULTY && rt.stderr().is_terminal() {
         // If it can't be written, the line of the fault is there all the same.
         let _ = rt.stderr().write_all(
-            b"run407 fault NUMBER tells what it means, and run407 check --all CHART lists every fault of a chart\n",
+            b"run407 fault NUMBER tells what it means, and run407 check --all lists every fault of a chart, a wiring chart or a deck\n",
         );
     }
 }
@@ -64,6 +64,19 @@ pub fn tell_more(rt: &HostRuntime, status: u8) {
 /// Whether a terminal shows both what is printed and what is told.
 pub fn shows_both(rt: &HostRuntime) -> bool {
     rt.stdout().is_terminal() && rt.stderr().is_terminal()
+}
+
+/// Tells that a wiring chart is checked without a deck: which cards are good a planning chart says.
+pub fn tell_deck_of_wiring(rt: &HostRuntime) -> Ending
+    ensures { result.status ≡ 2 }
+{
+    let told = rt.stderr().write_all(
+        b"error: a wiring chart is checked without a deck; the columns of cards are checked with a planning chart\n",
+    );
+    Ending {
+        status: USAGE,
+        is_told: told.is_ok(),
+    }
 }
 
 /// Answers the status if the words ask for nothing that is still to be done. Want of memory, and that the help can't be written, are told
