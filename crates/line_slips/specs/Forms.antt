@@ -70,3 +70,8 @@ form_words word =
     else if is_word word (codes "END") then codes "END stands alone, and nothing behind it"
     else if is_word word (codes "CHART407") then codes "CHART407 stands on the first line already: take this line out"
     else near_word word
+
+-- what helps by a slip: the form of the line's first word, but for a tab a space
+unfoldable pub cure_words : Slip → List ℕ → List ℕ
+cure_words slip.Tab word = codes "put a space in its place"
+cure_words what word = form_words word

@@ -1,13 +1,13 @@
--- The entry of a line that no form derives: its number and that of the fault, the line as it stands, a mark, the slip, and the nearest form.
+-- The entry of a line that no form derives: its number and that of the fault, the line as it stands, a mark, the slip, and what helps.
 use Rattle.std.specs.Prelude.{ℕ, List, ◌++◌, codes, decimal}
 use Rattle.line_marks.specs.Entries.{below, head_line, shown}
 use Rattle.line_marks.specs.Spans.{span_of, word}
-use Rattle.line_slips.specs.Forms.{form_words, slip_words}
+use Rattle.line_slips.specs.Forms.{cure_words, slip_words}
 use Rattle.line_slips.specs.Slips.{slip_of, slip_span}
 
--- the slip of the line, and the form that it comes nearest to
+-- the slip of the line, and what helps
 unfoldable pub help_lines : List ℕ → List ℕ
-help_lines line = below (slip_words (slip_of line) (word 0 line)) ++ below (form_words (word 0 line))
+help_lines line = below (slip_words (slip_of line) (word 0 line)) ++ below (cure_words (slip_of line) (word 0 line))
 
 -- the entry of a line with a number
 unfoldable pub line_entry : ℕ → List ℕ → List ℕ

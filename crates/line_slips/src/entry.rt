@@ -4,21 +4,22 @@ ghost use Rattle.std.specs.Prelude.{◌≡◌, OnOk};
 ghost use Rattle.std.specs.Io.KnownBytes.{Appends};
 ghost use Rattle.line_slips.specs.LineEntries as law;
 
-use crate::forms::{form_words, slip_words};
+use crate::forms::{cure_words, slip_words};
 use crate::slip::{slip_of, slip_span};
 use line_marks::{token_span, word, write_below, write_head, write_shown};
 use numerals::write_between;
 use std::io;
 use std::io::Write;
 
-/// Writes the slip of a line, and the form that it comes nearest to.
+/// Writes the slip of a line, and what helps.
 #[tactic(auto, unfolding(crate::specs::LineEntries::help_lines))]
 fn write_help<W: Write>(out: &mut W, line: &[u8]) -> io::Result<()>
     ensures { OnOk result (Appends (W.contents out.old) (W.contents out.new) (law.help_lines line.now)) }
 {
+    let slip = slip_of(line);
     let first = word(line, 0);
-    write_below(out, slip_words(slip_of(line), first).as_bytes())?;
-    write_below(out, form_words(first).as_bytes())
+    write_below(out, slip_words(slip, first).as_bytes())?;
+    write_below(out, cure_words(slip, first).as_bytes())
 }
 
 /// Writes the entry of a line with a number, one that no form of a chart derives.

@@ -134,3 +134,14 @@ pub fn form_words(word: &[u8]) -> &'static str
         near_word(word)
     }
 }
+
+/// What helps by a slip: the form of the line's first word, but for a tab a space.
+#[tactic(auto, unfolding(crate::specs::Forms::cure_words))]
+pub(crate) fn cure_words(slip: Slip, word: &[u8]) -> &'static str
+    ensures { result.now ≡ law.cure_words slip word.now }
+{
+    match slip {
+        Slip::Tab => "put a space in its place",
+        _ => form_words(word),
+    }
+}

@@ -1,7 +1,7 @@
-//! What is told of a line that no form of a chart derives: the line with a mark, the slip, and the form that it comes nearest to.
+//! What is told of a line that no form of a chart derives: the line with a mark, the slip, and what helps.
 //!
 //! [`write_line_entry`] writes the entry of such a line. The slips that people make most are named: a tab, a comment, quotation marks, a
-//! small letter, an apostrophe that isn't closed, a character that is not printed. The nearest form is that of the line's first word, in
+//! small letter, an apostrophe that isn't closed, a character that is not printed. For a tab a space helps; else the form of the line's first word, in
 //! capital or small letters ([`form_words`]), and a first word that is a letter away from one of those is asked for.
 //! [`write_behind_entry`] writes the entry of a line behind END. The crate stands on `line_marks` and `charts`, and on no crate that reads
 //! charts. [`is_near`] tells whether two words are a letter away from one another.

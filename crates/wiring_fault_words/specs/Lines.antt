@@ -50,6 +50,11 @@ line_wrong line.SecondForm text = codes "FORM stands on line 2 alone"
 line_wrong line.EndMore text = codes "something stands behind END"
 line_wrong line.NoWord text = no_word (word 0 text)
 
+-- what helps by a byte that no line has: the form of the line's first word, but for a tab a space
+abbrev pub byte_cure : Slip → List ℕ → List ℕ
+byte_cure slip.Tab first = codes "put a space in its place"
+byte_cure what first = form_words first
+
 -- two hubs of which a wire may be meant
 unfoldable pub meant_wire : List ℕ → List ℕ → List ℕ
 meant_wire exit entry = six (codes "did you mean WIRE ") exit (codes " ") entry (codes "?") []
@@ -60,7 +65,7 @@ two_words hubs = meant_wire (take (second_place hubs) hubs) (drop (second_place 
 
 -- what helps
 unfoldable pub line_cure : LineSlip → List ℕ → List ℕ
-line_cure (line.Bytes bytes) text = form_words (word 0 text)
+line_cure (line.Bytes bytes) text = byte_cure bytes (word 0 text)
 line_cure line.TooFew text = form_words (word 0 text)
 line_cure line.TwoInOne text = two_words (word 1 text)
 line_cure (line.TooMany place) text = form_words (word 0 text)
@@ -73,7 +78,7 @@ line_cure line.StopLine text = form_words (word 0 text)
 line_cure line.NoJack text = near_jack (word 1 text)
 line_cure line.JackNumber text = jack_words (word 1 text)
 line_cure line.Alone text = form_words (word 0 text)
-line_cure line.NewWord text = codes "write WIRING407 2 on line 1, or the carry as WIRE CO.3.1 CI.3.1"
+line_cure line.NewWord text = codes "write WIRING407 2 on line 1, or the carry as a WIRE from CO to CI"
 line_cure line.Carry text = form_words (word 0 text)
 line_cure line.SecondForm text = codes "take it out, or correct line 2"
 line_cure line.EndMore text = form_words (word 0 text)

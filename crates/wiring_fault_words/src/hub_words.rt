@@ -145,12 +145,16 @@ pub(crate) fn write_hub_wrong<W: Write>(out: &mut W, what: HubWord, word: &[u8])
     match what {
         HubWord::There(_) => write_around(out, b"", word, b" is a hub of the panel"),
         HubWord::OutOfRange(_) => write_around(out, b"the panel has no ", word, b""),
-        HubWord::Misnumbered(_) | HubWord::Unknown => {
-            write_around(out, b"", word, b" is no hub")
-        }
+        HubWord::Misnumbered(_) => write_around(
+            out,
+            b"",
+            word,
+            b" is no hub: a point before each number, and no leading zero",
+        ),
         HubWord::Misspelt(_) => {
             write_around(out, b"no hub has the letters ", letters_in(word), b"")
         }
+        HubWord::Unknown => write_around(out, b"", word, b" is no hub"),
     }
 }
 

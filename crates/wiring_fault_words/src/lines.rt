@@ -70,6 +70,16 @@ fn write_wrong<W: Write>(out: &mut W, slip: LineSlip, line: &[u8]) -> io::Result
     }
 }
 
+/// What helps by a byte that no line has: the form of the line's first word, but for a tab a space.
+fn byte_cure(slip: Slip, first: &[u8]) -> &'static str
+    ensures { result.now ≡ law.byte_cure slip first.now }
+{
+    match slip {
+        Slip::Tab => "put a space in its place",
+        _ => form_words(first),
+    }
+}
+
 /// Writes two hubs of which a wire may be meant.
 #[tactic(auto, unfolding(crate::specs::Lines::meant_wire))]
 pub(crate) fn write_meant_wire<W: Write>(out: &mut W, exit: &[u8], entry: &[u8]) -> io::Result<()>
@@ -93,8 +103,8 @@ fn write_cure<W: Write>(out: &mut W, slip: LineSlip, line: &[u8]) -> io::Result<
     ensures { OnOk result (Appends (W.contents out.old) (W.contents out.new) (law.line_cure slip line.now)) }
 {
     match slip {
-        LineSlip::Bytes(_)
-        | LineSlip::TooFew
+        LineSlip::Bytes(bytes) => out.write_all(byte_cure(bytes, word(line, 0)).as_bytes()),
+        LineSlip::TooFew
         | LineSlip::TooMany(_)
         | LineSlip::Channel
         | LineSlip::StopLine
@@ -110,7 +120,7 @@ fn write_cure<W: Write>(out: &mut W, slip: LineSlip, line: &[u8]) -> io::Result<
         LineSlip::NoJack => out.write_all(near_jack(word(line, 1)).as_bytes()),
         LineSlip::JackNumber => out.write_all(jack_words(word(line, 1)).as_bytes()),
         LineSlip::NewWord => out.write_all(
-            b"write WIRING407 2 on line 1, or the carry as WIRE CO.3.1 CI.3.1",
+            b"write WIRING407 2 on line 1, or the carry as a WIRE from CO to CI",
         ),
         LineSlip::SecondForm => out.write_all(b"take it out, or correct line 2"),
         LineSlip::NoWord => out.write_all(near_word(word(line, 0)).as_bytes()),

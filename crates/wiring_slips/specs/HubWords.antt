@@ -1,6 +1,6 @@
 -- What a word is that stands where a hub is wanted: its letters are the bytes before its first digit or point, and its numbers stand
 -- behind them.
-use Rattle.std.specs.Prelude.{ℕ, ◌+◌, ◌==◌, ◌&&◌, ◌||◌, Bool, true, false, not, List, [], ◌∷◌, ◌++◌, Option, Some, None, is_some, take, drop, find, length, nat_lt, if◌then◌else◌}
+use Rattle.std.specs.Prelude.{ℕ, ◌+◌, ◌&&◌, ◌||◌, Bool, true, false, not, List, [], ◌∷◌, ◌++◌, Option, Some, None, is_some, take, drop, find, length, nat_lt, if◌then◌else◌}
 use Rattle.std.specs.List.{prefix_len}
 use Rattle.hub_table.specs.HubTable.{row_of, exit_kinds, entry_kinds}
 use Rattle.hub_table.specs.Places.{has_as_many, place_of}
@@ -11,13 +11,9 @@ use Rattle.line_slips.specs.Near.{is_near}
 use Rattle.tokens.specs.Number.{is_digit}
 use Rattle.tokens.specs.NumberReading.{number_of}
 use Rattle.tokens.specs.Steps.{◌>>=◌}
-use Rattle.wiring_text.specs.WiringReader.Reading.{letters_spelled}
+use Rattle.wiring_text.specs.WiringReader.Reading.{is_point, letters_spelled}
 use Rattle.wiring_slips.specs.declared.hub.HubWord.{HubWord}
 use Rattle.wiring_slips.specs.declared.hub.HubWord.TheVariants as hub
-
--- a point
-abbrev pub is_point : ℕ → Bool
-is_point byte = byte == 46
 
 -- any byte but a point
 abbrev pub is_pointless : ℕ → Bool
