@@ -1,5 +1,5 @@
 -- The layout of a chart: each line of its report on which it puts something, under a ruler of the wheels. A literal stands there
--- itself. Of a text each wheel has an x; of an amount each digit that is blank where a zero leads has a z, each one that always prints
+-- itself. Of a text each wheel has an x; of an amount each digit that is blank where a zero leads has a z, each other one
 -- a 9; the point and the mark stand as they print.
 use Rattle.std.specs.Prelude.{ℕ, ◌-◌, ◌==◌, List, [], ◌∷◌, ◌++◌, Bool, Option, Some, None, is_some, codes, decimal, option_map, option_to_list, replicate, true, if◌then◌else◌}
 use Rattle.std.specs.List.{filter_map, flat_map, list_any}
@@ -133,7 +133,7 @@ sections lines report_lines = flat_map (section lines) report_lines
 
 -- what the letters stand for
 unfoldable pub key : List ℕ
-key = codes "x: a character of a text. z: a digit, blank if it is a leading zero. 9: a digit that always prints.\n"
+key = codes "x: a character of a text. z: a digit, blank if it is a leading zero. 9: any other digit.\n"
 
 -- The layout.
 abbrev pub layout : List Line → List ℕ

@@ -32,7 +32,7 @@ static REPORT_LINES: [PrintedLine; 8] = [
 fn key() -> &'static str
     ensures { result.now ≡ layout.key }
 {
-    "x: a character of a text. z: a digit, blank if it is a leading zero. 9: a digit that always prints.\n"
+    "x: a character of a text. z: a digit, blank if it is a leading zero. 9: any other digit.\n"
 }
 
 // Whether the chart puts something on a line of the report.
