@@ -74,9 +74,9 @@ impl<S: Source + Drop> CardLines<S> {
 
     /// The next card, or `None` where no line is left, and then always.
     ///
-    /// It reads only while it holds no whole line, and none that is surely too long, at most 82 times, and never again after the
-    /// end of the source or a fault. A line is at fault only once it is there whole or surely too long, or the source has ended. Where the
-    /// last line has no LF, the end is known as soon as its card is given.
+    /// It reads nothing if it holds a whole line when it is called, or one that is surely too long; else at most 82 times, and never again
+    /// after the end of the source or a fault. A line is at fault only once it is there whole or surely too long, or the source has ended.
+    /// If the last line has no LF, the end is known as soon as its card is given.
     ///
     /// # Errors
     ///
@@ -125,9 +125,9 @@ impl<S: Source + Drop> CardLines<S> {
     /// Puts the next card in the place of another one, or of `None`; `None` where no line is left, and then always. A line is punched into
     /// the card that it replaces, so that no card is copied. What stands there after a fault is not told.
     ///
-    /// It reads only while it holds no whole line, and none that is surely too long, at most 82 times, and never again after the
-    /// end of the source or a fault. A line is at fault only once it is there whole or surely too long, or the source has ended. Where the
-    /// last line has no LF, the end is known as soon as its card is given.
+    /// It reads nothing if it holds a whole line when it is called, or one that is surely too long; else at most 82 times, and never again
+    /// after the end of the source or a fault. A line is at fault only once it is there whole or surely too long, or the source has ended.
+    /// If the last line has no LF, the end is known as soon as its card is given.
     ///
     /// # Errors
     ///

@@ -89,7 +89,7 @@ impl Chart {
         self.raw.lines()
     }
 
-    /// The numbers of the lines whose total bears the word COUPLED, in order.
+    /// The numbers of the lines whose total bears the word COUPLED.
     pub fn coupled(&self) -> &[u16]
         ensures { result.now ≡ self.now.coupled }
     {

@@ -95,7 +95,7 @@ impl RawChart {
         self.lines.as_slice()
     }
 
-    /// The numbers of the lines whose total bears the word COUPLED, in order.
+    /// The numbers of the lines whose total bears the word COUPLED.
     pub fn coupled(&self) -> &[u16]
         ensures { result.now ≡ self.now.coupled }
     {

@@ -23,7 +23,7 @@ use hubs::{Group, Hub};
 use spreads::{Link, Paths};
 use std::alloc::{AllocError, Global};
 
-// The most wires that are followed one by one. Of more wires the pictures of all points are made faster.
+// The most wires that are followed one by one. If there are more, it takes less time to make one picture after another.
 const MOST_LINKS: usize = 4096;
 
 // The paths of rows in all cycles.

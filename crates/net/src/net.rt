@@ -173,7 +173,7 @@ impl Net {
         }
     }
 
-    /// The wires from second reading to wheels in runs, if no others may carry rows and none leads to a contact; else `None`.
+    /// The wires from second reading to wheels in runs, if no others may carry rows and none leads to a contact. A `None` says nothing.
     pub fn straight(&self) -> Option<&[Straight]>
         ensures inside { IfSome result (λ runs. All IsInside runs.now) }
         ensures straight { IfSome result (λ runs. (wiring : Wiring) → IsNetOf wiring self.now → AreStraight wiring runs.now) }
@@ -189,7 +189,7 @@ impl Net {
     /// hubs that may emit in the cycle have rows, and none from which or to which a contact leads. `digits` has the contacts that are closed
     /// at the rows 9 to 0, `zones` those that are closed at 11 and 12.
     ///
-    /// Answers false if an impulse may pass one contact behind another, or if there are more than 4,096 wires: then the sets may lack rows.
+    /// If it answers false, the sets may lack rows: a contact behind another brought new ones, or there are more than 4,096 wires.
     pub fn spread_through(
         &self,
         cycle: Cycle,

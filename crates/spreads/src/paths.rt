@@ -115,8 +115,8 @@ impl Paths {
     }
 
     /// The contacts pass on the rows of their near ends at which they are closed: `digits` has the exits of those closed at the rows 9 to
-    /// 0, `zones` of those closed at 11 and 12. They are taken in eights that begin at one to which a wire leads, so that up to seven
-    /// beside it pass on rows too, wired or not. Answers whether a far end may have gained any.
+    /// 0, `zones` of those closed at 11 and 12. They are taken in eights: each to which a wire leads lies in one, and all others in it
+    /// pass on rows too, wired or not. Answers whether a far end may have gained any.
     pub fn pass(&self, digits: &[u64; WORDS], zones: &[u64; WORDS], sets: &mut PlaceSets) -> bool
         ensures passed { RunsPass digits.now zones.now self.now.eights sets.old sets.new }
         ensures same { result ≡ false → SameSets sets.old sets.new }

@@ -69,7 +69,7 @@ impl Comparing {
         sets_of(&self.first, &self.second)
     }
 
-    /// Whether a position differs in what was collected. If none does, comparing emits nothing at the closing point.
+    /// Whether a position may differ in what was collected. If it answers no, comparing emits nothing at the closing point.
     pub fn has_difference(&self) -> bool
         ensures { result ≡ false → (cycle : Cycle) (hub : Hub) → comparing_emits self.now cycle K hub ≡ false }
     {
