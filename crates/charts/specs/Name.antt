@@ -1,19 +1,16 @@
 -- The name of a field: a letter A to Z and up to 7 letters or digits, filled with blanks to 8 characters.
-use Rattle.std.specs.Prelude.{◌≡◌, ℕ, ◌-◌, ◌≤◌, ◌==◌, ◌&&◌, ◌||◌, Bool, true, false, IsTrue, List, [], ◌∷◌, ◌++◌, length, nat_le, replicate}
+use Rattle.std.specs.Prelude.{◌≡◌, ℕ, ◌-◌, ◌≤◌, ◌==◌, ◌&&◌, ◌||◌, Bool, true, false, IsTrue, List, [], ◌∷◌, ◌++◌, length, replicate}
+use Rattle.std.specs.Char.{is_ascii_digit, is_ascii_uppercase}
 use Rattle.std.specs.List.{before_first, list_all}
-
--- a capital letter
-abbrev pub is_letter : ℕ → Bool
-is_letter character = nat_le 65 character && nat_le character 90
 
 -- a capital letter or a digit
 abbrev pub is_letter_or_digit : ℕ → Bool
-is_letter_or_digit character = is_letter character || (nat_le 48 character && nat_le character 57)
+is_letter_or_digit character = is_ascii_uppercase character || is_ascii_digit character
 
 -- letters and digits, a letter first
 abbrev pub begins_with_letter : List ℕ → Bool
 begins_with_letter [] = false
-begins_with_letter (first ∷ others) = is_letter first && list_all is_letter_or_digit others
+begins_with_letter (first ∷ others) = is_ascii_uppercase first && list_all is_letter_or_digit others
 
 -- the token is this name
 pub record IsName (token name : List ℕ) : Type 0 where

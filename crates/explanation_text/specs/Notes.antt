@@ -2,7 +2,7 @@
 -- cycle.
 use Rattle.std.specs.Prelude.{ℕ, ◌+◌, ◌-◌, ◌==◌, ◌||◌, List, [], ◌∷◌, ◌++◌, codes, decimal, if◌then◌else◌}
 use Rattle.std.specs.List.{flat_map, range_with_len}
-use Rattle.hubs.specs.HubText.{hub_text}
+use Rattle.hubs.specs.HubText.{group_text, hub_text}
 use Rattle.hubs.specs.declared.hub.Group.{Group}
 use Rattle.hubs.specs.declared.hub.Hub.{Hub}
 use Rattle.hubs.specs.declared.hub.Hub.TheVariants.{FR, SR, GX, BAN, BAT, PIN, PIT, SX, IX, CSD, CSZ, EM}
@@ -26,10 +26,6 @@ article row = if (row == 8) || (row == 11) then codes "an " else codes "a "
 
 abbrev pub counted : ℕ → List ℕ
 counted row = article row ++ decimal row
-
--- a counter group by its width and its number, as hubs name it
-abbrev pub group_name : Group → List ℕ
-group_name group = decimal group.width ++ codes "." ++ decimal group.number
 
 -- a cycle in words
 abbrev pub ordinal_word : Ordinal → List ℕ
@@ -79,7 +75,7 @@ held_text points group = flat_map (digit_down points group) (range_with_len 0 gr
 -- a counter group is read out
 abbrev pub read_out_words : List KeptPoint → Group → List ℕ
 read_out_words points group =
-    codes ": group " ++ group_name group ++ codes " held " ++ held_text points group ++ codes ", and is read out"
+    codes ": group " ++ group_text group ++ codes " held " ++ held_text points group ++ codes ", and is read out"
 
 -- What an exit that emitted at a row stands for, in the cycle of a card.
 abbrev pub exit_words : (card : ℕ) → Cycle → List KeptPoint → (row : ℕ) → Hub → List ℕ
@@ -92,8 +88,8 @@ exit_words card cycle points row exit = []
 
 -- Why the contact that leads to an exit was closed. That of a carry exit is closed at no row.
 abbrev pub reason_words : Hub → List ℕ
-reason_words (BAT group position) = codes ": the balance latch of group " ++ group_name group ++ codes " is set"
-reason_words (BAN group position) = codes ": the balance latch of group " ++ group_name group ++ codes " is not set"
+reason_words (BAT group position) = codes ": the balance latch of group " ++ group_text group ++ codes " is set"
+reason_words (BAN group position) = codes ": the balance latch of group " ++ group_text group ++ codes " is not set"
 reason_words (PIT pilot position) = codes ": pilot " ++ decimal pilot ++ codes " is transferred"
 reason_words (PIN pilot position) = codes ": pilot " ++ decimal pilot ++ codes " is normal"
 reason_words (IX level position) = codes ": the card is the first of a group of level " ++ decimal level

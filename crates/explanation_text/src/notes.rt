@@ -2,9 +2,10 @@
 
 ghost use Rattle.std.specs.Prelude.{◌≡◌, ◌<◌, ◌+◌, ◌++◌, OnOk};
 ghost use Rattle.std.specs.String.{string_bytes};
+ghost use Rattle.hubs.specs.HubText.{group_text};
 ghost use Rattle.net.specs.HubSets.{has_hub};
 ghost use Rattle.machine.specs.Kept.{kept_at};
-ghost use Rattle.explanation_text.specs.Notes.{article, contact_note, counted, cycle_words, digit_text, emitter_words, exit_note, exit_words, group_name, held_text, notes, ordinal_word, punch_words, read_out_words, reason_words, step_note, step_notes, stored_words, way_lines};
+ghost use Rattle.explanation_text.specs.Notes.{article, contact_note, counted, cycle_words, digit_text, emitter_words, exit_note, exit_words, held_text, notes, ordinal_word, punch_words, read_out_words, reason_words, step_note, step_notes, stored_words, way_lines};
 
 use crate::lines::write_row_line;
 use crate::names::{is_contact_exit, row_at};
@@ -140,7 +141,7 @@ fn write_stored(text: &mut String, unit: u8, column: u8, row: u8) -> Result<(), 
 
 // The width and the number of a counter group.
 fn write_group(text: &mut String, group: Group) -> Result<(), AllocError>
-    ensures { OnOk result (string_bytes text.new ≡ string_bytes text.old ++ group_name group) }
+    ensures { OnOk result (string_bytes text.new ≡ string_bytes text.old ++ group_text group) }
 {
     push_number(text, group.width)?;
     push_numbered(text, ".", group.number)
@@ -261,7 +262,7 @@ fn write_of_group(
     group: Group,
     behind: &str,
 ) -> Result<(), AllocError>
-    ensures { OnOk result (string_bytes text.new ≡ string_bytes text.old ++ (before.now ++ group_name group ++ behind.now)) }
+    ensures { OnOk result (string_bytes text.new ≡ string_bytes text.old ++ (before.now ++ group_text group ++ behind.now)) }
 {
     text.push_str(before)?;
     write_group(text, group)?;

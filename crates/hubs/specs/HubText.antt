@@ -1,14 +1,19 @@
--- A hub as it is written: its letters, and its numbers with a point before each.
+-- A hub as it is written: its letters, and its numbers with a point before each. A counter group as hubs name it.
 use Rattle.std.specs.Prelude.{ℕ, List, [], ◌++◌, codes, decimal}
 use Rattle.hub_table.specs.HubTable.{row_of}
 use Rattle.hub_table.specs.declared.shape.Numbers.{Numbers}
 use Rattle.hub_table.specs.declared.shape.Numbers.TheVariants.{Bare, One, Two, Three}
 use Rattle.hubs.specs.Hubs.{letters_of, numbers_of}
+use Rattle.hubs.specs.declared.hub.Group.{Group}
 use Rattle.hubs.specs.declared.hub.Hub.{Hub}
 
 -- a point and a number
 abbrev pub pointed : ℕ → List ℕ
 pointed number = codes "." ++ decimal number
+
+-- a counter group: its width, a point and its number
+abbrev pub group_text : Group → List ℕ
+group_text group = decimal group.width ++ pointed group.number
 
 -- the numbers of a hub, a point before each
 abbrev pub numbers_text : Numbers → List ℕ

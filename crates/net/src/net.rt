@@ -189,7 +189,7 @@ impl Net {
     /// hubs that may emit in the cycle have rows, and none from which or to which a contact leads. `digits` has the contacts that are closed
     /// at the rows 9 to 0, `zones` those that are closed at 11 and 12.
     ///
-    /// If it answers false, the sets may lack rows: a contact behind another brought new ones, or there are more than 4,096 wires.
+    /// If it answers false, the sets may lack rows: a contact behind another may bring more, or there are more than 4,096 wires.
     pub fn spread_through(
         &self,
         cycle: Cycle,

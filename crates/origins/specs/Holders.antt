@@ -1,9 +1,9 @@
 -- What holds something in the machine from cycle to cycle, until a cycle moves it: the storage units, the pilots, and the balance latches
 -- of the counter groups.
-use Rattle.std.specs.Prelude.{ℕ, ◌+◌, ◌-◌, ◌<◌, ◌≤◌, ◌==◌, ◌&&◌, ◌||◌, nat_lt, Bool, false, List, [], ◌∷◌, Option, Some, None, Vec, if◌then◌else◌}
+use Rattle.std.specs.Prelude.{ℕ, ◌+◌, ◌-◌, ◌<◌, ◌≤◌, ◌==◌, ◌||◌, nat_lt, Bool, false, List, [], ◌∷◌, Option, Some, None, Vec, if◌then◌else◌}
 use Rattle.std.specs.declared.alloc.Global.{Global}
 use Rattle.counters.specs.Counters.{group_of_unit}
-use Rattle.hubs.specs.declared.hub.Group.{Group}
+use Rattle.hubs.specs.Carries.{is_one_group}
 use Rattle.hubs.specs.declared.hub.Hub.{Hub}
 use Rattle.hubs.specs.declared.hub.Hub.TheVariants.{BAT, PIT}
 use Rattle.origins.specs.Storage.{is_read}
@@ -20,10 +20,6 @@ IsHolder (Latch place) = place < 32
 abbrev pub holder_at : ℕ → Holder
 holder_at place = if nat_lt place 4 then Storage place else if nat_lt place 20 then Pilot (place - 3) else Latch (place - 20)
 
--- two counter groups are the same
-abbrev pub is_group : Group → Group → Bool
-is_group one other = (one.width == other.width) && (one.number == other.number)
-
 -- a hub is the exit of a contact that is closed while a pilot is transferred
 abbrev pub is_pilot_exit : ℕ → Hub → Bool
 is_pilot_exit pilot (PIT own position) = own == pilot
@@ -31,7 +27,7 @@ is_pilot_exit pilot hub = false
 
 -- or while the balance latch of the group of a place is set
 abbrev pub is_latch_exit : ℕ → Hub → Bool
-is_latch_exit place (BAT group position) = is_group (group_of_unit (3 + place)) group
+is_latch_exit place (BAT group position) = is_one_group (group_of_unit (3 + place)) group
 is_latch_exit place hub = false
 
 -- one of these

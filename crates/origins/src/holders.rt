@@ -1,11 +1,11 @@
 //! What holds something in the machine from cycle to cycle.
 
 ghost use Rattle.std.specs.Prelude.{◌≡◌, ◌<◌, ◌+◌};
-ghost use Rattle.origins.specs.Holders.{IsHolder, holder_at, is_group, is_latch_exit, is_pilot_exit, is_transferred, leads_one, leads_through, passes, ways_rest_on};
+ghost use Rattle.origins.specs.Holders.{IsHolder, holder_at, is_latch_exit, is_pilot_exit, is_transferred, leads_one, leads_through, passes, ways_rest_on};
 
 use crate::storage::is_read;
 use counters::group_of_unit;
-use hubs::{Group, Hub};
+use hubs::{Hub, is_one_group};
 
 /// What holds something in the machine from cycle to cycle, until a cycle moves it.
 #[derive(Clone, Copy, Debug, PartialEq, Eq)]
@@ -38,13 +38,6 @@ pub(crate) fn holder_at(place: usize) -> Holder
     }
 }
 
-/// Whether two counter groups are the same.
-pub fn is_group(one: Group, other: Group) -> bool
-    ensures { result ≡ is_group one other }
-{
-    one.width == other.width && one.number == other.number
-}
-
 // Whether a hub is the exit of a contact that is closed while a pilot is transferred.
 fn is_pilot_exit(pilot: u8, hub: Hub) -> bool
     ensures { result ≡ is_pilot_exit pilot hub }
@@ -61,7 +54,7 @@ fn is_latch_exit(place: usize, hub: Hub) -> bool
     ensures { result ≡ is_latch_exit place hub }
 {
     match hub {
-        Hub::BAT(group, _) => is_group(group_of_unit(3 + place as u8), group),
+        Hub::BAT(group, _) => is_one_group(group_of_unit(3 + place as u8), group),
         _ => false,
     }
 }

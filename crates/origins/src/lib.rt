@@ -20,7 +20,7 @@ mod storage;
 mod telling;
 
 pub use changes::{PassedCycle, last_move};
-pub use holders::{Holder, is_group};
+pub use holders::Holder;
 pub use holes::{Hole, Station, hole_to, is_wired, write_brush, write_column};
 pub use levels::called_by;
 pub use telling::origins_of;

@@ -1,5 +1,6 @@
 -- Words that are names of the language, and those that begin as a name by columns does.
 use Rattle.std.specs.Prelude.{ℕ, ◌==◌, ◌&&◌, ◌||◌, Bool, false, List, [], ◌∷◌, length, nat_le}
+use Rattle.std.specs.Char.{is_ascii_digit}
 use Rattle.charts.specs.Name.{begins_with_letter}
 
 -- whether the bytes are a name of the language
@@ -11,4 +12,4 @@ abbrev pub is_by_columns : List ℕ → Bool
 is_by_columns [] = false
 is_by_columns (letter ∷ []) = false
 is_by_columns (letter ∷ digit ∷ others) =
-    ((letter == 65) || (letter == 67) || (letter == 70)) && (nat_le 48 digit && nat_le digit 57)
+    ((letter == 65) || (letter == 67) || (letter == 70)) && is_ascii_digit digit

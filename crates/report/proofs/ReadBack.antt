@@ -1,5 +1,6 @@
 -- Edited amounts read back, and the signs of values.
 use Rattle.std.proofs.Common.{◌≡◌, ◌∙◌, ◌↔◌, refl, sym, ap, subst, ℕ, zero, suc, ℤ, pos, negsuc, ◌+◌, ◌-◌, ◌*◌, ◌/◌, ◌%◌, ◌^◌, ◌<◌, ◌==◌, ◌||◌, Bool, true, false, not, List, [], ◌∷◌, ◌++◌, Option, Some, None, is_some, length, map, take, drop, if◌then◌else◌, arith, unsigned_abs}
+use Rattle.std.specs.Char.{is_ascii_digit}
 use Rattle.std.specs.Int.{is_negative}
 use Rattle.std.specs.List.{list_any}
 use Rattle.std.proofs.Math.Nat.{pow-suc, div-one, div-eq_of_lt, div-div-eq-div-mul}
@@ -12,7 +13,7 @@ use Rattle.chart_rules.specs.Below.card_code.CardCode.{has_row}
 use Rattle.chart_rules.specs.Below.charts.declared.statement.Mark.{Mark}
 use Rattle.chart_rules.specs.Below.charts.declared.statement.Mark.TheVariants as mark
 use Rattle.chart_rules.specs.ValidCard.{column_of}
-use Rattle.report.specs.AmountLaws.{is_digit, spelled_after, is_of_mark, EditsReadBack, SignByPunch, SignByAbsence, SizesAreOfDigits}
+use Rattle.report.specs.AmountLaws.{spelled_after, is_of_mark, EditsReadBack, SignByPunch, SignByAbsence, SizesAreOfDigits}
 use Rattle.report.specs.Amounts.{digits_on, number_in, is_negated, signed}
 use Rattle.report.specs.Edits.{last_digits, figure, without_leading_zeros, free_digits, point, marked, edited, edited_digits}
 
@@ -45,7 +46,7 @@ spelled-append : (so_far : ℕ) (one other : List ℕ)
     → spelled_after so_far (one ++ other) ≡ spelled_after (spelled_after so_far one) other
 spelled-append so_far [] other = refl
 spelled-append so_far (character ∷ one) other =
-    by (is_digit character) (spelled-append (so_far * 10 + (character - 48)) one other) (spelled-append so_far one other)
+    by (is_ascii_digit character) (spelled-append (so_far * 10 + (character - 48)) one other) (spelled-append so_far one other)
   where
     by : (b : Bool)
         → spelled_after (so_far * 10 + (character - 48)) (one ++ other)
@@ -57,7 +58,7 @@ spelled-append so_far (character ∷ one) other =
     by false taken passed = passed
 
 -- a digit's character is a digit
-figure-digit : (digit : ℕ) → digit < 10 → is_digit (figure digit) ≡ true
+figure-digit : (digit : ℕ) → digit < 10 → is_ascii_digit (figure digit) ≡ true
 figure-digit digit small = grind (arith, nat_tests, small)
 
 -- the characters of digits spell their number

@@ -1,5 +1,6 @@
 -- Laws of amounts: what is printed can be read again, and where a value is below 0.
-use Rattle.std.specs.Prelude.{◌≡◌, ◌↔◌, ℕ, ℤ, ◌+◌, ◌-◌, ◌*◌, ◌^◌, ◌<◌, ◌≤◌, ◌==◌, ◌&&◌, ◌||◌, Bool, true, false, nat_le, List, [], ◌∷◌, Option, Some, is_some, if◌then◌else◌, unsigned_abs}
+use Rattle.std.specs.Prelude.{◌≡◌, ◌↔◌, ℕ, ℤ, ◌+◌, ◌-◌, ◌*◌, ◌^◌, ◌<◌, ◌≤◌, ◌==◌, ◌||◌, Bool, true, false, List, [], ◌∷◌, Option, Some, is_some, if◌then◌else◌, unsigned_abs}
+use Rattle.std.specs.Char.{is_ascii_digit}
 use Rattle.std.specs.Int.{is_negative}
 use Rattle.std.specs.List.{list_any}
 use Rattle.chart_rules.specs.Below.card_code.CardCode.{has_row}
@@ -11,16 +12,12 @@ use Rattle.chart_rules.specs.ValidCard.{column_of}
 use Rattle.report.specs.Amounts.{digits_on, number_in, signed, value_of}
 use Rattle.report.specs.Edits.{edited}
 
--- whether a character is a digit
-abbrev pub is_digit : ℕ → Bool
-is_digit character = nat_le 48 character && nat_le character 57
-
 -- The number that the digits of a text spell after those that spelled a number so far. A blank in front counts 0, and the point and
 -- a mark are passed over.
 abbrev pub spelled_after : ℕ → List ℕ → ℕ
 spelled_after so_far [] = so_far
 spelled_after so_far (character ∷ characters) =
-    if is_digit character
+    if is_ascii_digit character
     then spelled_after (so_far * 10 + (character - 48)) characters
     else spelled_after so_far characters
 

@@ -8,7 +8,7 @@ use Rattle.hubs.specs.declared.hub.Group.{Group}
 use Rattle.hubs.specs.declared.hub.Hub.{Hub}
 
 -- a group is itself, and the same as another one both ways
-one-own : (group : Group) → is_one_group group group ≡ true
+pub one-own : (group : Group) → is_one_group group group ≡ true
 one-own group = grind (arith, nat_tests)
 
 one-turned : (one other : Group) → is_one_group one other ≡ is_one_group other one

@@ -2,17 +2,18 @@
 use Rattle.std.proofs.Common.{◌≡◌, ℕ, ◌+◌, ◌-◌, ◌*◌, ◌≤◌, true, false, eqb, leb, ◌&&◌, List, [], ◌∷◌, length, Some, refl, ap, subst, arith, suc}
 use Rattle.std.proofs.lemmas.Bool.{eqb-false, ne_eqb, and_parts, leb-true, le-leb}
 use Rattle.std.proofs.lemmas.Option.{same_Some, cond_some}
-use Rattle.tokens.specs.Number.{is_digit, IsNumber, IsNumberTo, AreNumbers, none, next}
+use Rattle.std.specs.Char.{is_ascii_digit}
+use Rattle.tokens.specs.Number.{IsNumber, IsNumberTo, AreNumbers, none, next}
 use Rattle.tokens.specs.NumberReading.{digit_of, number_of, number_to, numbers_of}
 use Rattle.tokens.proofs.Steps.{bound, refused}
 
 -- a digit's byte is within the digits
-digit_range : (b : ℕ) → is_digit b ≡ true → (48 ≤ b) × (b ≤ 57)
+digit_range : (b : ℕ) → is_ascii_digit b ≡ true → (48 ≤ b) × (b ≤ 57)
 digit_range b digit =
     let p = and_parts (leb 48 b) (leb b 57) digit in
     (leb-true 48 b p.0, leb-true b 57 p.1)
 
-two_digits : (a b tens units : ℕ) → (is_digit a ≡ true) × (a - 48 ≡ tens) → (is_digit b ≡ true) × (b - 48 ≡ units)
+two_digits : (a b tens units : ℕ) → (is_ascii_digit a ≡ true) × (a - 48 ≡ tens) → (is_ascii_digit b ≡ true) × (b - 48 ≡ units)
     → eqb a 48 ≡ false
     → IsNumber (a ∷ b ∷ []) (10 * tens + units)
 two_digits a b tens units p q first = record {
@@ -23,8 +24,8 @@ two_digits a b tens units p q first = record {
   value = omega (arith, p.1, q.1);
 }
 
-three_digits : (a b c hundreds tens units : ℕ) → (is_digit a ≡ true) × (a - 48 ≡ hundreds)
-    → (is_digit b ≡ true) × (b - 48 ≡ tens) → (is_digit c ≡ true) × (c - 48 ≡ units)
+three_digits : (a b c hundreds tens units : ℕ) → (is_ascii_digit a ≡ true) × (a - 48 ≡ hundreds)
+    → (is_ascii_digit b ≡ true) × (b - 48 ≡ tens) → (is_ascii_digit c ≡ true) × (c - 48 ≡ units)
     → eqb a 48 ≡ false → IsNumber (a ∷ b ∷ c ∷ []) (100 * hundreds + 10 * tens + units)
 three_digits a b c hundreds tens units p q r first = record {
   some = omega arith;
@@ -39,23 +40,23 @@ pub number_is : (token : List ℕ) (n : ℕ) → number_of token ≡ Some n → 
 unfolding number_of
 number_is [] n read = cc
 number_is (a ∷ []) n read =
-    let p = cond_some (is_digit a) (a - 48) n read in
+    let p = cond_some (is_ascii_digit a) (a - 48) n read in
     record { some = omega arith; few = omega arith; digits = rw p.0 refl; leading = tt; value = omega (arith, p.1) }
 number_is (a ∷ b ∷ []) n read =
     let first = refused _ _ n read in
     let tens = bound (digit_of a) _ n first.1 in
     let units = bound (digit_of b) _ n tens.2 in
     subst (IsNumber (a ∷ b ∷ [])) (same_Some _ n units.2)
-    (two_digits a b tens.0 units.0 (cond_some (is_digit a) (a - 48) _ tens.1)
-    (cond_some (is_digit b) (b - 48) _ units.1) first.0)
+    (two_digits a b tens.0 units.0 (cond_some (is_ascii_digit a) (a - 48) _ tens.1)
+    (cond_some (is_ascii_digit b) (b - 48) _ units.1) first.0)
 number_is (a ∷ b ∷ c ∷ []) n read =
     let first = refused _ _ n read in
     let hundreds = bound (digit_of a) _ n first.1 in
     let tens = bound (digit_of b) _ n hundreds.2 in
     let units = bound (digit_of c) _ n tens.2 in
     subst (IsNumber (a ∷ b ∷ c ∷ [])) (same_Some _ n units.2)
-    (three_digits a b c hundreds.0 tens.0 units.0 (cond_some (is_digit a) (a - 48) _ hundreds.1)
-    (cond_some (is_digit b) (b - 48) _ tens.1) (cond_some (is_digit c) (c - 48) _ units.1) first.0)
+    (three_digits a b c hundreds.0 tens.0 units.0 (cond_some (is_ascii_digit a) (a - 48) _ hundreds.1)
+    (cond_some (is_ascii_digit b) (b - 48) _ tens.1) (cond_some (is_ascii_digit c) (c - 48) _ units.1) first.0)
 number_is (a ∷ b ∷ c ∷ d ∷ bytes) n read = cc
 
 -- a number is read
@@ -63,16 +64,16 @@ pub number_read : (token : List ℕ) (n : ℕ) → IsNumber token n → number_o
 unfolding number_of
 number_read [] n is = absurd (omega (arith, is.some))
 number_read (a ∷ []) n is =
-    let p = and_parts (is_digit a) true is.digits in
+    let p = and_parts (is_ascii_digit a) true is.digits in
     rw p.0 (ap Some (omega (arith, is.value)))
 number_read (a ∷ b ∷ []) n is =
-    let p = and_parts (is_digit a) (is_digit b && true) is.digits in
-    let q = and_parts (is_digit b) true p.1 in
+    let p = and_parts (is_ascii_digit a) (is_ascii_digit b && true) is.digits in
+    let q = and_parts (is_ascii_digit b) true p.1 in
     rw (ne_eqb a 48 (λ same. absurd (omega (arith, is.leading, same))), p.0, q.0) (ap Some (omega (arith, is.value)))
 number_read (a ∷ b ∷ c ∷ []) n is =
-    let p = and_parts (is_digit a) (is_digit b && (is_digit c && true)) is.digits in
-    let q = and_parts (is_digit b) (is_digit c && true) p.1 in
-    let r = and_parts (is_digit c) true q.1 in
+    let p = and_parts (is_ascii_digit a) (is_ascii_digit b && (is_ascii_digit c && true)) is.digits in
+    let q = and_parts (is_ascii_digit b) (is_ascii_digit c && true) p.1 in
+    let r = and_parts (is_ascii_digit c) true q.1 in
     rw (ne_eqb a 48 (λ same. absurd (omega (arith, is.leading, same))), p.0, q.0, r.0)
     (ap Some (omega (arith, is.value)))
 number_read (a ∷ b ∷ c ∷ d ∷ bytes) n is = absurd (omega (arith, is.few))

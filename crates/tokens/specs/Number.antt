@@ -1,10 +1,7 @@
 -- The numbers of a text: `0`, or 1 to 3 digits of which the first is no 0.
-use Rattle.std.specs.Prelude.{◌≡◌, ℕ, ◌+◌, ◌-◌, ◌*◌, ◌<◌, ◌≤◌, ◌&&◌, Bool, IsTrue, List, [], ◌∷◌, length, fold, nat_le}
+use Rattle.std.specs.Prelude.{◌≡◌, ℕ, ◌+◌, ◌-◌, ◌*◌, ◌<◌, ◌≤◌, IsTrue, List, [], ◌∷◌, length, fold}
+use Rattle.std.specs.Char.{is_ascii_digit}
 use Rattle.std.specs.List.{list_all}
-
--- a digit's byte
-abbrev pub is_digit : ℕ → Bool
-is_digit byte = nat_le 48 byte && nat_le byte 57
 
 -- the number that digits spell, the highest first
 abbrev pub spelled_by : List ℕ → ℕ
@@ -20,7 +17,7 @@ NoLeadingZero (digit ∷ next ∷ digits) = 48 < digit
 pub record IsNumber (token : List ℕ) (number : ℕ) : Type 0 where
   pub some : 1 ≤ length token
   pub few : length token ≤ 3
-  pub digits : IsTrue (list_all is_digit token)
+  pub digits : IsTrue (list_all is_ascii_digit token)
   pub leading : NoLeadingZero token
   pub value : number ≡ spelled_by token
 

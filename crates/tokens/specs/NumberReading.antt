@@ -1,12 +1,12 @@
 -- What the readers of numbers answer, as functions of tokens.
 -- These are steps between the code and the grammar: read_number and read_number_to promise the relations of Number.
 use Rattle.std.specs.Prelude.{ℕ, ◌+◌, ◌-◌, ◌*◌, ◌==◌, ◌&&◌, List, [], ◌∷◌, Option, Some, None, if◌then◌else◌, nat_le}
-use Rattle.tokens.specs.Number.{is_digit}
+use Rattle.std.specs.Char.{is_ascii_digit}
 use Rattle.tokens.specs.Steps.{◌>>=◌}
 
 -- the digit of a byte
 abbrev pub digit_of : ℕ → Option ℕ
-digit_of byte = if is_digit byte then Some (byte - 48) else None
+digit_of byte = if is_ascii_digit byte then Some (byte - 48) else None
 
 -- the number that a token is
 unfoldable pub number_of : List ℕ → Option ℕ

@@ -4,8 +4,7 @@ ghost use Rattle.std.specs.Prelude.{◌≡◌, ◌≤◌, ◌<◌, IfSome};
 ghost use Rattle.wheel_ledgers.specs.Places.{place_below, place_of};
 
 use counters::group_of_unit;
-use hubs::Group;
-use origins::is_group;
+use hubs::{Group, is_one_group};
 
 // How many counter groups there are.
 pub(crate) const GROUPS: usize = 32;
@@ -19,7 +18,7 @@ fn place_below(count: usize, group: Group) -> Option<usize>
     if count == 0 {
         return None;
     }
-    if is_group(group_of_unit(2 + count as u8), group) {
+    if is_one_group(group_of_unit(2 + count as u8), group) {
         return Some(count - 1);
     }
     place_below(count - 1, group)

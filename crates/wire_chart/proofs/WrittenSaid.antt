@@ -19,8 +19,8 @@ use Rattle.tokens.specs.Number.{IsNumberTo}
 use Rattle.wiring_text.specs.HubNames.{carry_entry, carry_exit, name_of, hub_of, is_carry}
 use Rattle.wiring_text.specs.Statements.{SaysJack, list, total, head, link, suppress, symbol, Says, stop, plug, wire, ring, couple, may_be_wired, wire_fault, statement_fault}
 use Rattle.wiring_text.specs.WiringText.{SaysLine}
-use Rattle.hubs.specs.HubText.{hub_text}
-use Rattle.wire_chart.specs.WrittenText.{spaced, stop_line, jack_line, carry_line, couple_line, group_text, plain_line, ring_line, wire_line}
+use Rattle.hubs.specs.HubText.{group_text, hub_text}
+use Rattle.wire_chart.specs.WrittenText.{spaced, stop_line, jack_line, carry_line, couple_line, plain_line, ring_line, wire_line}
 use Rattle.wiring_text.specs.declared.statement.Statement.{Statement}
 use Rattle.wiring_text.specs.declared.statement.Statement.TheVariants.{Stop, Plug, Wire}
 use Rattle.wire_chart.proofs.WrittenBytes.{IsWord, IsWrittenLine, words_line, line_of_words, is_inner}

@@ -1,5 +1,6 @@
 -- Numbers and hubs as they are written are numbers and hubs' names.
 use Rattle.std.proofs.Common.{◌≡◌, ◌∙◌, ℕ, ◌+◌, ◌*◌, ◌/◌, ◌%◌, ◌<◌, ◌≤◌, inl, inr, List, [], ◌∷◌, ◌++◌, length, true, ◌&&◌, Some, refl, sym, ap, subst, arith, leb, length-append, decimal}
+use Rattle.std.specs.Char.{is_ascii_digit}
 use Rattle.std.specs.List.{list_all}
 use Rattle.std.specs.Prelude.{nat_le}
 use Rattle.std.proofs.lemmas.Bool.{and_parts, cases_lt, lt-ltb, leb-true, and_from}
@@ -11,10 +12,9 @@ use Rattle.hubs.specs.declared.hub.Group.{Group}
 use Rattle.hubs.specs.declared.hub.Hub.{Hub}
 use Rattle.hub_table.specs.declared.shape.Numbers.{Numbers}
 use Rattle.hub_table.specs.declared.shape.Numbers.TheVariants.{Bare, One, Two, Three}
-use Rattle.tokens.specs.Number.{IsNumber, is_digit}
+use Rattle.tokens.specs.Number.{IsNumber}
 use Rattle.wiring_text.specs.HubNames.{IsGroup, IsPointed, IsDotted, bare, one, two, three, IsHubName, name_of}
-use Rattle.hubs.specs.HubText.{pointed, numbers_text, hub_text}
-use Rattle.wire_chart.specs.WrittenText.{group_text}
+use Rattle.hubs.specs.HubText.{group_text, pointed, numbers_text, hub_text}
 use Rattle.wire_chart.proofs.RowLemmas.{AreSmall, good_letters, numbered_small}
 use Rattle.wire_chart.proofs.WrittenBytes.{is_high, IsWord, all_weaker, append_true}
 
@@ -22,14 +22,14 @@ use Rattle.wire_chart.proofs.WrittenBytes.{is_high, IsWord, all_weaker, append_t
 abbrev digit_text : ℕ → List ℕ
 digit_text digit = (48 + digit) ∷ []
 
-digit_is : (d : ℕ) → d < 10 → is_digit (48 + d) ≡ true
+digit_is : (d : ℕ) → d < 10 → is_ascii_digit (48 + d) ≡ true
 digit_is d h = grind (arith, nat_tests)
 
 number_one : (n : ℕ) → n < 10 → IsNumber (digit_text n) n
 number_one n h = record {
   some = omega arith;
   few = omega arith;
-  digits = and_from (is_digit (48 + n)) true (digit_is n h) refl;
+  digits = and_from (is_ascii_digit (48 + n)) true (digit_is n h) refl;
   leading = tt;
   value = omega arith;
 }
@@ -38,8 +38,8 @@ number_two : (a b n : ℕ) → 1 ≤ a → a < 10 → b < 10 → n ≡ 10 * a + 
 number_two a b n some h k e = record {
   some = omega arith;
   few = omega arith;
-  digits = and_from (is_digit (48 + a)) (is_digit (48 + b) && true) (digit_is a h)
-      (and_from (is_digit (48 + b)) true (digit_is b k) refl);
+  digits = and_from (is_ascii_digit (48 + a)) (is_ascii_digit (48 + b) && true) (digit_is a h)
+      (and_from (is_ascii_digit (48 + b)) true (digit_is b k) refl);
   leading = omega arith;
   value = omega arith;
 }
@@ -49,9 +49,9 @@ number_three : (a b c n : ℕ) → 1 ≤ a → a < 10 → b < 10 → c < 10 → 
 number_three a b c n some h k l e = record {
   some = omega arith;
   few = omega arith;
-  digits = and_from (is_digit (48 + a)) (is_digit (48 + b) && (is_digit (48 + c) && true)) (digit_is a h)
-      (and_from (is_digit (48 + b)) (is_digit (48 + c) && true) (digit_is b k)
-      (and_from (is_digit (48 + c)) true (digit_is c l) refl));
+  digits = and_from (is_ascii_digit (48 + a)) (is_ascii_digit (48 + b) && (is_ascii_digit (48 + c) && true)) (digit_is a h)
+      (and_from (is_ascii_digit (48 + b)) (is_ascii_digit (48 + c) && true) (digit_is b k)
+      (and_from (is_ascii_digit (48 + c)) true (digit_is c l) refl));
   leading = omega arith;
   value = omega arith;
 }
@@ -78,13 +78,13 @@ number_written n small = elim (cases_lt n 10) [
   ]
 ]
 
-digit_high : (b : ℕ) → is_digit b ≡ true → is_high b ≡ true
+digit_high : (b : ℕ) → is_ascii_digit b ≡ true → is_high b ≡ true
 digit_high b h =
     let from : 48 ≤ b = leb-true 48 b (and_parts (leb 48 b) (leb b 57) h).0 in
     lt-ltb 39 b (omega arith)
 
 number_high : (n : ℕ) → n < 1000 → list_all is_high (decimal n) ≡ true
-number_high n small = all_weaker is_digit is_high digit_high (decimal n) (number_written n small).digits
+number_high n small = all_weaker is_ascii_digit is_high digit_high (decimal n) (number_written n small).digits
 
 pub number_word : (n : ℕ) → n < 1000 → IsWord (decimal n)
 number_word n small =

@@ -4,7 +4,7 @@
 use Rattle.std.specs.Prelude.{◌≡◌, ◌↔◌, ◌⊎◌, ℕ, ◌<◌, true, List, [], ◌∷◌, ◌++◌, AllPairs, Contains, Some, Option, codes, decimal, if◌then◌else◌}
 use Rattle.std.specs.List.{flat_map}
 use Rattle.hubs.specs.Carries.{is_one_group}
-use Rattle.hubs.specs.HubText.{hub_text, pointed}
+use Rattle.hubs.specs.HubText.{group_text, hub_text}
 use Rattle.hubs.specs.Hubs.{carry_into, carry_out_of}
 use Rattle.hubs.specs.Jacks.{jack_place}
 use Rattle.setups.specs.Tapes.{CarriageTape, has_stop}
@@ -45,10 +45,6 @@ jack_line jack = codes "JACK" ++ spaced (jack_text jack)
 
 abbrev pub plain_line : Hub × Hub → List ℕ
 plain_line wire = codes "WIRE" ++ spaced (hub_text wire.0) ++ spaced (hub_text wire.1)
-
--- a counter group as it is written: its width, a point and its number
-abbrev pub group_text : Group → List ℕ
-group_text group = decimal group.width ++ pointed group.number
 
 -- the wire that makes a ring of a counter group, and the wire that couples two
 abbrev pub ring_line : Group → List ℕ

@@ -2,8 +2,8 @@
 
 ghost use Rattle.std.specs.Prelude.{◌≡◌, ◌++◌, decimal, OnOk};
 ghost use Rattle.std.specs.String.{string_bytes};
-ghost use Rattle.hubs.specs.HubText.{hub_text};
-ghost use Rattle.wire_chart.specs.WrittenText.{group_text, spaced, jack_text};
+ghost use Rattle.hubs.specs.HubText.{group_text, hub_text};
+ghost use Rattle.wire_chart.specs.WrittenText.{spaced, jack_text};
 
 use hubs::{Group, Hub, Jack, write_hub};
 use numerals::push_numbered;

@@ -1,6 +1,6 @@
 -- How a ledger names cycles and counter groups.
 use Rattle.std.specs.Prelude.{ℕ, ◌+◌, List, [], ◌++◌, codes, decimal}
-use Rattle.hubs.specs.declared.hub.Group.{Group}
+use Rattle.hubs.specs.HubText.{group_text}
 use Rattle.counters.specs.Counters.{group_of_unit}
 use Rattle.net.specs.Cycles.{level_number, ordinal_number}
 use Rattle.net.specs.declared.cycle.Cycle.{Cycle}
@@ -8,12 +8,12 @@ use Rattle.net.specs.declared.cycle.Cycle.TheVariants.{RunIn, Card, Prog, Head}
 use Rattle.ledgers.specs.declared.account.Account.{Account}
 use Rattle.ledgers.specs.declared.account.Account.TheVariants.{One, Coupled}
 
--- which cycle: of a card cycle the number of its card
-abbrev pub name_text : Cycle → ℕ → List ℕ
-name_text RunIn card = codes "RunIn"
-name_text Card card = codes "Card " ++ decimal card
-name_text (Prog level ordinal) card = codes "Prog " ++ decimal (level_number level) ++ codes " " ++ decimal (ordinal_number ordinal)
-name_text (Head heading) card = codes "Head " ++ decimal (ordinal_number heading)
+-- the name of a cycle: of a card cycle with the number of its card, of a program cycle with its level and which of its three cycles it is
+abbrev pub cycle_name : Cycle → ℕ → List ℕ
+cycle_name RunIn card = codes "RunIn"
+cycle_name Card card = codes "Card " ++ decimal card
+cycle_name (Prog level ordinal) card = codes "Prog " ++ decimal (level_number level) ++ codes " " ++ decimal (ordinal_number ordinal)
+cycle_name (Head heading) card = codes "Head " ++ decimal (ordinal_number heading)
 
 -- of any other cycle the number of the card that was read last
 abbrev pub after_text : Cycle → ℕ → List ℕ
@@ -23,11 +23,7 @@ after_text (Prog level ordinal) card = codes " after card " ++ decimal card
 after_text (Head heading) card = codes " after card " ++ decimal card
 
 abbrev pub cycle_text : Cycle → ℕ → List ℕ
-cycle_text cycle card = name_text cycle card ++ after_text cycle card
-
--- a counter group by its width and its number, as hubs name it
-abbrev pub group_text : Group → List ℕ
-group_text group = decimal group.width ++ codes "." ++ decimal group.number
+cycle_text cycle card = cycle_name cycle card ++ after_text cycle card
 
 -- the group of a place; unit 3 has place 0
 abbrev pub place_text : ℕ → List ℕ

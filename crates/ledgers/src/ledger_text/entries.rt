@@ -34,8 +34,8 @@ fn write_change(text: &mut Vec<u8>, width: u32, change: Change, entered: u64) ->
     }
 }
 
-// A carry that came in.
-fn write_carry(text: &mut Vec<u8>, carry: bool) -> io::Result<()>
+/// Puts ` carry` behind a text if a carry came in, else nothing. Fails only if no memory is left.
+pub fn write_carry(text: &mut Vec<u8>, carry: bool) -> io::Result<()>
     ensures { OnOk result (text.new.items ≡ text.old.items ++ carry_text carry) }
 {
     if carry {

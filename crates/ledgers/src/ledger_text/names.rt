@@ -1,18 +1,21 @@
 //! How a ledger names cycles and counter groups.
 
 ghost use Rattle.std.specs.Prelude.{◌≡◌, ◌<◌, ◌++◌, OnOk};
+ghost use Rattle.hubs.specs.HubText.{group_text};
 ghost use Rattle.ledgers.specs.Accounts.{IsAccount};
-ghost use Rattle.ledgers.specs.LedgerText.Names.{account_text, after_text, cycle_text, hubs_text, name_text, place_text};
+ghost use Rattle.ledgers.specs.LedgerText.Names.{account_text, after_text, cycle_name, cycle_text, hubs_text, place_text};
 
 use crate::Account;
 use counters::group_of_unit;
+use hubs::Group;
 use net::Cycle;
 use std::io;
 use std::io::Write;
 
-// Which cycle.
-fn write_name(text: &mut Vec<u8>, cycle: Cycle, card: u32) -> io::Result<()>
-    ensures { OnOk result (text.new.items ≡ text.old.items ++ name_text cycle card) }
+/// Puts behind a text the name of a cycle: `RunIn`; `Card` and the number of its card; `Prog`, its level and which of its three cycles it is;
+/// `Head` and its number. Fails only if no memory is left.
+pub fn write_cycle_name(text: &mut Vec<u8>, cycle: Cycle, card: u32) -> io::Result<()>
+    ensures { OnOk result (text.new.items ≡ text.old.items ++ cycle_name cycle card) }
 {
     match cycle {
         Cycle::RunIn => text.write_all(b"RunIn"),
@@ -44,8 +47,17 @@ fn write_after(text: &mut Vec<u8>, cycle: Cycle, card: u32) -> io::Result<()>
 pub fn write_cycle(text: &mut Vec<u8>, cycle: Cycle, card: u32) -> io::Result<()>
     ensures { OnOk result (text.new.items ≡ text.old.items ++ cycle_text cycle card) }
 {
-    write_name(text, cycle, card)?;
+    write_cycle_name(text, cycle, card)?;
     write_after(text, cycle, card)
+}
+
+/// Puts behind a text the width and the number of a counter group, as hubs name it: `8.1`. Fails only if no memory is left.
+pub fn write_group_name(text: &mut Vec<u8>, group: Group) -> io::Result<()>
+    ensures { OnOk result (text.new.items ≡ text.old.items ++ group_text group) }
+{
+    let width = group.width;
+    let number = group.number;
+    write!(text, "{width}.{number}")
 }
 
 // The group of a place.
@@ -53,10 +65,7 @@ fn write_place(text: &mut Vec<u8>, place: usize) -> io::Result<()>
     requires { place < 32 }
     ensures { OnOk result (text.new.items ≡ text.old.items ++ place_text place) }
 {
-    let group = group_of_unit(3 + place as u8);
-    let width = group.width;
-    let number = group.number;
-    write!(text, "{width}.{number}")
+    write_group_name(text, group_of_unit(3 + place as u8))
 }
 
 /// Puts behind a text the counter groups of an account, that with the units last. Fails only if no memory is left.

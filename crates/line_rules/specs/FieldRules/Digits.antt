@@ -1,10 +1,15 @@
--- A rule on the digits of a total.
+-- The digits of a total, and a rule on them.
 use Rattle.std.specs.Prelude.{ℕ, Bool, false, List, Option, Some, None, is_some, ◌&&◌, ◌||◌, nat_lt}
 use Rattle.charts.specs.declared.statement.Field.{Field}
 use Rattle.charts.specs.declared.statement.Statement.{Statement}
 use Rattle.charts.specs.declared.statement.Statement.TheVariants as says
 use Rattle.line_rules.specs.FieldRules.Fields.{first_named}
 use Rattle.charts.specs.Field.{sign_column, columns_of}
+
+-- the digits of the total on a line
+abbrev pub digits_of : Statement → ℕ
+digits_of (says.TotalAmount total) = total.digits
+digits_of other = 0
 
 -- whether a total of a field has fewer digits than the field, more than 16, or more than 15 with a sign column
 abbrev pub is_out_of_digits : Option Field → ℕ → Bool

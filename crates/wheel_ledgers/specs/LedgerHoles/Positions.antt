@@ -3,7 +3,7 @@ use Rattle.std.specs.Prelude.{ℕ, ◌+◌, ◌-◌, nat_le, List, ◌++◌, cod
 use Rattle.counters.specs.Counters.{group_of_unit}
 use Rattle.hubs.specs.declared.hub.Hub.{Hub}
 use Rattle.hubs.specs.declared.hub.Hub.TheVariants.{GE}
-use Rattle.ledgers.specs.LedgerText.Names.{group_text}
+use Rattle.hubs.specs.HubText.{group_text}
 use Rattle.ledgers.specs.declared.account.Account.{Account}
 use Rattle.ledgers.specs.declared.account.Account.TheVariants.{One, Coupled}
 use Rattle.wheel_ledgers.specs.declared.ledger_holes.positions.Position.{Position}

@@ -2,12 +2,13 @@
 use Rattle.std.proofs.Common.{◌≡◌, ℕ, true, not, leb, List, [], ◌∷◌, ◌++◌, Some, refl, ap, sym, ◌∙◌, subst, arith, append-nil, append_assoc}
 use Rattle.std.proofs.lemmas.Bool.{and_parts, and_from, leb-true, ne_eqb}
 use Rattle.std.proofs.lemmas.Option.{none-some, same_Some}
+use Rattle.std.specs.Char.{is_ascii_digit}
 use Rattle.std.specs.List.{slice_split, list_all}
 use Rattle.hub_table.specs.HubTable.{row_of}
 use Rattle.hub_table.specs.Places.{has_as_many}
 use Rattle.hub_table.specs.declared.shape.Numbers.{Numbers}
 use Rattle.hub_table.specs.declared.shape.Numbers.TheVariants.{Bare, One, Two, Three}
-use Rattle.tokens.specs.Number.{IsNumber, is_digit}
+use Rattle.tokens.specs.Number.{IsNumber}
 use Rattle.tokens.specs.NumberReading.{number_of}
 use Rattle.tokens.proofs.NumberGrammar.{number_is, number_read}
 use Rattle.tokens.proofs.Steps.{bound, granted}
@@ -18,15 +19,15 @@ use Rattle.wiring_text.proofs.WiringReader.LetterReading.{no_point, letters_is, 
 use Rattle.wiring_text.proofs.WiringReader.NamePieces.{dotted, joined, joined_pieces, split_alone, split_after}
 
 -- no point stands in a number
-plain_digit : (b : ℕ) → is_digit b ≡ true → no_point b ≡ true
+plain_digit : (b : ℕ) → is_ascii_digit b ≡ true → no_point b ≡ true
 plain_digit b digit =
     let p = and_parts (leb 48 b) (leb b 57) digit in
     ap not (ne_eqb b 46 (λ e. absurd (omega (arith, e, leb-true 48 b p.0))))
 
-plain_digits : (digits : List ℕ) → list_all is_digit digits ≡ true → list_all no_point digits ≡ true
+plain_digits : (digits : List ℕ) → list_all is_ascii_digit digits ≡ true → list_all no_point digits ≡ true
 plain_digits [] all = refl
 plain_digits (b ∷ bs) all =
-    let p = and_parts (is_digit b) (list_all is_digit bs) all in
+    let p = and_parts (is_ascii_digit b) (list_all is_ascii_digit bs) all in
     and_from _ _ (plain_digit b p.0) (plain_digits bs p.1)
 
 -- a number after a point
