@@ -7,9 +7,10 @@ use Rattle.machine.specs.Cycles.{Reached}
 use Rattle.machine.specs.Runs.{InRun, cycle_due, made_ready}
 use Rattle.net.specs.declared.cycle.Cycle.{Cycle}
 use Rattle.setups.specs.Wiring.{Wiring}
+use Rattle.ledgers.specs.Ledgers.{card_in}
 use Rattle.traces.specs.Lines.{cycle_line}
 use Rattle.traces.specs.OneTrace.{TracesAreOne}
-use Rattle.traces.specs.Traces.{TracedTo, begun, behind_cycle, card_in, more}
+use Rattle.traces.specs.Traces.{TracedTo, begun, behind_cycle, more}
 
 -- how many cycles have run
 cycles-of : (wiring : Wiring) (deck : List (List ℕ)) {card : ℕ} {run : InRun} {trace : List ℕ} → TracedTo wiring deck card run trace → ℕ

@@ -12,11 +12,11 @@ use Rattle.machine.specs.Stepped.{Stepped, IsUnbegun}
 use Rattle.machine.proofs.FewCycles.{ahead}
 use Rattle.traces.specs.Listing.{IsBounded, TakesCycle}
 use Rattle.traces.specs.Parts.{CyclesTo, IsPartOf, IsTracePart, ToldCycle, none}
-use Rattle.traces.specs.Traces.{card_in}
-use Rattle.traces.specs.Tracing.{TracesCycle, in_run}
+use Rattle.ledgers.specs.Ledgers.{card_in}
+use Rattle.traces.specs.Tracing.{TracesCycle}
 use Rattle.traces.specs.declared.parts.CycleChoice.{CycleChoice}
 use Rattle.traces.specs.declared.parts.TracePart.{TracePart}
-use Rattle.traces.proofs.Running.{PrintsOn, Stands, Stands-begun, Stands-falls, Stands-more, cycles_more, prints_more}
+use Rattle.traces.proofs.Running.{PrintsOn, Stands, Stands-begun, Stands-falls, Stands-more, cycles_more, prints_more, in_run}
 
 -- A stepped machine with these cards in the hopper stands in the run over the deck: so many cards were read, and the part is that of the
 -- cycles so far.

@@ -16,11 +16,18 @@ use Rattle.machine.specs.Runs.{InRun, MachineLines, RunsBy, cards_moved, cycle_d
 use Rattle.machine.specs.Stepped.{Stepped, IsUnbegun}
 use Rattle.machine.proofs.FewCycles.{IsSupplied, ahead, ahead-falls, still-supplied}
 use Rattle.machine.proofs.Keeps.{CycleRun-ends}
-use Rattle.traces.specs.Lines.{cycle_line, cycle_name, put_behind, units_told}
+use Rattle.ledgers.specs.LedgerText.Names.{cycle_name}
+use Rattle.ledgers.proofs.Places.{card_in-next}
+use Rattle.ledgers.specs.Ledgers.{card_in}
+use Rattle.traces.specs.Lines.{cycle_line, put_behind, units_told}
 use Rattle.traces.specs.Parts.{CyclesTo, ToldCycle, next}
 use Rattle.traces.specs.TracedUnits.{line_told}
-use Rattle.traces.specs.Traces.{TracedTo, begun, behind_cycle, card_in, more}
-use Rattle.traces.specs.Tracing.{HasTraced, TracesCycle, WritesTrace, in_run}
+use Rattle.traces.specs.Traces.{TracedTo, begun, behind_cycle, more}
+use Rattle.traces.specs.Tracing.{HasTraced, TracesCycle, WritesTrace}
+
+-- a stepped machine as it stands in a run with these cards in the hopper
+abbrev pub in_run : Stepped → List (List ℕ) → InRun
+in_run stepped hopper = record { machine = stepped.machine; hopper = hopper }
 
 -- A stepped machine with these cards in the hopper stands in the run over the deck: so many cards were read, and the trace so far is written.
 pub record Stands (wiring : Wiring) (deck : List (List ℕ)) (stepped : Stepped) (card : ℕ) (hopper : List (List ℕ))
@@ -60,12 +67,6 @@ Stands-begun wiring deck unbegun loaded hopper was start moved net =
         written = Appends-nil was;
       };
     }
-
-card_in-next : (cycle : Cycle) (card : ℕ) → card_in cycle card ≤ card + 1
-card_in-next RunIn card = omega arith
-card_in-next Card card = omega arith
-card_in-next (Prog level ordinal) card = omega arith
-card_in-next (Head heading) card = omega arith
 
 -- one cycle more
 module _ (wiring : Wiring) (deck : List (List ℕ)) (stepped ready after : Stepped) (card : ℕ) (hopper left : List (List ℕ)) (cycle : Cycle)

@@ -1,21 +1,14 @@
 -- The line of a cycle in a trace: which cycle it was, and then what it did, each thing behind three spaces.
-use Rattle.std.specs.Prelude.{ℕ, ◌-◌, List, [], ◌++◌, codes, decimal, length, replicate}
+use Rattle.std.specs.Prelude.{ℕ, ◌-◌, List, [], ◌++◌, codes, length, replicate}
 use Rattle.std.specs.List.{flat_map}
 use Rattle.counters.specs.Counters.{Counter, counter_ended}
-use Rattle.net.specs.Cycles.{level_number, ordinal_number}
+use Rattle.ledgers.specs.LedgerText.Names.{cycle_name}
 use Rattle.net.specs.declared.cycle.Cycle.{Cycle}
-use Rattle.net.specs.declared.cycle.Cycle.TheVariants.{RunIn, Card, Prog, Head}
+use Rattle.net.specs.declared.cycle.Cycle.TheVariants.{RunIn}
 use Rattle.storage_units.specs.Storage.{StorageState, storage_ended}
 use Rattle.machine.specs.Cycles.{line_of}
 use Rattle.machine.specs.Machine.{MachineState, ended}
 use Rattle.traces.specs.TracedUnits.{group_told, line_told, pilots_told, storage_told}
-
--- which cycle: of a card cycle the number of its card, from 1; of a program cycle its level and which of its three cycles it is
-abbrev pub cycle_name : Cycle → ℕ → List ℕ
-cycle_name RunIn card = codes "RunIn"
-cycle_name Card card = codes "Card " ++ decimal card
-cycle_name (Prog level ordinal) card = codes "Prog " ++ decimal (level_number level) ++ codes " " ++ decimal (ordinal_number ordinal)
-cycle_name (Head heading) card = codes "Head " ++ decimal (ordinal_number heading)
 
 -- the run-in reads the first card
 abbrev pub reading_told : Cycle → List ℕ

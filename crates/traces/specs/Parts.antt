@@ -8,7 +8,8 @@ use Rattle.machine.specs.Cycles.{Reached}
 use Rattle.machine.specs.Machine.{MachineState}
 use Rattle.machine.specs.Runs.{InRun, MachineLines, cycle_due, made_ready, run_at_start}
 use Rattle.traces.specs.Lines.{cycle_line}
-use Rattle.traces.specs.Traces.{behind_cycle, card_in}
+use Rattle.traces.specs.Traces.{behind_cycle}
+use Rattle.ledgers.specs.Ledgers.{card_in}
 use Rattle.traces.specs.declared.parts.CycleChoice.{CycleChoice}
 use Rattle.traces.specs.declared.parts.TracePart.{TracePart}
 

@@ -6,16 +6,13 @@ use Rattle.std.specs.Str.{bytes_eq}
 use Rattle.card_code.specs.Rows.{rows}
 use Rattle.counters.specs.Counters.{Counter}
 use Rattle.counters.specs.declared.controls.Controls.{Controls}
-use Rattle.hubs.specs.declared.hub.Group.{Group}
+use Rattle.hubs.specs.HubText.{group_text}
+use Rattle.ledgers.specs.LedgerText.Entries.{carry_text}
 use Rattle.page_text.specs.Pages.{without_trailing_blanks}
 use Rattle.page_text.specs.declared.placed_lines.placed_line.PlacedLine.{PlacedLine}
 use Rattle.print_unit.specs.ZeroControl.{character_of}
 use Rattle.selectors.specs.Pilots.{PilotStates, is_transferred}
 use Rattle.storage_units.specs.Storage.{StorageState, holds}
-
--- a counter group by its width and its number, as hubs name it
-abbrev pub group_name : Group → List ℕ
-group_name group = decimal group.width ++ codes "." ++ decimal group.number
 
 -- digits from the top down
 abbrev pub digits_text : List ℕ → List ℕ
@@ -39,10 +36,6 @@ entered_text controls entered =
     if controls.minus
     then codes " -" ++ digits_text entered
     else if controls.plus then codes " +" ++ digits_text entered else []
-
--- a carry that came in at the units
-abbrev pub carry_text : Bool → List ℕ
-carry_text carry = if carry then codes " carry" else []
 
 -- the number before, where the group is not read out: it starts from nothing then
 abbrev pub before_text : Controls → List ℕ → List ℕ
@@ -82,7 +75,7 @@ test_text counter behind = if counter.controls.test then codes " test: balance l
 abbrev pub group_told : Counter → Counter → List ℕ
 group_told counter behind =
     if is_asked counter.controls counter.carry
-    then codes "   " ++ group_name counter.name ++ wheels_text counter behind ++ test_text counter behind
+    then codes "   " ++ group_text counter.name ++ wheels_text counter behind ++ test_text counter behind
     else []
 
 -- characters, cut behind the last one that is no blank

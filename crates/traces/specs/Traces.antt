@@ -1,17 +1,12 @@
 -- The trace of a run of the machine over a deck: a line for each of its cycles, in their order.
 use Rattle.std.specs.Prelude.{◌≡◌, ℕ, ◌+◌, List, [], ◌++◌, Some, None}
+use Rattle.ledgers.specs.Ledgers.{card_in}
 use Rattle.setups.specs.Wiring.{Wiring}
 use Rattle.net.specs.declared.cycle.Cycle.{Cycle}
-use Rattle.net.specs.declared.cycle.Cycle.TheVariants.{Card}
 use Rattle.machine.specs.Cycles.{Reached}
 use Rattle.machine.specs.Machine.{MachineState, ended}
 use Rattle.machine.specs.Runs.{InRun, cycle_due, made_ready, run_at_start}
 use Rattle.traces.specs.Lines.{cycle_line}
-
--- a card cycle reads the next card
-abbrev pub card_in : Cycle → ℕ → ℕ
-card_in Card card = card + 1
-card_in cycle card = card
 
 -- the run behind a cycle: its machine behind the end, and the cards that are left
 abbrev pub behind_cycle : Cycle → InRun → MachineState → InRun

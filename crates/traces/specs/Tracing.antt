@@ -1,4 +1,4 @@
--- Helper words: one cycle of a run that is traced, and a run between two of its cycles.
+-- Helper words: one cycle of a run that is traced, and the trace that is written.
 use Rattle.std.specs.Prelude.{◌≡◌, ℕ, List, Option}
 use Rattle.std.specs.Io.KnownBytes.{Appends}
 use Rattle.setups.specs.Wiring.{Wiring}
@@ -6,7 +6,6 @@ use Rattle.net.specs.declared.cycle.Cycle.{Cycle}
 use Rattle.machine.specs.Cycles.{Reached}
 use Rattle.machine.specs.Machine.{MachineState, ended}
 use Rattle.machine.specs.Runs.{InRun}
-use Rattle.machine.specs.Stepped.{Stepped}
 use Rattle.traces.specs.Lines.{cycle_line}
 use Rattle.traces.specs.Traces.{IsTrace, TracedTo}
 
@@ -16,10 +15,6 @@ pub record TracesCycle (wiring : Wiring) (cycle : Cycle) (card : ℕ) (old new :
   pub reached : Reached wiring cycle 14 old behind_points
   pub is_new : new ≡ ended behind_points cycle
   pub written : Appends was is (cycle_line cycle card behind_points)
-
--- a stepped machine as it stands in a run with these cards in the hopper
-abbrev pub in_run : Stepped → List (List ℕ) → InRun
-in_run stepped hopper = record { machine = stepped.machine; hopper = hopper }
 
 -- the trace so far is written
 pub record HasTraced (wiring : Wiring) (deck : List (List ℕ)) (card : ℕ) (run : InRun) (was is : Option (List ℕ)) : Type 0 where

@@ -4,11 +4,12 @@ ghost use Rattle.std.specs.Prelude.{◌≡◌, ◌++◌, OnOk, codes, reverse};
 ghost use Rattle.std.specs.Str.{bytes_eq};
 ghost use Rattle.counters.specs.Counters.{counter_ended};
 ghost use Rattle.traces.specs.Lines.{groups_told};
-ghost use Rattle.traces.specs.TracedUnits.{before_text, carry_text, digits_text, entered_text, group_name, group_told, is_added, is_asked, is_turned, read_text, sum_text, test_text, turned_text, wheels_text};
+ghost use Rattle.traces.specs.TracedUnits.{before_text, digits_text, entered_text, group_told, is_added, is_asked, is_turned, read_text, sum_text, test_text, turned_text, wheels_text};
 
 use counters::{Controls, Group};
+use ledgers::ledger_text::{write_carry, write_group_name};
 use net::Cycle;
-use numerals::{write_number, write_numbered};
+use numerals::write_number;
 use std::io;
 use std::io::Write;
 use tokens::is;
@@ -36,14 +37,6 @@ fn write_taken(text: &mut Vec<u8>, group: &Group) -> io::Result<()>
     ensures { OnOk result (text.new.items ≡ text.old.items ++ digits_text group.now.entered) }
 {
     write_digits(text, group.entered().as_slice())
-}
-
-// The width and the number of a group.
-fn write_name(text: &mut Vec<u8>, name: hubs::Group) -> io::Result<()>
-    ensures { OnOk result (text.new.items ≡ text.old.items ++ group_name name) }
-{
-    write_number(text, name.width)?;
-    write_numbered(text, ".", name.number)
 }
 
 // Whether a group is asked something.
@@ -101,16 +94,6 @@ fn write_entered(text: &mut Vec<u8>, group: &Group) -> io::Result<()>
     } else {
         Ok(())
     }
-}
-
-// A carry that came in.
-fn write_carry(text: &mut Vec<u8>, carry: bool) -> io::Result<()>
-    ensures { OnOk result (text.new.items ≡ text.old.items ++ carry_text carry) }
-{
-    if carry {
-        text.write_all(b" carry")?;
-    }
-    Ok(())
 }
 
 // The number behind.
@@ -190,7 +173,7 @@ fn write_group(text: &mut Vec<u8>, group: &Group, behind: &Group) -> io::Result<
         return Ok(());
     }
     text.write_all(b"   ")?;
-    write_name(text, group.name())?;
+    write_group_name(text, group.name())?;
     write_wheels(text, group, behind)?;
     write_test(text, group, behind)
 }

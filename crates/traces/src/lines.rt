@@ -1,34 +1,20 @@
 //! The line of a cycle.
 
 ghost use Rattle.std.specs.Prelude.{◌≡◌, ◌++◌, ◌-◌, OnOk, codes, length, replicate};
-ghost use Rattle.traces.specs.Lines.{cycle_name, put_behind, reading_told, units_told};
+ghost use Rattle.ledgers.specs.LedgerText.Names.{cycle_name};
+ghost use Rattle.traces.specs.Lines.{put_behind, reading_told, units_told};
 
 use crate::groups::write_groups;
 use crate::places::write_pilots;
 use crate::storage::write_storages;
+use ledgers::ledger_text::write_cycle_name;
 use machine::SteppedMachine;
 use net::Cycle;
-use numerals::write_numbered;
 use std::io;
 use std::io::Write;
 
 /// Where what is told of a cycle begins, three spaces more.
 const NAME_WIDTH: usize = 16;
-
-// The name of a cycle.
-fn write_name(text: &mut Vec<u8>, cycle: Cycle, card: u32) -> io::Result<()>
-    ensures { OnOk result (text.new.items ≡ text.old.items ++ cycle_name cycle card) }
-{
-    match cycle {
-        Cycle::RunIn => text.write_all(b"RunIn"),
-        Cycle::Card => write_numbered(text, "Card ", card),
-        Cycle::Prog(level, ordinal) => {
-            write_numbered(text, "Prog ", level.number())?;
-            write_numbered(text, " ", ordinal.number())
-        }
-        Cycle::Head(heading) => write_numbered(text, "Head ", heading.number()),
-    }
-}
 
 // What the run-in reads.
 fn write_reading(text: &mut Vec<u8>, cycle: Cycle) -> io::Result<()>
@@ -69,7 +55,7 @@ pub(crate) fn make_line(line: &mut Vec<u8>, cycle: Cycle, card: u32, told: &[u8]
     ensures { OnOk result (line.new.items ≡ put_behind (cycle_name cycle card) told.now ++ codes "\n") }
 {
     line.clear();
-    write_name(line, cycle, card)?;
+    write_cycle_name(line, cycle, card)?;
     if !told.is_empty() {
         pad(line)?;
         line.write_all(told)?;

@@ -6,8 +6,9 @@ ghost use Rattle.traces.specs.Listing.{IsBounded, TakesCycle};
 ghost use Rattle.traces.specs.Parts.{IsPartOf, IsTracePart};
 ghost use Rattle.traces.specs.declared.parts.CycleChoice.{CycleChoice};
 
-use crate::tracing::{card_in, make_ready, move_on, run_cycle};
+use crate::tracing::run_cycle;
 use card_code::Card;
+use ledgers::{card_in, make_ready, move_on};
 use machine::SteppedMachine;
 use page_text::placed_lines::PlacedLine;
 use setups::Setup;

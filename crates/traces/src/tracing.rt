@@ -1,65 +1,21 @@
 //! The trace of a whole run.
 
-ghost use Rattle.std.specs.Prelude.{◌≡◌, ◌≤◌, ◌<◌, ◌+◌, ◌^◌, OnOk, Some, [], length};
+ghost use Rattle.std.specs.Prelude.{◌≡◌, ◌≤◌, OnOk, Some, [], length};
 ghost use Rattle.card_code.specs.MostCards.{most_cards};
-ghost use Rattle.machine.specs.Runs.{cards_moved, made_ready};
 ghost use Rattle.net.specs.Nets.{IsNetOf};
 ghost use Rattle.setups.specs.Wiring.{Wiring};
-ghost use Rattle.traces.specs.Tracing.{TracesCycle, WritesTrace, in_run};
-ghost use Rattle.traces.specs.Traces.{card_in};
+ghost use Rattle.traces.specs.Tracing.{TracesCycle, WritesTrace};
 
 use crate::lines::{make_line, write_units};
 use crate::places::write_placed;
 use card_code::Card;
+use ledgers::{card_in, make_ready, move_on};
 use machine::SteppedMachine;
 use net::Cycle;
 use setups::Setup;
 use std::alloc::Global;
 use std::io;
 use std::io::Write;
-
-// The cards move on by one. Answers what is left in the hopper.
-pub(crate) fn move_on<'a>(machine: &mut SteppedMachine, hopper: &'a [Card]) -> &'a [Card]
-    ensures moved { in_run machine.new result.now ≡ cards_moved machine.old.machine hopper.now }
-    ensures net { machine.new.net ≡ machine.old.net }
-{
-    match hopper.split_first() {
-        Some((card, others)) => {
-            machine.load(Some(*card));
-            others
-        }
-        None => {
-            machine.load(None);
-            hopper
-        }
-    }
-}
-
-// Just before a card cycle the cards move on. Answers what is left in the hopper.
-pub(crate) fn make_ready<'a>(
-    machine: &mut SteppedMachine,
-    cycle: Cycle,
-    hopper: &'a [Card],
-) -> &'a [Card]
-    ensures ready { in_run machine.new result.now ≡ made_ready cycle (in_run machine.old hopper.now) }
-    ensures net { machine.new.net ≡ machine.old.net }
-{
-    match cycle {
-        Cycle::Card => move_on(machine, hopper),
-        Cycle::RunIn | Cycle::Prog(_, _) | Cycle::Head(_) => hopper,
-    }
-}
-
-// How many cards were read, in a cycle.
-pub(crate) fn card_in(cycle: Cycle, card: u32) -> u32
-    requires { card + 1 < 2 ^ 32 }
-    ensures { result ≡ card_in cycle card }
-{
-    match cycle {
-        Cycle::Card => card + 1,
-        Cycle::RunIn | Cycle::Prog(_, _) | Cycle::Head(_) => card,
-    }
-}
 
 // Runs a cycle, and makes its line in the place of another. What is told of the cycle is made in the place of something else.
 pub(crate) fn run_cycle(

@@ -2,6 +2,7 @@
 use Rattle.std.specs.Prelude.{ℕ, ◌+◌, ◌==◌, ◌&&◌, ◌||◌, Bool, false, List, [], ◌∷◌, ◌++◌, Option, Some, None, codes, decimal, if◌then◌else◌, option_map}
 use Rattle.counters.specs.Counters.{group_of_unit}
 use Rattle.explanations.specs.declared.explanation.Explanation.{Explanation}
+use Rattle.hubs.specs.HubText.{group_text}
 use Rattle.hubs.specs.declared.hub.Group.{Group}
 use Rattle.ledgers.specs.declared.account.Account.{Account}
 use Rattle.ledgers.specs.declared.account.Account.TheVariants.{One, Coupled}
@@ -51,7 +52,7 @@ has_sum (one ∷ others) sum = is_same_sum one sum || has_sum others sum
 
 -- the name of a counter
 unfoldable pub counter_name : Group → List ℕ
-counter_name group = codes "counter " ++ decimal group.width ++ codes "." ++ decimal group.number
+counter_name group = codes "counter " ++ group_text group
 
 -- the name of the element of a sum
 unfoldable pub row_name : SumPlace → List ℕ

@@ -1,18 +1,17 @@
 -- The words of an explanation as markup. If they name a line of the chart, as `(line 6 of the chart)`, that is a link to its element. No other
 -- words of an explanation stand in brackets.
-use Rattle.std.specs.Prelude.{ℕ, ◌==◌, ◌&&◌, Bool, List, [], ◌∷◌, ◌++◌, codes, drop, if◌then◌else◌, nat_le, take}
+use Rattle.std.specs.Prelude.{ℕ, ◌==◌, List, [], ◌∷◌, ◌++◌, codes, drop, if◌then◌else◌, take}
+use Rattle.std.specs.Char.{is_ascii_digit}
 use Rattle.std.specs.List.{prefix_len}
 use Rattle.markup.specs.Escapes.{escaped}
 
+-- the digits with which words begin
+abbrev pub leading_digits : List ℕ → List ℕ
+leading_digits words = take (prefix_len is_ascii_digit words) words
+
 -- the digits in `line 6 of the chart`
-abbrev pub is_digit : ℕ → Bool
-is_digit sign = nat_le 48 sign && nat_le sign 57
-
-abbrev pub digits_of : List ℕ → List ℕ
-digits_of words = take (prefix_len is_digit words) words
-
 abbrev pub number_in : List ℕ → List ℕ
-number_in words = digits_of (drop 5 words)
+number_in words = leading_digits (drop 5 words)
 
 -- a bracket with what stands behind it as a link, and the end of the link with the other bracket
 unfoldable pub bracket_open : (number : List ℕ) → List ℕ

@@ -1,16 +1,17 @@
 //! The words of an explanation, with links to lines of the chart.
 
 ghost use Rattle.std.specs.Prelude.{◌≡◌, ◌≤◌, ◌∷◌, ◌++◌, drop, length, OnOk};
+ghost use Rattle.std.specs.Char.{is_ascii_digit};
 ghost use Rattle.std.specs.List.{prefix_len};
 ghost use Rattle.std.specs.String.{string_bytes};
-ghost use Rattle.page_sections.specs.WheelSections.Words.{bracket_close, bracket_open, digits_of, is_digit, linked, number_in, sign_text};
+ghost use Rattle.page_sections.specs.WheelSections.Words.{bracket_close, bracket_open, leading_digits, linked, number_in, sign_text};
 
 use markup::push_escaped;
 use std::alloc::AllocError;
 
 // With how many digits words begin.
 fn count_digits(words: &[u8]) -> usize
-    ensures value { result ≡ prefix_len is_digit words.now }
+    ensures value { result ≡ prefix_len is_ascii_digit words.now }
     ensures within { result ≤ length words.now }
 {
     words
@@ -20,8 +21,8 @@ fn count_digits(words: &[u8]) -> usize
 }
 
 // The digits with which words begin.
-fn digits_of(words: &[u8]) -> &[u8]
-    ensures { result.now ≡ digits_of words.now }
+fn leading_digits(words: &[u8]) -> &[u8]
+    ensures { result.now ≡ leading_digits words.now }
 {
     &words[..count_digits(words)]
 }
@@ -37,7 +38,7 @@ fn behind_five(words: &[u8]) -> &[u8]
 fn number_in(words: &[u8]) -> &[u8]
     ensures { result.now ≡ number_in words.now }
 {
-    digits_of(behind_five(words))
+    leading_digits(behind_five(words))
 }
 
 #[tactic(auto, unfolding(crate::specs::WheelSections::Words::bracket_open))]

@@ -1,5 +1,5 @@
 use Rattle.machine.proofs.FewCycles.{ahead}
-use Rattle.traces.specs.Tracing.{in_run}
+use Rattle.traces.proofs.Running.{in_run}
 use Rattle.traces.proofs.Running.{Stands}
 use Rattle.traces.proofs.tracing.write_trace.Given as goal
 
