@@ -28,12 +28,20 @@ first_words word =
     else if begins_form word then codes "no line of a chart has these words in this order"
     else codes "no line of a chart begins with this word"
 
+-- what is wrong with a tab
+abbrev pub tab_words : List ℕ
+tab_words = codes "there is a tab, and only spaces divide words"
+
+-- what helps for a tab
+abbrev pub tab_cure : List ℕ
+tab_cure = codes "put a space in its place"
+
 -- what is wrong by a slip, with a line whose first word this is
 unfoldable pub slip_words : Slip → List ℕ → List ℕ
-slip_words slip.Tab word = codes "there is a tab, and only spaces divide words"
+slip_words slip.Tab word = tab_words
 slip_words slip.Comment word = codes "a chart has no comments"
 slip_words slip.Quotation word = codes "literals stand in apostrophes, '..', and a chart has no quotation marks and no characters but ASCII"
-slip_words slip.Unclosed word = codes "an apostrophe is not closed"
+slip_words slip.Unclosed word = codes "an apostrophe is not closed; a literal stands between two, and has none within"
 slip_words slip.Small word = codes "a chart has only capital letters"
 slip_words slip.Unprintable word = codes "this character can't be printed: a chart has capital letters, digits, blanks and & - / . $ * , % # @"
 slip_words slip.Other word = first_words word
@@ -73,5 +81,5 @@ form_words word =
 
 -- what helps by a slip: the form of the line's first word, but for a tab a space
 unfoldable pub cure_words : Slip → List ℕ → List ℕ
-cure_words slip.Tab word = codes "put a space in its place"
+cure_words slip.Tab word = tab_cure
 cure_words what word = form_words word

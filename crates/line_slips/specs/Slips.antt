@@ -1,5 +1,6 @@
 -- The slips of a line that no form derives: bytes that no line of a chart has, or none outside of its literals.
 use Rattle.std.specs.Prelude.{ℕ, ◌+◌, ◌==◌, ◌&&◌, ◌||◌, Bool, false, List, [], ◌∷◌, Option, Some, None, position, is_some, nat_le, not, if◌then◌else◌}
+use Rattle.std.specs.Char.{is_ascii_lowercase}
 use Rattle.std.specs.List.{list_any}
 use Rattle.charts.specs.Literal.{is_printable}
 use Rattle.line_marks.specs.Spans.{span_of}
@@ -15,13 +16,9 @@ is_tab byte = byte == 9
 abbrev pub is_comment : ℕ → Bool
 is_comment byte = (byte == 35) || (byte == 59)
 
--- a quotation mark, or a byte of a typographic one
+-- a quotation mark, a backtick, or a byte of a typographic one
 abbrev pub is_quotation : ℕ → Bool
-is_quotation byte = (byte == 34) || nat_le 128 byte
-
--- a small letter
-abbrev pub is_small : ℕ → Bool
-is_small byte = nat_le 97 byte && nat_le byte 122
+is_quotation byte = (byte == 34) || (byte == 96) || nat_le 128 byte
 
 -- an apostrophe
 abbrev pub is_apostrophe : ℕ → Bool
@@ -66,7 +63,7 @@ slip_of line =
     else if is_some (comment_place line) then slip.Comment
     else if list_any is_quotation line then slip.Quotation
     else if is_some (unclosed_from None 0 line) then slip.Unclosed
-    else if list_any is_small line then slip.Small
+    else if list_any is_ascii_lowercase line then slip.Small
     else if list_any is_unprintable line then slip.Unprintable
     else slip.Other
 
@@ -76,7 +73,7 @@ sign_place slip.Tab line = position is_tab line
 sign_place slip.Comment line = comment_place line
 sign_place slip.Quotation line = position is_quotation line
 sign_place slip.Unclosed line = unclosed_from None 0 line
-sign_place slip.Small line = position is_small line
+sign_place slip.Small line = position is_ascii_lowercase line
 sign_place slip.Unprintable line = position is_unprintable line
 sign_place slip.Other line = None
 

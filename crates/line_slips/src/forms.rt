@@ -44,17 +44,32 @@ fn begins_item(word: &[u8]) -> bool
         || is_word(word, b"AFTER")
 }
 
+/// What is wrong with a tab, in a chart and in a wiring chart.
+pub fn tab_words() -> &'static str
+    ensures { result.now ≡ law.tab_words }
+{
+    "there is a tab, and only spaces divide words"
+}
+
+/// What helps for a tab, in a chart and in a wiring chart.
+pub fn tab_cure() -> &'static str
+    ensures { result.now ≡ law.tab_cure }
+{
+    "put a space in its place"
+}
+
 /// What is wrong by a slip, with a line whose first word this is.
 #[tactic(auto, unfolding(crate::specs::Forms::slip_words))]
 pub(crate) fn slip_words(slip: Slip, word: &[u8]) -> &'static str
     ensures { result.now ≡ law.slip_words slip word.now }
 {
     match slip {
-        Slip::Tab => "there is a tab, and only spaces divide words",
+        Slip::Tab => tab_words(),
         Slip::Comment => "a chart has no comments",
         Slip::Quotation =>
             "literals stand in apostrophes, '..', and a chart has no quotation marks and no characters but ASCII",
-        Slip::Unclosed => "an apostrophe is not closed",
+        Slip::Unclosed =>
+            "an apostrophe is not closed; a literal stands between two, and has none within",
         Slip::Small => "a chart has only capital letters",
         Slip::Unprintable =>
             "this character can't be printed: a chart has capital letters, digits, blanks and & - / . $ * , % # @",
@@ -141,7 +156,7 @@ pub(crate) fn cure_words(slip: Slip, word: &[u8]) -> &'static str
     ensures { result.now ≡ law.cure_words slip word.now }
 {
     match slip {
-        Slip::Tab => "put a space in its place",
+        Slip::Tab => tab_cure(),
         _ => form_words(word),
     }
 }

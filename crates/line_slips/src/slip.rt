@@ -1,6 +1,7 @@
 //! The slips of a line that no form derives.
 
 ghost use Rattle.std.specs.Prelude.{◌≡◌, ◌<◌, ◌≤◌, false, length, position, IfSome, None};
+ghost use Rattle.std.specs.Char.{is_ascii_lowercase};
 ghost use Rattle.std.specs.List.{list_any};
 ghost use Rattle.line_slips.specs.Slips as law;
 
@@ -14,7 +15,7 @@ pub enum Slip {
     Tab,
     /// It has a sign with which comments begin elsewhere: `#` or `;` outside of literals, or `*` before a blank at its front.
     Comment,
-    /// It has a quotation mark, or a byte that is no ASCII.
+    /// It has a quotation mark, a backtick, or a byte that is no ASCII.
     Quotation,
     /// It has an apostrophe that none closes.
     Unclosed,
@@ -43,18 +44,11 @@ fn is_starred(line: &[u8]) -> bool
     }
 }
 
-/// Whether a byte is a quotation mark or no ASCII.
+/// Whether a byte is a quotation mark, a backtick or no ASCII.
 fn is_quotation(byte: u8) -> bool
     ensures { result ≡ law.is_quotation byte }
 {
-    byte == b'"' || byte >= 128
-}
-
-/// Whether a byte is a small letter.
-fn is_small(byte: u8) -> bool
-    ensures { result ≡ law.is_small byte }
-{
-    byte.is_ascii_lowercase()
+    byte == b'"' || byte == b'`' || byte >= 128
 }
 
 /// Whether a byte is neither printed nor an apostrophe.
@@ -116,7 +110,7 @@ fn has_tab(line: &[u8]) -> bool
     line.iter().any(|byte| *byte == b'\t')
 }
 
-/// Whether a line has a quotation mark or a byte that is no ASCII.
+/// Whether a line has a quotation mark, a backtick or a byte that is no ASCII.
 fn has_quotation(line: &[u8]) -> bool
     ensures { result ≡ list_any law.is_quotation line.now }
 {
@@ -125,9 +119,9 @@ fn has_quotation(line: &[u8]) -> bool
 
 /// Whether a line has a small letter.
 fn has_small(line: &[u8]) -> bool
-    ensures { result ≡ list_any law.is_small line.now }
+    ensures { result ≡ list_any is_ascii_lowercase line.now }
 {
-    line.iter().any(|byte| is_small(*byte))
+    line.iter().any(|byte| byte.is_ascii_lowercase())
 }
 
 /// Whether a line has a byte that is neither printed nor an apostrophe.
@@ -167,7 +161,7 @@ fn tab_place(line: &[u8]) -> Option<usize>
     line.iter().position(|byte| *byte == b'\t')
 }
 
-/// Where the first quotation mark stands, or the first byte that is no ASCII.
+/// Where the first quotation mark or backtick stands, or the first byte that is no ASCII.
 fn quotation_place(line: &[u8]) -> Option<usize>
     ensures value { result ≡ position law.is_quotation line.now }
     ensures within { IfSome result (λ place. place < length line.now) }
@@ -177,10 +171,10 @@ fn quotation_place(line: &[u8]) -> Option<usize>
 
 /// Where the first small letter stands.
 fn small_place(line: &[u8]) -> Option<usize>
-    ensures value { result ≡ position law.is_small line.now }
+    ensures value { result ≡ position is_ascii_lowercase line.now }
     ensures within { IfSome result (λ place. place < length line.now) }
 {
-    line.iter().position(|byte| is_small(*byte))
+    line.iter().position(|byte| byte.is_ascii_lowercase())
 }
 
 /// Where the first byte stands that is neither printed nor an apostrophe.

@@ -86,7 +86,8 @@ abbrev pub hub_wrong : HubWord → List ℕ → List ℕ
 hub_wrong (hub.There letters) word = around [] word (codes " is a hub of the panel")
 hub_wrong (hub.OutOfRange letters) word = around (codes "the panel has no ") word []
 hub_wrong (hub.Misnumbered letters) word =
-    around [] word (codes " is no hub: a point before each number, and no leading zero")
+    around [] word
+    (codes " is no hub: a number is missing, one too many or written wrongly; each has a point before it, and no leading zero")
 hub_wrong (hub.Misspelt letters) word = around (codes "no hub has the letters ") (letters_in word) []
 hub_wrong hub.Unknown word = around [] word (codes " is no hub")
 

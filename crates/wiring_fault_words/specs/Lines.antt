@@ -2,6 +2,7 @@
 use Rattle.std.specs.Prelude.{ℕ, Bool, List, [], ◌++◌, Option, Some, None, codes, take, drop, nat_lt, if◌then◌else◌}
 use Rattle.line_marks.specs.Entries.{below, shown}
 use Rattle.line_marks.specs.Spans.{word}
+use Rattle.line_slips.specs.Forms.{tab_cure, tab_words}
 use Rattle.line_slips.specs.LineEntries.{behind_told}
 use Rattle.line_slips.specs.declared.slip.Slip.{Slip}
 use Rattle.line_slips.specs.declared.slip.Slip.TheVariants as slip
@@ -14,7 +15,7 @@ use Rattle.wiring_fault_words.specs.HubWords.{around, hub_cure, hub_wrong, six}
 
 -- what is wrong by a byte that no line has
 abbrev pub byte_words : Slip → List ℕ
-byte_words slip.Tab = codes "there is a tab, and only spaces divide words"
+byte_words slip.Tab = tab_words
 byte_words slip.Comment = codes "a wiring chart has no comments"
 byte_words slip.Quotation = codes "a wiring chart has no quotation marks, and only ASCII characters"
 byte_words slip.Unclosed = codes "a wiring chart has no apostrophes"
@@ -52,7 +53,7 @@ line_wrong line.NoWord text = no_word (word 0 text)
 
 -- what helps by a byte that no line has: the form of the line's first word, but for a tab a space
 abbrev pub byte_cure : Slip → List ℕ → List ℕ
-byte_cure slip.Tab first = codes "put a space in its place"
+byte_cure slip.Tab first = tab_cure
 byte_cure what first = form_words first
 
 -- two hubs of which a wire may be meant

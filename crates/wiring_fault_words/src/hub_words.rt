@@ -149,7 +149,7 @@ pub(crate) fn write_hub_wrong<W: Write>(out: &mut W, what: HubWord, word: &[u8])
             out,
             b"",
             word,
-            b" is no hub: a point before each number, and no leading zero",
+            b" is no hub: a number is missing, one too many or written wrongly; each has a point before it, and no leading zero",
         ),
         HubWord::Misspelt(_) => {
             write_around(out, b"no hub has the letters ", letters_in(word), b"")

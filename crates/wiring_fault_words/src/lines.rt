@@ -7,7 +7,7 @@ ghost use Rattle.wiring_fault_words.specs.Lines as law;
 use crate::forms::{form_words, jack_words, near_jack, near_word};
 use crate::hub_words::{write_around, write_hub_cure, write_hub_wrong, write_six};
 use line_marks::{word, write_shown};
-use line_slips::{Slip, write_behind};
+use line_slips::{Slip, tab_cure, tab_words, write_behind};
 use std::io;
 use std::io::Write;
 use wiring_slips::{LineSlip, line_slip, line_span, second_place};
@@ -17,7 +17,7 @@ fn byte_words(slip: Slip) -> &'static str
     ensures { result.now ≡ law.byte_words slip }
 {
     match slip {
-        Slip::Tab => "there is a tab, and only spaces divide words",
+        Slip::Tab => tab_words(),
         Slip::Comment => "a wiring chart has no comments",
         Slip::Quotation => "a wiring chart has no quotation marks, and only ASCII characters",
         Slip::Unclosed => "a wiring chart has no apostrophes",
@@ -75,7 +75,7 @@ fn byte_cure(slip: Slip, first: &[u8]) -> &'static str
     ensures { result.now ≡ law.byte_cure slip first.now }
 {
     match slip {
-        Slip::Tab => "put a space in its place",
+        Slip::Tab => tab_cure(),
         _ => form_words(first),
     }
 }

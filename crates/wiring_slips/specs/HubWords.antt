@@ -1,6 +1,7 @@
 -- What a word is that stands where a hub is wanted: its letters are the bytes before its first digit or point, and its numbers stand
 -- behind them.
 use Rattle.std.specs.Prelude.{ℕ, ◌+◌, ◌&&◌, ◌||◌, Bool, true, false, not, List, [], ◌∷◌, ◌++◌, Option, Some, None, is_some, take, drop, find, length, nat_lt, if◌then◌else◌}
+use Rattle.std.specs.Char.{is_ascii_digit}
 use Rattle.std.specs.List.{prefix_len}
 use Rattle.hub_table.specs.HubTable.{row_of, exit_kinds, entry_kinds}
 use Rattle.hub_table.specs.Places.{has_as_many, place_of}
@@ -8,7 +9,6 @@ use Rattle.hub_table.specs.declared.letters.Letters.{Letters}
 use Rattle.hub_table.specs.declared.shape.Numbers.{Numbers}
 use Rattle.hub_table.specs.declared.shape.Numbers.TheVariants.{Bare, One, Two, Three}
 use Rattle.line_slips.specs.Near.{is_near}
-use Rattle.tokens.specs.Number.{is_digit}
 use Rattle.tokens.specs.NumberReading.{number_of}
 use Rattle.tokens.specs.Steps.{◌>>=◌}
 use Rattle.wiring_text.specs.WiringReader.Reading.{is_point, letters_spelled}
@@ -21,7 +21,7 @@ is_pointless byte = not (is_point byte)
 
 -- a point or a digit
 abbrev pub is_numeric : ℕ → Bool
-is_numeric byte = is_point byte || is_digit byte
+is_numeric byte = is_point byte || is_ascii_digit byte
 
 -- any other byte
 abbrev pub is_lettered : ℕ → Bool
