@@ -5,7 +5,8 @@ use Rattle.std.proofs.lemmas.Bool.Decides.{nat_tests}
 use Rattle.std.proofs.lemmas.Bool.{false≢true}
 use Rattle.card_code.specs.CardCode.{code, rows_of}
 use Rattle.folding.specs.Punchable.{ArePunchable}
-use Rattle.folding.specs.Changes.{change_of, is_small}
+use Rattle.std.specs.Char.{is_ascii_lowercase}
+use Rattle.folding.specs.Changes.{change_of}
 use Rattle.folding.specs.Folded.{changed_to, folded_from}
 use Rattle.folding.specs.declared.changes.Change.TheVariants as change
 
@@ -42,7 +43,7 @@ blank_is_punched : IsSome (rows_of 32)
 unfolding rows_of code
 blank_is_punched = refl
 
-capital_is_punched : (byte : ℕ) → is_small byte ≡ true → IsSome (rows_of (byte - 32))
+capital_is_punched : (byte : ℕ) → is_ascii_lowercase byte ≡ true → IsSome (rows_of (byte - 32))
 capital_is_punched byte small =
     let low : 97 ≤ byte = grind (arith, nat_tests) in
     let high : byte ≤ 122 = grind (arith, nat_tests) in
@@ -80,9 +81,9 @@ joined (byte ∷ bytes) other of_one of_other (suc k) within =
     joined bytes other (λ j inside. of_one (suc j) (omega (arith, inside))) of_other k (omega (arith, within))
 
 changed : (fill column byte : ℕ) → IsSome (rows_of fill) → ArePunchable (changed_to fill column byte (change_of byte))
-changed fill column byte filled = by (is_some (rows_of byte)) (is_small byte) (byte == 9) refl refl
+changed fill column byte filled = by (is_some (rows_of byte)) (is_ascii_lowercase byte) (byte == 9) refl refl
   where
-    by : (stays small tab : Bool) → is_some (rows_of byte) ≡ stays → is_small byte ≡ small
+    by : (stays small tab : Bool) → is_some (rows_of byte) ≡ stays → is_ascii_lowercase byte ≡ small
         → ArePunchable (changed_to fill column byte
         (cond stays None (cond small (Some change.Capital) (cond tab (Some change.Blanks) (Some change.Replaced)))))
     by true small tab is_card is_letter = single byte is_card

@@ -1,20 +1,17 @@
 -- What is changed in the bytes of a text that is folded, how often, and where first.
-use Rattle.std.specs.Prelude.{◌≡◌, ℕ, ◌+◌, Bool, List, [], ◌∷◌, Option, Some, None, if◌then◌else◌, ◌==◌, ◌&&◌, is_some, nat_le, true, false}
+use Rattle.std.specs.Prelude.{◌≡◌, ℕ, ◌+◌, Bool, List, [], ◌∷◌, Option, Some, None, if◌then◌else◌, ◌==◌, is_some, true, false}
+use Rattle.std.specs.Char.{is_ascii_lowercase}
 use Rattle.card_code.specs.CardCode.{rows_of}
 use Rattle.folding.specs.declared.changes.Change.{Change}
 use Rattle.folding.specs.declared.changes.Change.TheVariants as change
 use Rattle.folding.specs.declared.changes.TextPlace.{TextPlace}
 use Rattle.folding.specs.declared.changes.Tally.{Tally}
 
--- whether a byte is a small letter
-abbrev pub is_small : ℕ → Bool
-is_small byte = nat_le 97 byte && nat_le byte 122
-
 -- A byte that a card has stays. A small letter becomes its capital, a tab becomes blanks, and any other byte is replaced.
 abbrev pub change_of : ℕ → Option Change
 change_of byte =
     if is_some (rows_of byte) then None else
-    if is_small byte then Some change.Capital else
+    if is_ascii_lowercase byte then Some change.Capital else
     if byte == 9 then Some change.Blanks else
     Some change.Replaced
 

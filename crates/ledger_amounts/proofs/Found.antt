@@ -1,5 +1,5 @@
 -- The account that is told of a counter group is that of the total which the group serves.
-use Rattle.std.proofs.Common.{◌≡◌, ◌∙◌, refl, sym, ap, subst, ℕ, zero, suc, ◌+◌, ◌-◌, ◌<◌, ◌==◌, ◌&&◌, ◌||◌, Bool, true, false, List, [], ◌∷◌, ◌++◌, ◌⊎◌, inl, inr, Option, Some, None, arith, if◌then◌else◌}
+use Rattle.std.proofs.Common.{◌≡◌, ◌∙◌, refl, sym, ap, subst, ℕ, zero, suc, ◌+◌, ◌-◌, ◌<◌, ◌==◌, ◌||◌, Bool, true, false, List, [], ◌∷◌, ◌++◌, ◌⊎◌, inl, inr, Option, Some, None, arith, if◌then◌else◌}
 use Rattle.std.proofs.lemmas.Bool.{both_ways}
 use Rattle.std.proofs.lemmas.Bool.Decides.{nat_tests}
 use Rattle.std.proofs.lemmas.Option.{same_Some}
@@ -16,6 +16,7 @@ use Rattle.counters.proofs.Staying.{counters-stay}
 use Rattle.counters.specs.Counters.{group_of_unit}
 use Rattle.line_rules.proofs.FieldRules.Places.{is_same_name-equal}
 use Rattle.line_rules.specs.FieldRules.Fields.{field_named}
+use Rattle.hubs.specs.Carries.{is_one_group}
 use Rattle.hubs.specs.declared.hub.Group.{Group}
 use Rattle.ledgers.specs.declared.account.Account.{Account}
 use Rattle.ledgers.specs.declared.account.Account.TheVariants.{One, Coupled}
@@ -24,7 +25,7 @@ use Rattle.wired_panels.proofs.CycleAsks.WheelRowsUnits.{group-named}
 use Rattle.plans.specs.Plans.{Lists, ServesChart}
 use Rattle.plans.specs.declared.counter.TotalCounter.{TotalCounter}
 use Rattle.plans.specs.declared.counter.TotalCounter.TheVariants as of
-use Rattle.origins.specs.Holders.{is_group}
+use Rattle.setups.proofs.CarryWires.{one-own}
 use Rattle.wheel_ledgers.specs.Places.{place_below, place_of}
 use Rattle.wheel_ledgers.specs.ToldLedgers.{account_told}
 use Rattle.wheel_ledgers.specs.Totals.{account_of, both_account, find_total, has_place, one_account, titled, total_by, total_on, totals_in}
@@ -39,23 +40,14 @@ use Rattle.ledger_amounts.proofs.Groups.{found-place, same-numbers}
 use Rattle.ledger_amounts.specs.Found.{TotalsAreFound}
 
 -- a group of the panel has a place
-is-itself : (group : Group) → is_group group group ≡ true
-is-itself group = both (group.width == group.width) (group.number == group.number) (own group.width) (own group.number)
-  where
-    own : (n : ℕ) → (n == n) ≡ true
-    own n = grind (arith, nat_tests)
-
-    both : (a b : Bool) → a ≡ true → b ≡ true → (a && b) ≡ true
-    both a b p q = (λ i. p i && q i)
-
 some-place : (count place : ℕ) (group : Group) → place < count → group_of_unit (3 + place) ≡ group
     → (found : ℕ) × (place_below count group ≡ Some found)
 some-place zero place group less is = absurd (omega (arith, less))
 some-place (suc count) place group less is =
-    by (λ low. some-place count place group low is) (is_group (group_of_unit (3 + count)) group) refl
+    by (λ low. some-place count place group low is) (is_one_group (group_of_unit (3 + count)) group) refl
   where
     by : (place < count → (found : ℕ) × (place_below count group ≡ Some found)) → (b : Bool)
-        → is_group (group_of_unit (3 + count)) group ≡ b
+        → is_one_group (group_of_unit (3 + count)) group ≡ b
         → (found : ℕ) × ((if b then Some count else place_below count group) ≡ Some found)
     by lower true here = (count, refl)
     by lower false here = lower (apart (place == count) refl)
@@ -64,8 +56,8 @@ some-place (suc count) place group less is =
         apart false differs = grind (arith, nat_tests, differs, less)
         apart true same =
             let at : place ≡ count = grind (arith, nat_tests, same) in
-            absurd (both_ways (is_group group group)
-            (ap (λ (g : Group). is_group g group) (sym is ∙ ap (λ n. group_of_unit (3 + n)) at) ∙ here) (is-itself group))
+            absurd (both_ways (is_one_group group group)
+            (ap (λ (g : Group). is_one_group g group) (sym is ∙ ap (λ n. group_of_unit (3 + n)) at) ∙ here) (one-own group))
 
 has-place : (group : Group) → IsGroup group → (place : ℕ) × (place_of group ≡ Some place)
 has-place group is =

@@ -1,14 +1,15 @@
 -- The counter groups that serve a total, by their places in a ledger's account.
-use Rattle.std.proofs.Common.{◌≡◌, ◌∙◌, refl, sym, ap, subst, ℕ, zero, suc, ◌+◌, ◌-◌, ◌<◌, ◌==◌, ◌&&◌, Bool, true, false, Some, length, map, get_or, arith, if◌then◌else◌}
+use Rattle.std.proofs.Common.{◌≡◌, ◌∙◌, refl, sym, ap, subst, ℕ, zero, suc, ◌+◌, ◌-◌, ◌<◌, ◌==◌, Bool, true, false, Some, length, map, get_or, arith, if◌then◌else◌}
 use Rattle.std.proofs.lemmas.Bool.Decides.{nat_tests}
 use Rattle.std.proofs.lemmas.List.{get_or-map}
 use Rattle.counters.proofs.ControlHubs.{unit_of-group_of_unit}
 use Rattle.counters.specs.Counters.{Counter, counter_at_start, counter_number, counter_of, group_of_unit}
+use Rattle.hubs.specs.Carries.{is_one_group}
 use Rattle.hubs.specs.declared.hub.Group.{Group}
 use Rattle.ledgers.specs.Accounts.{counter_at}
 use Rattle.machine.specs.Machine.{MachineState, group_units}
 use Rattle.net.specs.Panel.{unit_of}
-use Rattle.origins.specs.Holders.{is_group}
+use Rattle.setups.proofs.CarryWires.{one-same}
 use Rattle.wheel_ledgers.specs.Places.{place_below, place_of}
 use Rattle.whole_cycles.proofs.Places.{as_many}
 use Rattle.whole_cycles.specs.Between.{IsBetween}
@@ -18,28 +19,18 @@ use Rattle.whole_cycles.specs.Units.{group_at}
 pub same-numbers : (n m : ℕ) → (n == m) ≡ true → n ≡ m
 same-numbers n m is = grind (arith, nat_tests, is)
 
--- two groups that are told to be the same
-same-group : (one other : Group) → is_group one other ≡ true → one ≡ other
-same-group one other is =
-    let parts = both (one.width == other.width) (one.number == other.number) is in
-    (λ i. record { width = same-numbers one.width other.width parts.0 i; number = same-numbers one.number other.number parts.1 i })
-  where
-    both : (a b : Bool) → (a && b) ≡ true → (a ≡ true) × (b ≡ true)
-    both true b on = (refl, on)
-    both false b on = cc
-
 -- the group at a place that is found
 pub found-place : (count place : ℕ) (group : Group) → place_below count group ≡ Some place
     → (place < count) × (group_of_unit (3 + place) ≡ group)
 found-place zero place group is = cc
 found-place (suc count) place group is =
-    by (λ found. found-place count place group found) (is_group (group_of_unit (3 + count)) group) refl is
+    by (λ found. found-place count place group found) (is_one_group (group_of_unit (3 + count)) group) refl is
   where
-    by : (place_below count group ≡ Some place → (place < count) × (group_of_unit (3 + place) ≡ group)) → (b : Bool) → is_group (group_of_unit (3 + count)) group ≡ b
+    by : (place_below count group ≡ Some place → (place < count) × (group_of_unit (3 + place) ≡ group)) → (b : Bool) → is_one_group (group_of_unit (3 + count)) group ≡ b
         → (if b then Some count else place_below count group) ≡ Some place → (place < suc count) × (group_of_unit (3 + place) ≡ group)
     by each true here is =
         let at : count ≡ place = cc in
-        (omega (arith, at), subst (λ (n : ℕ). group_of_unit (3 + n) ≡ group) at (same-group (group_of_unit (3 + count)) group here))
+        (omega (arith, at), subst (λ (n : ℕ). group_of_unit (3 + n) ≡ group) at (one-same (group_of_unit (3 + count)) group here))
     by each false other is =
         let more = each is in
         (let low = more.0 in omega (arith, low), more.1)

@@ -14,6 +14,7 @@ use Rattle.charts.specs.declared.statement.Statement.{Statement}
 use Rattle.charts.specs.declared.statement.Statement.TheVariants as says
 use Rattle.line_rules.specs.FieldRules.Control.{level_needed}
 use Rattle.line_rules.specs.FieldRules.Coupled.{has_sign, needs_two, positions_of}
+use Rattle.line_rules.specs.FieldRules.Digits.{digits_of}
 use Rattle.line_rules.specs.FieldRules.Fields.{first_named}
 use Rattle.line_rules.specs.FieldRules.Names.{names_amount}
 use Rattle.chart_rules.specs.declared.rule.Rule.{Rule}
@@ -79,11 +80,6 @@ uncontrolled_words statement (Some level) = control_text (level_word statement) 
 unfoldable pub total_level_words : Statement → List ℕ
 total_level_words (says.TotalText level wheel name) = decimal (level_number level)
 total_level_words other = []
-
--- the digits of a total
-abbrev pub digits_of : Statement → ℕ
-digits_of (says.TotalAmount total) = total.digits
-digits_of other = 0
 
 -- the columns of a field that is there
 abbrev pub columns_on : Option Field → ℕ

@@ -4,6 +4,7 @@ ghost use Rattle.std.specs.Prelude.{◌≡◌, ◌+◌, ◌^◌, ◌≤◌, OnOk
 ghost use Rattle.std.specs.Io.KnownBytes.{Appends};
 ghost use Rattle.line_rules.specs.FieldRules.Coupled as coupled;
 ghost use Rattle.line_rules.specs.FieldRules.Control as control;
+ghost use Rattle.line_rules.specs.FieldRules.Digits.{digits_of};
 ghost use Rattle.line_rules.specs.FieldRules.Names as names;
 ghost use Rattle.chart_faults.specs.FaultWords.Others as others;
 ghost use Rattle.chart_faults.specs.FaultWords.Parts as parts;
@@ -197,7 +198,7 @@ fn write_total_level<W: Write>(out: &mut W, statement: &Statement) -> io::Result
 
 /// The digits of a total.
 fn digits_of(statement: &Statement) -> u16
-    ensures { result ≡ law.digits_of statement.now }
+    ensures { result ≡ digits_of statement.now }
 {
     match statement {
         Statement::TotalAmount(total) => total.digits,

@@ -16,8 +16,8 @@ use std::alloc::{AllocError, Global};
 // A chart from which a panel differs in one slip is near enough.
 const NEAR: u32 = 1;
 
-// From this many slips on a panel is wired for something else, and no single change makes it nearer: the search, which takes the longer the
-// more wires there are, is spared. Of 2,100 panels with one slip at random the first reading differed in 331 things at most.
+// From this many slips on a panel is taken for one that is wired for something else, and the search is spared, which takes the longer the
+// more wires there are. Of 2,100 panels with one slip at random the chart that was read first differed in 331 things at most.
 const FAR: u32 = 1024;
 
 // A chart, and how near a panel is to it.
@@ -205,7 +205,7 @@ fn nearest_of(alloc: Global, setup: &Setup, first: Near) -> Result<Near, AllocEr
 }
 
 /// The chart that is nearest to a panel, of those that are tried: the panel is read back, and if it isn't wired for what is read, and
-/// differs from it in less than 1,024 things, so are panels with one thing changed. A wire that was put into the hub beside counts as one
+/// there are fewer than 1,024 slips, so are panels with one thing changed. A wire that was put into the hub beside counts as one
 /// slip; of two charts that are as near the one with fewer lines is taken, and else the one with more such wires. What is answered of the
 /// panel is as of `read_back`: the chart compiles, `Matched` tells a plan by which the panel itself is wired for it, and `Differs` exactly
 /// what is missing and what is extra on it.

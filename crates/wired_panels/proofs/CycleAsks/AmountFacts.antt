@@ -5,6 +5,7 @@ use Rattle.std.proofs.lemmas.Bool.{not-false, both_ways, and_parts}
 use Rattle.wired_panels.specs.Below.line_rules.FieldRules.Coupled.{has_sign}
 use Rattle.wired_panels.specs.Below.plans.Plans.{Lists}
 use Rattle.wired_panels.proofs.Below.line_rules.FieldRules.Places.{is_same_name-equal}
+use Rattle.wired_panels.specs.Below.line_rules.FieldRules.Digits.{digits_of}
 use Rattle.wired_panels.specs.Below.line_rules.FieldRules.Fields.{field_named}
 use Rattle.wired_panels.specs.Below.line_rules.FieldRules.Names.{names_text}
 use Rattle.wired_panels.specs.Below.chart_rules.Rules.{IsLawful, breaks}
@@ -26,7 +27,7 @@ use Rattle.printed_lines.specs.Below.wiring_table.Figures.{IsAmount, IsSigned, I
 use Rattle.printed_lines.specs.Below.wiring_table.Parts.{HasTotal, IsLowest, counter_for, is_total_at, total_line}
 use Rattle.wired_panels.proofs.CounterAsksTold.{IsUnder}
 use Rattle.wired_panels.proofs.PlanOwners.{level_some}
-use Rattle.wired_panels.specs.CycleAsks.ChartAmounts.{digits_of, total_digits, total_counter, amount_of}
+use Rattle.wired_panels.specs.CycleAsks.ChartAmounts.{total_digits, total_counter, amount_of}
 use Rattle.printed_lines.proofs.Below.wiring_table.Totals.{one-total, one-total_line}
 use Rattle.wired_panels.proofs.Below.charts.Listed.{found-listed, found-passing}
 use Rattle.wired_panels.proofs.Below.chart_rules.Laws.{kept-line}

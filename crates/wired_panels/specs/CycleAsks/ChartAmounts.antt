@@ -4,17 +4,11 @@ use Rattle.wired_panels.specs.Below.line_rules.FieldRules.Coupled.{has_sign}
 use Rattle.wired_panels.specs.Below.plans.Plans.{Lists}
 use Rattle.wired_panels.specs.Below.plans.declared.counter.TotalCounter.{TotalCounter}
 use Rattle.wired_panels.specs.Below.plans.declared.counter.TotalCounter.TheVariants as of
+use Rattle.wired_panels.specs.Below.line_rules.FieldRules.Digits.{digits_of}
 use Rattle.wired_panels.specs.Below.line_rules.FieldRules.Fields.{field_named}
 use Rattle.wired_panels.specs.Below.charts.declared.chart.Line.{Line}
-use Rattle.wired_panels.specs.Below.charts.declared.statement.Statement.{Statement}
-use Rattle.wired_panels.specs.Below.charts.declared.statement.Statement.TheVariants as says
 use Rattle.totals.specs.Amounts.{Amount}
 use Rattle.printed_lines.specs.Below.wiring_table.Parts.{counter_for, total_line}
-
--- the digits in which a line has its total
-abbrev pub digits_of : Statement → ℕ
-digits_of (says.TotalAmount total) = total.digits
-digits_of other = 0
 
 -- the digits of the total on a line, if there is one
 abbrev pub total_digits : Option Line → ℕ
