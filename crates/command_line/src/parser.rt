@@ -146,7 +146,7 @@ const OUTPUT: Word = Word::Value {
     name: "OUTPUT",
     long: "output",
     value: "FILE",
-    help: "writes this file instead of standard output; it appears only when it is complete",
+    help: "writes this file instead of standard output; a file appears, or is replaced, only when it is complete",
 };
 
 const PAGES: Word = Word::Value {

@@ -39,7 +39,7 @@ pub enum Wanted<'a> {
     Check {
         chart: &'a str,
     },
-    /// Every fault of a planning chart.
+    /// Every fault of a planning chart or a wiring chart.
     ListFaults {
         chart: &'a str,
     },
@@ -48,7 +48,8 @@ pub enum Wanted<'a> {
         chart: &'a str,
         deck: &'a str,
     },
-    /// Every fault of a planning chart, or, if it has none, all cards of a deck that it can't be run with, each shown.
+    /// Every fault of a planning chart, or, if it has none, all cards of a deck that it can't be run with, each shown; of a wiring chart its
+    /// faults, or else that it takes no deck.
     ShowDeck {
         chart: &'a str,
         deck: &'a str,
@@ -225,8 +226,6 @@ fn file_of<'a>(given: &ArgMatches<'a>, word: &str) -> &'a str {
 enum Mistake {
     /// Standard input is named for two files.
     InputTwice,
-    /// The output is to take the place of a file that is read.
-    OutputRead,
     /// The pages are neither a number from 1 nor two with a hyphen between them, the lower first.
     NoPages,
     /// The page to be shown is no number from 1.
@@ -252,7 +251,6 @@ impl Mistake {
     fn text(self) -> &'static str {
         match self {
             Mistake::InputTwice => "error: - is standard input, and stands for one file at most\n",
-            Mistake::OutputRead => "error: --output names a file that is read\n",
             Mistake::NoPages => "error: --page takes the number of a page, or two as 3-5\n",
             Mistake::NoPage => "error: --page of show takes the number of a page\n",
             Mistake::HintOfDeck => "error: --hint and --deck can't be asked for together\n",
@@ -299,20 +297,6 @@ fn page_of(word: &str) -> Option<u32> {
     if page < 1 { None } else { Some(page) }
 }
 
-// The file that is written in place of standard output. It is none of those that are read: a deck would be lost for its report.
-fn output_of<'a>(
-    given: &ArgMatches<'a>,
-    text: &str,
-    decks: &[&str],
-) -> Result<Option<&'a str>, Mistake> {
-    match given.get_str("OUTPUT") {
-        Some(path) if path != "-" && (path == text || decks.contains(&path)) => Err(
-            Mistake::OutputRead,
-        ),
-        output => Ok(output),
-    }
-}
-
 // What is asked for by the words of a run.
 fn run_wanted<'a>(alloc: Global, given: &ArgMatches<'a>) -> Result<Wanted<'a>, Mistake> {
     let mut decks = Vec::new(alloc);
@@ -323,14 +307,12 @@ fn run_wanted<'a>(alloc: Global, given: &ArgMatches<'a>) -> Result<Wanted<'a>, M
         Some(word) => Some(pages_of(word).ok_or(Mistake::NoPages)?),
         None => None,
     };
-    let chart = file_of(given, "CHART");
-    let output = output_of(given, chart, decks.as_slice())?;
     Ok(Wanted::Run(Run {
-        chart,
+        chart: file_of(given, "CHART"),
         decks,
         pages,
         checks_first: given.get_flag("CHECK_FIRST"),
-        output,
+        output: given.get_str("OUTPUT"),
     }))
 }
 
@@ -340,14 +322,11 @@ fn show_wanted<'a>(given: &ArgMatches<'a>) -> Result<Wanted<'a>, Mistake> {
         Some(word) => Some(page_of(word).ok_or(Mistake::NoPage)?),
         None => None,
     };
-    let text = file_of(given, "TEXT");
-    let deck = file_of(given, "DECK");
-    let output = output_of(given, text, &[deck])?;
     Ok(Wanted::Show {
-        text,
-        deck,
+        text: file_of(given, "TEXT"),
+        deck: file_of(given, "DECK"),
         around,
-        output,
+        output: given.get_str("OUTPUT"),
     })
 }
 
@@ -504,8 +483,8 @@ fn wanted_by<'a>(alloc: Global, matches: &ArgMatches<'a>) -> Result<Wanted<'a>, 
 ///
 /// # Errors
 ///
-/// `Memory` if a growth was refused; `Mistaken` if the words are no command, or name standard input for two files or an output that is
-/// read, and `Answered` if they ask for the help or the version, with the text of that written; `Unwritten` if that could not be.
+/// `Memory` if a growth was refused; `Mistaken` if the words are no command, or name standard input for two files, and `Answered` if they
+/// ask for the help or the version, with the text of that written; `Unwritten` if that could not be.
 pub fn read_words<'a>(
     rt: &HostRuntime,
     version: &'a str,

@@ -3,15 +3,26 @@
 ghost use Rattle.std.specs.Prelude.{◌≡◌, ◌≢◌, ◌⊎◌, IfErr};
 ghost use Rattle.std.specs.IoError.{error_kind};
 
-use commands::{Fault, read_whole};
+use commands::{Fault, read_whole, unprinted};
 use decks_in_row::DecksInRow;
 use std::collections::VecDeque;
 use std::fs::File;
 use std::io::{ErrorKind, Read, Stdin};
+use std::os::unix::fs::{FileTypeExt, MetadataExt};
 use std::{fs, io};
 
-/// The word that names standard input.
-const STANDARD_INPUT: &str = "-";
+/// The word that names standard input, and standard output.
+const STANDARD: &str = "-";
+
+/// The path of standard input.
+const INPUT_FILE: &str = "/dev/stdin";
+
+/// Which file or pipe it is, whatever names and links lead to it.
+#[derive(Clone, Copy, PartialEq, Eq)]
+struct FileNumber {
+    device: u64,
+    number: u64,
+}
 
 /// A file that a word names, or standard input.
 #[derive(Drop)]
@@ -50,7 +61,7 @@ fn unopened<'a>(error: &io::Error, path: &'a str) -> Fault<'a>
 pub fn open<'a>(rt: &HostRuntime, path: &'a str) -> Result<Input, Fault<'a>>
     ensures { IfErr result (λ told. (told ≡ Fault.Memory) ⊎ (told ≡ Fault.File path.entry)) }
 {
-    if path == STANDARD_INPUT {
+    if path == STANDARD {
         return Ok(Input::Standard(rt.stdin()));
     }
     match fs::open(rt, path) {
@@ -80,4 +91,53 @@ pub fn open_all<'a>(rt: &HostRuntime, paths: &[&'a str]) -> Result<DecksInRow<In
         decks.push_back(deck).map_err(|_| Fault::Memory)?;
     }
     Ok(DecksInRow::new(decks))
+}
+
+// To which file or pipe a path leads; none if it leads to a device or a socket, which may be read and written, or to nothing.
+fn number_of(rt: &HostRuntime, path: &str) -> io::Result<Option<FileNumber>> {
+    match fs::metadata(rt, path) {
+        Ok(known) if known.is_file() || known.file_type().is_fifo() => Ok(Some(FileNumber {
+            device: known.dev(),
+            number: known.ino(),
+        })),
+        Err(error) if error.kind() == ErrorKind::OutOfMemory => Err(error),
+        _ => Ok(None),
+    }
+}
+
+// Whether a path leads to one of some files that are read.
+fn leads_to_any(rt: &HostRuntime, path: &str, inputs: &[&str]) -> io::Result<bool> {
+    let Some(file) = number_of(rt, path)? else {
+        return Ok(false);
+    };
+    for input in inputs {
+        let input = if *input == STANDARD {
+            INPUT_FILE
+        } else {
+            *input
+        };
+        if number_of(rt, input)? == Some(file) {
+            return Ok(true);
+        }
+    }
+    Ok(false)
+}
+
+/// Whether an output is one of some files or pipes that are read: a deck would be lost for its report. A device may be both; `-` and no
+/// name are standard output, of which nothing is asked.
+///
+/// # Errors
+///
+/// `Memory` if a growth was refused.
+pub fn is_read<'a>(
+    rt: &HostRuntime,
+    output: Option<&str>,
+    inputs: &[&str],
+) -> Result<bool, Fault<'a>> {
+    match output {
+        Some(path) if path != STANDARD => {
+            leads_to_any(rt, path, inputs).map_err(|error| unprinted(&error))
+        }
+        _ => Ok(false),
+    }
 }

@@ -1,11 +1,11 @@
 //! What the words ask for, done on the files that they name.
 
-use crate::files::{open, open_all, read};
+use crate::files::{is_read, open, open_all, read};
 use crate::folds::fold;
 use crate::output::Output;
 use crate::running::waiting_pages;
 use crate::watched::Watched;
-use crate::words::{shows_both, tell_deck_of_wiring, tell_waiting};
+use crate::words::{shows_both, tell_deck_of_wiring, tell_output_read, tell_waiting};
 use browser_pages::show_to_end;
 use check_calls::{print_check, print_grouped, print_shown, tell_checked};
 use command_line::Wanted;
@@ -25,7 +25,9 @@ use std::alloc::Global;
 use text_lists::list_text_to_end;
 use whole_runs::run_whole_to_end;
 
-/// Does what the words ask for. Texts are read whole, and decks and an output are opened, before a fault of any of them is told.
+/// Does what the words ask for. Texts are read whole, and decks and an output are opened, before a fault of any of them is told; but
+/// `check --all` with a deck lists the faults of the chart, or refuses a wiring chart, and doesn't open the deck then. An output that is one
+/// of the files that are read is refused.
 ///
 /// # Errors
 ///
@@ -38,6 +40,11 @@ pub fn obey<'a>(rt: &HostRuntime, wanted: Wanted<'a>) -> Result<Ending, Fault<'a
         Wanted::Run(run) => {
             let text = read(rt, run.chart)?;
             let decks = open_all(rt, run.decks.as_slice())?;
+            if is_read(rt, run.output, &[run.chart])?
+                || is_read(rt, run.output, run.decks.as_slice())?
+            {
+                return Ok(tell_output_read(rt));
+            }
             let mut pages = Output::open(rt, run.output)?;
             let cards = Watched::new(rt, decks, !pages.is_terminal());
             let text = text.as_slice();
@@ -186,6 +193,9 @@ pub fn obey<'a>(rt: &HostRuntime, wanted: Wanted<'a>) -> Result<Ending, Fault<'a
         } => {
             let panel = read(rt, text)?;
             let cards = open(rt, deck)?;
+            if is_read(rt, output, &[text, deck])? {
+                return Ok(tell_output_read(rt));
+            }
             let mut page = Output::open(rt, output)?;
             let done = show_to_end(
                 alloc,

@@ -3,8 +3,9 @@
 ghost use Rattle.std.specs.Prelude.{◌≡◌, ◌≢◌, ◌⊎◌, IfErr};
 
 use commands::{Ending, Fault, tell, unprinted};
-use std::fs::{File, Metadata};
+use std::fs::{File, Metadata, OpenOptions};
 use std::io::{ErrorKind, IsTerminal, Stdout, Write};
+use std::os::unix::fs::OpenOptionsExt;
 use std::path::Path;
 use std::{fs, io};
 
@@ -14,12 +15,17 @@ const MOST_NAMES: u32 = 100;
 /// How many links are followed, one after the other; as many as the system follows.
 const MOST_LINKS: u32 = 40;
 
-/// The names of standard output.
-const STANDARD_OUTPUT: [&str; 2] = ["-", "/dev/stdout"];
+/// The mode of a new file, before the system's mask.
+const ANY_MODE: u32 = 0o666;
 
-/// What the names begin with of files that are open already. They are written as they are, behind what they hold: a file in the place of
-/// one would never reach whoever has it open.
-const OPEN_FILES: [&str; 3] = ["/dev/fd/", "/dev/std", "/proc/"];
+/// The mode of a file that only its owner may read and write.
+const OWN_MODE: u32 = 0o600;
+
+/// The word that names standard output.
+const STANDARD_OUTPUT: &str = "-";
+
+/// The paths of standard output.
+const OUTPUT_FILES: [&str; 3] = ["/dev/stdout", "/dev/fd/1", "/proc/self/fd/1"];
 
 /// A file that is written beside the one whose place it takes once it is whole.
 #[derive(Drop)]
@@ -34,7 +40,7 @@ pub struct NewFile {
 pub enum Output {
     /// Standard output.
     Standard(Stdout),
-    /// A device, a pipe or the like, which is written as it is.
+    /// What is written as it is: a device, a pipe or the like, or what is open already.
     Device(File),
     /// A file that takes its place once it is whole.
     New(NewFile),
@@ -56,11 +62,13 @@ impl Write for Output {
     }
 }
 
-// A new file beside another, by the first of some names that no file has.
-fn beside(rt: &HostRuntime, path: String) -> io::Result<NewFile> {
-    for number in 1..MOST_NAMES {
+// A new file of this mode beside another, by the first of some names that no file has.
+fn beside(rt: &HostRuntime, path: String, mode: u32) -> io::Result<NewFile> {
+    for number in 1..=MOST_NAMES {
         let beside = format!(in rt.alloc(); "{path}.{number}.part")?;
-        match File::create_new(rt, &beside) {
+        let mut options = OpenOptions::new();
+        options.write(true).create_new(true).mode(mode);
+        match options.open(rt, &beside) {
             Ok(file) => return Ok(NewFile { path, beside, file }),
             Err(error) if error.kind() == ErrorKind::AlreadyExists => {}
             Err(error) => return Err(error),
@@ -69,10 +77,15 @@ fn beside(rt: &HostRuntime, path: String) -> io::Result<NewFile> {
     Err(io::Error::from(ErrorKind::AlreadyExists))
 }
 
-// A new file in the place of another, with its mode: whoever may not read that one may not read this one either.
+// A new file in the place of another, with its mode; its owner and its group are those of whoever runs the program. One that nobody may
+// write stays.
 fn in_place_of(rt: &HostRuntime, path: String, known: &Metadata) -> io::Result<NewFile> {
-    let new = beside(rt, path)?;
-    match new.file.set_permissions(known.permissions()) {
+    let permissions = known.permissions();
+    if permissions.readonly() {
+        return Err(io::Error::from(ErrorKind::PermissionDenied));
+    }
+    let new = beside(rt, path, OWN_MODE)?;
+    match new.file.set_permissions(permissions) {
         Ok(()) => Ok(new),
         Err(error) => {
             // If it can't be removed, it is left behind, and empty.
@@ -82,27 +95,31 @@ fn in_place_of(rt: &HostRuntime, path: String, known: &Metadata) -> io::Result<N
     }
 }
 
-// Whether a name is that of a file that is open already.
+// Whether a path is that of a file that is open already. A new file in its place would never reach whoever has it open.
 fn is_open(path: &str) -> bool {
-    OPEN_FILES.iter().any(|front| path.starts_with(*front))
+    path.starts_with("/dev/fd/")
+        || path.starts_with("/dev/std")
+        || (path.starts_with("/proc/") && path.contains("/fd/"))
 }
 
-// Where a link leads, which need not be there; none if a path is no link.
+// Where a link leads, which need not be there; none if a path is no link, or nothing is there.
 fn target_of(rt: &HostRuntime, path: &str) -> io::Result<Option<String>> {
     match fs::read_link(rt, path) {
         Ok(target) => {
             let folder = Path::new(path).parent().unwrap_or(Path::new(""));
             Ok(Some(folder.join(rt.alloc(), target.as_path())?.into_string()))
         }
-        Err(error) if error.kind() == ErrorKind::OutOfMemory => Err(error),
-        Err(_) => Ok(None),
+        Err(error) => match error.kind() {
+            ErrorKind::InvalidInput | ErrorKind::NotFound => Ok(None),
+            _ => Err(error),
+        },
     }
 }
 
 // Where a path leads by links. What is open already is followed no further.
 fn end_of(rt: &HostRuntime, path: &str) -> io::Result<String> {
     let mut place = format!(in rt.alloc(); "{path}")?;
-    for _ in 0..MOST_LINKS {
+    for _ in 0..=MOST_LINKS {
         if is_open(&place) {
             return Ok(place);
         }
@@ -114,21 +131,28 @@ fn end_of(rt: &HostRuntime, path: &str) -> io::Result<String> {
     Err(io::Error::from(ErrorKind::InvalidInput))
 }
 
-// What this path names: what is open already or is no file, as a device or a pipe, as it is; or else a new file. Of a link it takes the
-// place of the file that the link leads to.
+// What this path names. Standard output, a device and a pipe are written as they are. So is what is open already, behind what it holds: it
+// is opened once more, so that others who have it open may write over that later. Anything else is a new file; behind links it takes the
+// place of the file that they lead to.
 fn open_named(rt: &HostRuntime, path: &str) -> io::Result<Output> {
     let place = end_of(rt, path)?;
+    if OUTPUT_FILES.contains(&place.as_str()) {
+        return Ok(Output::Standard(rt.stdout()));
+    }
     if is_open(&place) {
-        let file = fs::OpenOptions::new().append(true).open(rt, &place)?;
+        let file = OpenOptions::new().append(true).open(rt, &place)?;
         return Ok(Output::Device(file));
     }
     match fs::metadata(rt, &place) {
         Ok(known) if known.is_file() => Ok(Output::New(in_place_of(rt, place, &known)?)),
         Ok(_) => {
-            let file = fs::OpenOptions::new().write(true).open(rt, &place)?;
+            let file = OpenOptions::new().write(true).open(rt, &place)?;
             Ok(Output::Device(file))
         }
-        Err(_) => Ok(Output::New(beside(rt, place)?)),
+        Err(error) if error.kind() == ErrorKind::NotFound => {
+            Ok(Output::New(beside(rt, place, ANY_MODE)?))
+        }
+        Err(error) => Err(error),
     }
 }
 
@@ -142,7 +166,7 @@ impl Output {
         ensures { IfErr result (λ told. (told ≡ Fault.Memory) ⊎ (told ≡ Fault.Write)) }
     {
         match path {
-            Some(path) if !STANDARD_OUTPUT.contains(&path) => match open_named(rt, path) {
+            Some(path) if path != STANDARD_OUTPUT => match open_named(rt, path) {
                 Ok(output) => Ok(output),
                 Err(error) => Err(unprinted(&error)),
             },

@@ -56,7 +56,7 @@ pub fn tell_more(rt: &HostRuntime, status: u8) {
     if status == FAULTY && rt.stderr().is_terminal() {
         // If it can't be written, the line of the fault is there all the same.
         let _ = rt.stderr().write_all(
-            b"run407 fault NUMBER tells what it means, and run407 check --all lists every fault of a chart, a wiring chart or a deck\n",
+            b"run407 fault NUMBER tells what it means, and run407 check --all TEXT lists every fault of a chart or a wiring chart, with a deck behind a chart every bad card\n",
         );
     }
 }
@@ -66,17 +66,32 @@ pub fn shows_both(rt: &HostRuntime) -> bool {
     rt.stdout().is_terminal() && rt.stderr().is_terminal()
 }
 
-/// Tells that a wiring chart is checked without a deck: which cards are good a planning chart says.
-pub fn tell_deck_of_wiring(rt: &HostRuntime) -> Ending
+// Tells why what the words ask for isn't done. If standard error can't be written, the status alone tells of it.
+fn tell_mistaken(rt: &HostRuntime, text: &[u8]) -> Ending
     ensures { result.status ≡ 2 }
 {
-    let told = rt.stderr().write_all(
-        b"error: a wiring chart is checked without a deck; the columns of cards are checked with a planning chart\n",
-    );
+    let told = rt.stderr().write_all(text);
     Ending {
         status: USAGE,
         is_told: told.is_ok(),
     }
+}
+
+/// Tells that a wiring chart is checked without a deck: only a planning chart says which cards are good. Answers status 2.
+pub fn tell_deck_of_wiring(rt: &HostRuntime) -> Ending
+    ensures { result.status ≡ 2 }
+{
+    tell_mistaken(
+        rt,
+        b"error: a wiring chart is checked without a deck; the columns of cards are checked with a planning chart\n",
+    )
+}
+
+/// Tells that the output is one of the files that are read. Answers status 2.
+pub fn tell_output_read(rt: &HostRuntime) -> Ending
+    ensures { result.status ≡ 2 }
+{
+    tell_mistaken(rt, b"error: --output names a file that is read\n")
 }
 
 /// Answers the status if the words ask for nothing that is still to be done. Want of memory, and that the help can't be written, are told
