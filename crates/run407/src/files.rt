@@ -3,7 +3,7 @@
 ghost use Rattle.std.specs.Prelude.{◌≡◌, ◌≢◌, ◌⊎◌, IfErr};
 ghost use Rattle.std.specs.IoError.{error_kind};
 
-use commands::{Fault, read_whole, unprinted};
+use commands::{Fault, read_whole};
 use decks_in_row::DecksInRow;
 use std::collections::VecDeque;
 use std::fs::File;
@@ -12,7 +12,7 @@ use std::os::unix::fs::{FileTypeExt, MetadataExt};
 use std::{fs, io};
 
 /// The word that names standard input, and standard output.
-const STANDARD: &str = "-";
+pub const STANDARD: &str = "-";
 
 /// The path of standard input.
 const INPUT_FILE: &str = "/dev/stdin";
@@ -105,7 +105,7 @@ fn number_of(rt: &HostRuntime, path: &str) -> io::Result<Option<FileNumber>> {
     }
 }
 
-// Whether a path leads to one of some files that are read.
+// Whether a path leads to one of some files that are read. Its only error is a refused growth.
 fn leads_to_any(rt: &HostRuntime, path: &str, inputs: &[&str]) -> io::Result<bool> {
     let Some(file) = number_of(rt, path)? else {
         return Ok(false);
@@ -133,11 +133,14 @@ pub fn is_read<'a>(
     rt: &HostRuntime,
     output: Option<&str>,
     inputs: &[&str],
-) -> Result<bool, Fault<'a>> {
+) -> Result<bool, Fault<'a>>
+    ensures { IfErr result (λ told. told ≡ Fault.Memory) }
+{
     match output {
-        Some(path) if path != STANDARD => {
-            leads_to_any(rt, path, inputs).map_err(|error| unprinted(&error))
-        }
+        Some(path) if path != STANDARD => match leads_to_any(rt, path, inputs) {
+            Ok(is_one) => Ok(is_one),
+            Err(_) => Err(Fault::Memory),
+        },
         _ => Ok(false),
     }
 }

@@ -2,6 +2,7 @@
 
 ghost use Rattle.std.specs.Prelude.{◌≡◌, ◌≢◌, ◌⊎◌, IfErr};
 
+use crate::files::STANDARD;
 use commands::{Ending, Fault, tell, unprinted};
 use std::fs::{File, Metadata, OpenOptions};
 use std::io::{ErrorKind, IsTerminal, Stdout, Write};
@@ -20,9 +21,6 @@ const ANY_MODE: u32 = 0o666;
 
 /// The mode of a file that only its owner may read and write.
 const OWN_MODE: u32 = 0o600;
-
-/// The word that names standard output.
-const STANDARD_OUTPUT: &str = "-";
 
 /// The paths of standard output.
 const OUTPUT_FILES: [&str; 3] = ["/dev/stdout", "/dev/fd/1", "/proc/self/fd/1"];
@@ -166,7 +164,7 @@ impl Output {
         ensures { IfErr result (λ told. (told ≡ Fault.Memory) ⊎ (told ≡ Fault.Write)) }
     {
         match path {
-            Some(path) if path != STANDARD_OUTPUT => match open_named(rt, path) {
+            Some(path) if path != STANDARD => match open_named(rt, path) {
                 Ok(output) => Ok(output),
                 Err(error) => Err(unprinted(&error)),
             },
