@@ -1,3 +1,4 @@
+pub mod Characters
 pub mod Columns
 pub mod Decks
 pub mod Faults

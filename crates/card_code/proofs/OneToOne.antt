@@ -1,8 +1,8 @@
 -- A list of pairs in which nothing stands twice, looked up both ways.
-use Rattle.std.proofs.Common.{◌≡◌, ℕ, ◌<◌, ◌⊎◌, inl, inr, suc, zero, List, [], ◌∷◌, length, ap, ap₂, subst, arith, Bool, true, false, not, ◌&&◌, is_some, Option, Some, Contains, ◌==◌, if◌then◌else◌, slice_index_or}
+use Rattle.std.proofs.Common.{◌≡◌, ℕ, ◌<◌, ◌⊎◌, inl, inr, suc, zero, List, [], ◌∷◌, length, ap, ap₂, refl, subst, arith, Bool, true, false, not, ◌&&◌, is_some, Option, Some, Contains, ◌==◌, if◌then◌else◌, slice_index_or}
 use Rattle.std.proofs.lemmas.Grind.{common_steps}
 use Rattle.std.proofs.lemmas.Bool.Decides.{nat_tests}
-use Rattle.card_code.specs.CardCode.{character_in, is_one_to_one, rows_in}
+use Rattle.card_code.specs.CardCode.{character_in, code, is_one_to_one, rows_in}
 
 -- a look-up that is met at once
 met : (key value sought found : ℕ) (rest : Option ℕ) → key ≡ sought → value ≡ found →
@@ -74,6 +74,11 @@ both_at (pair ∷ pairs) (suc k) character set once within at =
       goes_on pair.0 pair.1 character set (rows character) later.0 one_character,
       goes_on pair.1 pair.0 set character (characters set) later.1 one_set,
     )
+
+-- nothing stands twice in the card code
+pub code-once : is_one_to_one code ≡ true
+unfolding code
+code-once = refl
 
 -- a pair is found by its character
 pub rows_in-pair : (pairs : List (ℕ × ℕ)) (character set : ℕ) → is_one_to_one pairs ≡ true →

@@ -10,9 +10,9 @@ use Rattle.std.proofs.lemmas.Option.{same_Some}
 use Rattle.std.proofs.lemmas.Simd.{get_or-zip2, length-zip2}
 use lib.Lanes.{zip2}
 use Rattle.card_code.proofs.Tables.{entry-more, entry-rows}
-use Rattle.card_code.specs.CardCode.{code, deck_character, rows_of}
+use Rattle.card_code.specs.CardCode.{rows_of}
 use Rattle.card_code.specs.Columns.{column_of}
-use Rattle.card_code.specs.Deck.{IsCardOf, IsDeckCard, IsOddColumn}
+use Rattle.card_code.specs.Deck.{IsCardOf, IsOddColumn}
 use Rattle.card_code.specs.Tables.{entry}
 
 -- each byte of a line, from a place on and before another, is a deck character
@@ -21,7 +21,7 @@ AreCharacters from to line = (k : ℕ) → from ≤ k → k < to → IsSome (row
 
 -- so many bytes of a line are punched, each deck character in its column, and the other columns are blank
 pub record HasPunched (count : ℕ) (line columns : List ℕ) : Type 0 where
-  pub deck : IsDeckCard columns
+  pub whole : length columns ≡ 80
   pub punched : (k : ℕ) → k < count → (column : ℕ) → rows_of (slice_index line k) ≡ Some column → slice_index columns k ≡ column
   pub blank : (k : ℕ) → count ≤ k → slice_index columns k ≡ 0
 
@@ -41,17 +41,9 @@ none-punched k = by (cases_lt k 80)
         let long : length zeros ≡ 80 = refl in
         get_or_past zeros k 0 (omega (arith, past, long))
 
--- a column without a row is blank
-blank-character : IsSome (deck_character 0)
-unfolding deck_character code
-blank-character = refl
-
-pub deck-blank : IsDeckCard (replicate 80 0)
-deck-blank = record { whole = refl; characters = λ k. rw (none-punched k) blank-character }
-
 -- no byte is punched yet
 pub punched-none : (line : List ℕ) → HasPunched 0 line (replicate 80 0)
-punched-none line = record { deck = deck-blank; punched = λ k less. absurd (omega (arith, less)); blank = λ k more. none-punched k }
+punched-none line = record { whole = refl; punched = λ k less. absurd (omega (arith, less)); blank = λ k more. none-punched k }
 
 -- no set is joined yet
 pub joined-none : (line : List ℕ) → HasJoined 0 (replicate 8 0) line
@@ -86,13 +78,10 @@ characters-more from count set line listed small before k past less = by (eqb_te
 
 -- a byte more is punched
 pub punched-more : (count set : ℕ) (line columns : List ℕ) → count < 80
-    → option_map column_of (entry set) ≡ rows_of (slice_index line count) → IsSome (deck_character (column_of (bit_and set 4095)))
+    → option_map column_of (entry set) ≡ rows_of (slice_index line count)
     → HasPunched count line columns → HasPunched (count + 1) line (slice_set columns count (column_of (bit_and set 4095)))
-punched-more count set line columns below listed deck before = record {
-  deck = record {
-    whole = length-set columns count (column_of (bit_and set 4095)) ∙ before.deck.whole;
-    characters = λ k. character k (eqb_tells k count);
-  };
+punched-more count set line columns below listed before = record {
+  whole = length-set columns count (column_of (bit_and set 4095)) ∙ before.whole;
   punched = λ k less. punched k less (eqb_tells k count);
   blank = λ k more. other-is k (λ e. absurd (omega (arith, e, more))) ∙ before.blank k (omega (arith, more));
 }
@@ -102,16 +91,11 @@ punched-more count set line columns below listed deck before = record {
 
     here-is : slice_index new count ≡ column_of (bit_and set 4095)
     here-is =
-        let whole = before.deck.whole in
+        let whole = before.whole in
         get_or-set_same columns count (column_of (bit_and set 4095)) 0 (omega (arith, whole, below))
 
     other-is : (k : ℕ) → k ≢ count → slice_index new k ≡ slice_index columns k
     other-is k apart = get_or-set_other columns count k (column_of (bit_and set 4095)) 0 apart
-
-    character : (k : ℕ) → ((k == count) ≡ true) × (k ≡ count) ⊎ ((k == count) ≡ false) × (k ≢ count)
-        → IsSome (deck_character (slice_index new k))
-    character k (inl same) = rw (same.1, here-is) deck
-    character k (inr other) = rw (other-is k other.1) (before.deck.characters k)
 
     punched : (k : ℕ) → k < count + 1 → ((k == count) ≡ true) × (k ≡ count) ⊎ ((k == count) ≡ false) × (k ≢ count)
         → (column : ℕ) → rows_of (slice_index line k) ≡ Some column → slice_index new k ≡ column
@@ -124,13 +108,12 @@ punched-more count set line columns below listed deck before = record {
 -- eight bytes more are punched
 pub punched-eight : (first : ℕ) (sets line old new : List ℕ)
     → ((k : ℕ) → k < 8 → option_map column_of (entry (slice_index sets k)) ≡ rows_of (slice_index line (first + k)))
-    → ((k : ℕ) → k < 8 → IsSome (deck_character (column_of (bit_and (slice_index sets k) 4095))))
     → ((k : ℕ) → k < 8 → slice_index new (first + k) ≡ column_of (bit_and (slice_index sets k) 4095))
     → ((k : ℕ) → k < first → slice_index new k ≡ slice_index old k)
     → ((k : ℕ) → first + 8 ≤ k → slice_index new k ≡ slice_index old k)
     → length new ≡ 80 → HasPunched first line old → HasPunched (first + 8) line new
-punched-eight first sets line old new listed deck here before behind whole are = record {
-  deck = record { whole = whole; characters = λ k. character k (cases_lt k first) };
+punched-eight first sets line old new listed here before behind whole are = record {
+  whole = whole;
   punched = λ k less. punched k less (cases_lt k first);
   blank = λ k past. behind k past ∙ are.blank k (omega (arith, past));
 }
@@ -140,14 +123,6 @@ punched-eight first sets line old new listed deck here before behind whole are =
     here-at k from to =
         let same : k ≡ first + (k - first) = omega (arith, from) in
         ap (λ (j : ℕ). slice_index new j) same ∙ here (k - first) (omega (arith, from, to))
-
-    character-past : (k : ℕ) → first ≤ k → (k < first + 8) ⊎ (first + 8 ≤ k) → IsSome (deck_character (slice_index new k))
-    character-past k from (inl to) = rw (here-at k from to) (deck (k - first) (omega (arith, from, to)))
-    character-past k from (inr past) = rw (behind k past) (are.deck.characters k)
-
-    character : (k : ℕ) → (k < first) ⊎ (first ≤ k) → IsSome (deck_character (slice_index new k))
-    character k (inl less) = rw (before k less) (are.deck.characters k)
-    character k (inr from) = character-past k from (cases_lt k (first + 8))
 
     punched : (k : ℕ) → k < first + 8 → (k < first) ⊎ (first ≤ k) → (column : ℕ) → rows_of (slice_index line k) ≡ Some column
         → slice_index new k ≡ column
@@ -217,7 +192,7 @@ pub punched-card : (count : ℕ) (line columns : List ℕ) → count ≡ length 
     → HasPunched count line columns → IsCardOf line columns
 punched-card count line columns all short characters are = record {
   short = short;
-  whole = are.deck.whole;
+  whole = are.whole;
   punched = λ k less.
       let within : k < count = omega (arith, all, less) in
       held (rows_of (slice_index line k)) (slice_index columns k) (characters k (omega arith) within) (are.punched k within);

@@ -14,10 +14,9 @@ fault_number (NoSuchCharacter line column) = Some 2
 fault_number TooManyCards = Some 3
 fault_number Memory = None
 
--- what every card is: 80 columns, each with the rows of a deck character, if only of the blank; no card is punched with other rows
-pub record IsDeckCard (card : List ℕ) : Type 0 where
-  pub whole : length card ≡ 80
-  pub characters : (k : ℕ) → IsSome (deck_character (slice_index card k))
+-- each column of a card has the rows of a deck character, if only of the blank, as on each card that is punched from a line
+abbrev pub HasCharacters : List ℕ → Type 0
+HasCharacters card = (k : ℕ) → IsSome (deck_character (slice_index card k))
 
 -- the card of a line: each byte is punched in its column, and the columns after the line are blank
 pub record IsCardOf (line card : List ℕ) : Type 0 where

@@ -1,10 +1,10 @@
 //! A punched card.
 
-ghost use Rattle.std.specs.Prelude.{◌≡◌, ◌+◌, ◌-◌, ◌<◌, ◌≤◌, ℕ, List, bit_and, length, replicate, slice_index, IfNone, IfSome, IsSome, true};
+ghost use Rattle.std.specs.Prelude.{◌≡◌, ◌+◌, ◌-◌, ◌<◌, ◌≤◌, ℕ, List, bit_and, length, replicate, slice_index, IfNone, IfSome, true};
 ghost use Rattle.std.specs.Option.{option_map};
-ghost use Rattle.card_code.specs.CardCode.{deck_character, rows_of};
+ghost use Rattle.card_code.specs.CardCode.{rows_of};
 ghost use Rattle.card_code.specs.Columns.{column_of};
-ghost use Rattle.card_code.specs.Deck.{IsCardOf, IsDeckCard, IsOddColumn, IsPunchable};
+ghost use Rattle.card_code.specs.Deck.{IsCardOf, IsOddColumn, IsPunchable};
 ghost use Rattle.card_code.specs.Tables.{entry};
 
 use crate::code::{ALL_ROWS, listed_set};
@@ -15,7 +15,7 @@ use std::simd::prelude::*;
 /// How many columns a card has.
 pub const CARD_COLUMNS: usize = 80;
 
-/// A card of 80 columns, numbered from 1. Each has the rows of a deck character.
+/// A card of 80 columns, numbered from 1, each with any set of rows.
 ///
 /// Contracts see a card as the list of its columns.
 #[derive(Clone, Copy, Debug, PartialEq, Eq)]
@@ -28,7 +28,7 @@ impl Model for Card {
 
     ghost view = { λ card. card.columns };
 
-    ghost invariant = { λ card. IsDeckCard card.columns };
+    ghost invariant = { λ card. length card.columns ≡ 80 };
 
     ghost inverse = { λ columns. record { columns = columns } };
 }
@@ -41,6 +41,13 @@ impl Card {
         Card {
             columns: [Column::blank(); CARD_COLUMNS],
         }
+    }
+
+    /// The card of these columns, the first one being column 1.
+    pub fn of_columns(columns: [Column; CARD_COLUMNS]) -> Self
+        ensures { result ≡ columns }
+    {
+        Card { columns }
     }
 
     // Punches a line in the place of what was punched before. If each byte is a deck character, the card is that of the line; else this
@@ -72,11 +79,10 @@ impl Card {
         }
     }
 
-    /// Its columns, the first one being column 1. Each has the rows of a deck character.
+    /// Its columns, the first one being column 1.
     pub fn columns(&self) -> &[Column; CARD_COLUMNS]
         ensures columns { result.now ≡ self.now }
         ensures whole { length self.now ≡ 80 }
-        ensures characters { (k : ℕ) → IsSome (deck_character (slice_index self.now k)) }
     {
         &self.columns
     }
@@ -97,7 +103,6 @@ fn listed_sets(line: &[u8], first: usize) -> u16x8
     requires { first + 8 ≤ length line.now }
     ensures eight { length result ≡ 8 }
     ensures rows { (k : ℕ) → k < 8 → option_map column_of (entry (slice_index result k)) ≡ rows_of (slice_index line.now (first + k)) }
-    ensures punched { (k : ℕ) → k < 8 → IsSome (deck_character (column_of (bit_and (slice_index result k) 4095))) }
 {
     u16x8::from_array([
         listed_set(line[first]),

@@ -1,6 +1,6 @@
 //! The card code as tables, read both ways by one look-up.
 
-ghost use Rattle.std.specs.Prelude.{◌≡◌, ◌<◌, ◌%◌, ◌↔◌, ℕ, bit_and, length, Contains, IfSome, IsSome, IsTrue};
+ghost use Rattle.std.specs.Prelude.{◌≡◌, ◌<◌, ◌%◌, ◌↔◌, ℕ, length, Contains, IfSome, IsTrue};
 ghost use Rattle.std.specs.Option.{option_map};
 ghost use Rattle.card_code.specs.CardCode.{code, deck_character, is_one_to_one, rows_of};
 ghost use Rattle.card_code.specs.Columns.{column_of};
@@ -97,10 +97,9 @@ pub fn code_is_one_to_one()
     ensures inverse { (character set : ℕ) → (rows_of character ≡ Some set) ↔ (deck_character set ≡ Some character) }
 {}
 
-/// The set of the rows of a byte, by their places. That of a byte that is no deck character has bits behind those of the rows, and no row.
+/// The set of the rows of a byte, by their places. That of a byte that is no deck character has bits behind those of the rows.
 pub fn listed_set(byte: u8) -> u16
-    ensures rows { option_map column_of (entry result) ≡ rows_of byte }
-    ensures punched { IsSome (deck_character (column_of (bit_and result 4095))) }
+    ensures { option_map column_of (entry result) ≡ rows_of byte }
 {
     LISTED[byte as usize]
 }

@@ -5,8 +5,9 @@ use Rattle.std.proofs.lemmas.List.{drop_more}
 use Rattle.std.proofs.lemmas.Bool.Decides.{nat_tests}
 use Rattle.std.proofs.lemmas.Bool.{false≢true}
 use Rattle.std.specs.Io.KnownBytes.{IsAtEnd, Keeps, prepend_known}
+use Rattle.card_code.proofs.Characters.{characters-punched}
 use Rattle.card_code.proofs.Pieces.{lines_of_last, lines_of_none}
-use Rattle.card_code.specs.Deck.{IsCardOf, HasLineFault}
+use Rattle.card_code.specs.Deck.{HasCharacters, IsCardOf, HasLineFault}
 use Rattle.card_code.specs.Lines.{lines_of, without_cr}
 use Rattle.card_code.specs.declared.deck.DeckFault.{DeckFault}
 use Rattle.card_code.specs.declared.deck.DeckFault.TheVariants.{CardTooLong, NoSuchCharacter, TooManyCards, Memory}
@@ -138,6 +139,10 @@ still_known (Some bytes) (Some same) text kept known = ap Some kept ∙ known
 pub of_card : {C : Type 0} (P Q : C → Type 0) → ((card : C) → P card → Q card) → (found : Option C) → IfSome found P → IfSome found Q
 of_card P Q more None is = tt
 of_card P Q more (Some card) is = more card is
+
+-- a card that is punched from a line has characters
+pub characters-found : (found : Option (List ℕ)) (line : List ℕ) → IfSome found (IsCardOf line) → IfSome found HasCharacters
+characters-found found line is = of_card (IsCardOf line) HasCharacters (characters-punched line) found is
 
 -- and where no fault was told
 pub of_found : {C D E : Type 0} (P Q : C → Type 0) → ((card : C) → P card → Q card) → (taken : Result D E) (found : Option C)

@@ -2,7 +2,7 @@
 
 ghost use Rattle.std.specs.Prelude.{◌≡◌, ◌≢◌, ◌+◌, ◌≤◌, ℕ, List, [], ◌∷◌, length, Some, true, false, IfOk, IfErr, IfSome, IfNone, IsErr, IsOk, IsSome, drop, MatchResult, None, Ok, OnErr, OnOk};
 ghost use Rattle.std.specs.Io.KnownBytes.{IsAtEnd, Keeps};
-ghost use Rattle.card_code.specs.Deck.{HasLineFault, IsCardOf};
+ghost use Rattle.card_code.specs.Deck.{HasCharacters, HasLineFault, IsCardOf};
 ghost use Rattle.card_code.specs.declared.deck.DeckFault.{DeckFault};
 ghost use Rattle.card_code.specs.Lines.{lines_of, without_cr};
 ghost use Rattle.card_code.specs.MostCards.{most_cards};
@@ -85,6 +85,7 @@ impl<S: Source + Drop> CardLines<S> {
     pub fn next_card(&mut self) -> Result<Option<Card>, ReadFault>
         ensures card { IfOk result (λ found. IfSome found (λ card. (text : List ℕ) → still_to_come S.left self.old ≡ Some text →
             GivesCard self.old.given text card (still_to_come S.left self.new))) }
+        ensures punched { IfOk result (λ found. IfSome found HasCharacters) }
         ensures one_more { IfOk result (λ found. IfSome found (λ _. self.new.given ≡ self.old.given + 1)) }
         ensures unended { self.new.at_end ≡ false → IfOk result (λ found. IfSome found (λ _. (text : List ℕ) →
             still_to_come S.left self.old ≡ Some text → TakesEndedLine text (still_to_come S.left self.new))) }
@@ -136,6 +137,7 @@ impl<S: Source + Drop> CardLines<S> {
     pub fn next_into(&mut self, next: &mut Option<Card>) -> Result<(), ReadFault>
         ensures card { OnOk result (IfSome next.new (λ card. (text : List ℕ) → still_to_come S.left self.old ≡ Some text →
             GivesCard self.old.given text card (still_to_come S.left self.new))) }
+        ensures punched { OnOk result (IfSome next.new HasCharacters) }
         ensures one_more { OnOk result (IfSome next.new (λ _. self.new.given ≡ self.old.given + 1)) }
         ensures unended { self.new.at_end ≡ false → OnOk result (IfSome next.new (λ _. (text : List ℕ) →
             still_to_come S.left self.old ≡ Some text → TakesEndedLine text (still_to_come S.left self.new))) }
@@ -181,6 +183,7 @@ impl<S: Source + Drop> CardLines<S> {
         requires { self.old.has_failed ≡ false }
         ensures card { OnOk result (IfSome next.new (λ card. (text : List ℕ) → still_to_come S.left self.old ≡ Some text →
             GivesCard self.old.given text card (still_to_come S.left self.new))) }
+        ensures punched { OnOk result (IfSome next.new HasCharacters) }
         ensures one_more { OnOk result (IfSome next.new (λ _. self.new.given ≡ self.old.given + 1)) }
         ensures unended { self.new.at_end ≡ false → OnOk result (IfSome next.new (λ _. (text : List ℕ) →
             still_to_come S.left self.old ≡ Some text → TakesEndedLine text (still_to_come S.left self.new))) }
@@ -260,6 +263,7 @@ impl<S: Source + Drop> CardLines<S> {
         ensures some { OnOk result (IsSome next.new) }
         ensures card { OnOk result (IfSome next.new (λ card. (text : List ℕ) → still_to_come S.left self.old ≡ Some text →
             GivesCard self.old.given text card (still_to_come S.left self.new))) }
+        ensures punched { OnOk result (IfSome next.new HasCharacters) }
         ensures one_more { OnOk result (self.new.given ≡ self.old.given + 1) }
         ensures fault { IfErr result (λ fault. (text : List ℕ) →
             still_to_come S.left self.old ≡ Some text → HasFaultNext self.old.given text fault) }

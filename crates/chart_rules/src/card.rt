@@ -3,6 +3,7 @@
 ghost use Rattle.std.specs.List.{list_any};
 ghost use Rattle.std.specs.Prelude.{◌≡◌, ◌==◌, ◌+◌, ◌<◌, ◌≤◌, ◌↔◌, ℕ, IsTrue, IsOk, IfErr, length, true};
 ghost use Rattle.card_code.specs.CardCode.{deck_character};
+ghost use Rattle.card_code.specs.Deck.{HasCharacters};
 ghost use Rattle.line_rules.specs.FieldRules.Fields.{fields_of};
 ghost use Rattle.charts.specs.Field.{decimals_of, sign_column};
 ghost use Rattle.chart_rules.specs.HelperOnCard.{IsOnCard, AreOnCard};
@@ -57,6 +58,20 @@ impl CardFault {
 ///
 /// `NotText` or `NotAmount` with the first column of the first field in the order of the chart that is not valid.
 pub fn valid_card(chart: &Chart, card: &Card) -> Result<(), CardFault>
+    ensures valid { IsOk result ↔ valid.IsValidCard chart.now card.now }
+    ensures first { IfErr result (valid.IsFirstInvalid (fields_of chart.now.lines) card.now) }
+{
+    valid_fields(chart.fields(), card)
+}
+
+/// The same of a card that has a deck character in each column, as each has that was read from a line of a deck. What is printed of its
+/// texts is then tested all at once.
+///
+/// # Errors
+///
+/// As of [`valid_card`].
+pub fn valid_read_card(chart: &Chart, card: &Card) -> Result<(), CardFault>
+    requires { HasCharacters card.now }
     ensures valid { IsOk result ↔ valid.IsValidCard chart.now card.now }
     ensures first { IfErr result (valid.IsFirstInvalid (fields_of chart.now.lines) card.now) }
 {

@@ -21,7 +21,7 @@ mod outcomes;
 mod rule;
 mod texts;
 
-pub use card::{CardFault, valid_card};
+pub use card::{CardFault, valid_card, valid_read_card};
 pub use chart::Chart;
 pub use checking::check;
 pub use fault::RuleFault;

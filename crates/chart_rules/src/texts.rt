@@ -23,6 +23,7 @@ pub(crate) struct TextColumns {
 
 impl TextColumns {
     ghost use Rattle.std.specs.Prelude.{◌≡◌, ◌≤◌, IsTrue, length};
+    ghost use Rattle.card_code.specs.Deck.{HasCharacters};
     ghost use Rattle.chart_rules.specs.HelperOnCard.{AreOnCard};
     ghost use Rattle.chart_rules.specs.HelperTexts.{AreMarked, ArePrinted};
 
@@ -45,8 +46,10 @@ impl TextColumns {
         }
     }
 
-    /// Whether none of them has a `!`. If so, each has a print character or is blank.
+    /// Whether none of them has a `!`, on a card that has a deck character in each column. If so, each of them has a print character or is
+    /// blank.
     pub(crate) fn are_printed(&self, card: &Card) -> bool
+        requires { HasCharacters card.now }
         ensures { IsTrue result → ArePrinted self.now.masks self.now.end card.now }
     {
         let columns = card.columns();

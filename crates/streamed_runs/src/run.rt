@@ -20,7 +20,7 @@ ghost use Rattle.streamed_runs.specs.declared.fault.StreamCause.TheVariants as c
 use crate::fault::StreamCause;
 use card_code::Card;
 use card_lines::CardLines;
-use chart_rules::{Chart, valid_card};
+use chart_rules::{Chart, valid_read_card};
 use devices::{Sink, Source};
 use machine::Machine;
 use misfits::{Misfit, OpenSums};
@@ -123,7 +123,7 @@ fn next_valid<S: Source + Drop>(
         return Err(fault.into());
     }
     if let Some(card) = &*next {
-        if let Err(fault) = valid_card(chart, card) {
+        if let Err(fault) = valid_read_card(chart, card) {
             return Err(StreamCause::Invalid {
                 fault,
                 card: number + 1,

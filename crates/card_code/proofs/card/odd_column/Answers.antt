@@ -8,12 +8,12 @@ loop-place-init c = λ k from less. absurd (omega (arith, less))
 pub loop-place-preserved : goal.loop-place-preserved
 loop-place-preserved c =
     let few = c.if-listed_set-gt-ALL_ROWS.false in
-    characters-more 0 c.loop-place.place c.listed_set.result c.args.line.now c.listed_set.ensures.rows (omega (arith, few)) c.loop-place.invariant
+    characters-more 0 c.loop-place.place c.listed_set.result c.args.line.now c.listed_set.ensures (omega (arith, few)) c.loop-place.invariant
 
 pub returns-then-listed_set-gt-ALL_ROWS-clause-odd : goal.returns-then-listed_set-gt-ALL_ROWS-clause-odd
 returns-then-listed_set-gt-ALL_ROWS-clause-odd c =
     let more = c.if-listed_set-gt-ALL_ROWS.true in
-    first-odd c.loop-place.place c.listed_set.result c.args.line.now c.loop-place-test.true c.requires c.listed_set.ensures.rows
+    first-odd c.loop-place.place c.listed_set.result c.args.line.now c.loop-place-test.true c.requires c.listed_set.ensures
     (omega (arith, more)) c.loop-place.invariant
 
 pub returns-clause-none : goal.returns-clause-none

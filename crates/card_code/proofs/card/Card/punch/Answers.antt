@@ -15,7 +15,7 @@ loop-eight-preserved c =
     let next : 8 * (eight + 1) ≡ 8 * eight + 8 = omega arith in (
       rw (next)
           (punched-eight (8 * eight) sets.result line c.loop-eight.self-inside.columns c.punch_eight.new.columns sets.ensures.rows
-          sets.ensures.punched put.punched put.before put.behind put.whole c.loop-eight.invariant.0),
+          put.punched put.before put.behind put.whole c.loop-eight.invariant.0),
       joined-more eight c.loop-eight.joined sets.result line sets.ensures.eight sets.ensures.rows c.loop-eight.invariant.1,
     )
 
@@ -35,12 +35,12 @@ loop-place-preserved c =
     let short = c.requires in
     let test = c.loop-place-test.true in (
       rw (c.of_set.ensures)
-          (punched-more place set.result c.args.line.now c.loop-place.self-inside.columns (omega (arith, short, test)) set.ensures.rows
-          set.ensures.punched c.loop-place.invariant.0),
+          (punched-more place set.result c.args.line.now c.loop-place.self-inside.columns (omega (arith, short, test)) set.ensures
+          c.loop-place.invariant.0),
       λ few.
           let old = le_or_l c.loop-place.joined_rest set.result in
           let new = le_or_r c.loop-place.joined_rest set.result in
-          characters-more (8 * (length c.args.line.now / 8)) place set.result c.args.line.now set.ensures.rows (omega (arith, few, new))
+          characters-more (8 * (length c.args.line.now / 8)) place set.result c.args.line.now set.ensures (omega (arith, few, new))
           (c.loop-place.invariant.1 (omega (arith, few, old))),
     )
 

@@ -3,7 +3,7 @@ use Rattle.std.proofs.lemmas.Result.{err_from_is_err_and}
 use Rattle.std.specs.Io.KnownBytes.{prepend_known}
 use Rattle.card_code.specs.Deck.{IsCardOf, HasLineFault}
 use Rattle.card_code.specs.Lines.{without_cr}
-use Rattle.card_lines.proofs.Next.{gives, many, of_card, told_next}
+use Rattle.card_lines.proofs.Next.{characters-found, gives, many, of_card, told_next}
 use Rattle.card_lines.proofs.reading.CardLines.take_line.Goals as goal
 use Rattle.card_lines.specs.Faults.{HasFaultNext}
 use Rattle.card_lines.specs.Reading.{Reading, GivesCard, HasFirstLine, still_to_come}
@@ -46,3 +46,6 @@ returns-clause-card g c =
     subst (λ n. GivesCard n text card (prepend_known c.use_up.new.self left)) (ap (λ r. r.given) c.self.view_is)
     (subst (λ (held : List ℕ). GivesCard of.given text card (prepend_known held left)) (sym c.use_up.ensures) gave))
     c.put_card.new.next c.in_ok-put_card.ensures.card
+
+pub returns-clause-punched : goal.returns-clause-punched
+returns-clause-punched g c = characters-found c.put_card.new.next _ c.in_ok-put_card.ensures.card

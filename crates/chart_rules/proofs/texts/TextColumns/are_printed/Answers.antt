@@ -23,7 +23,7 @@ unprinted_bits-requires c =
       character =
           ap (λ (n : ℕ). is_some (deck_character n))
           (read-is c.set.result place c.index-columns-place.result columns c.args.card.now inside c.set.ensures.value c.columns-columns.ensures.columns)
-          ∙ c.columns-columns.ensures.characters place;
+          ∙ c.requires place;
     }
 
 pub loop-place-preserved : goal.loop-place-preserved
