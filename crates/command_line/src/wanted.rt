@@ -3,7 +3,7 @@
 ghost use Rattle.std.specs.Prelude.{◌≡◌};
 ghost use Rattle.clap.specs.Values.{kind_of};
 
-use crate::parser::{COMMANDS, Word, parser};
+use crate::parser::{Word, commands, parser};
 use clap::error::ErrorKind;
 use clap::{ArgMatches, Error};
 use std::alloc::{AllocFailed, Global};
@@ -447,10 +447,10 @@ fn command_wanted<'a>(
 fn names_input_twice(words: &[Word], given: &ArgMatches) -> bool {
     let mut is_named = false;
     for word in words {
-        let Some(name) = word.input() else {
+        if !word.is_input() {
             continue;
-        };
-        for path in given.get_strs(name).unwrap_or(&[]) {
+        }
+        for path in given.get_strs(word.name).unwrap_or(&[]) {
             if *path == "-" {
                 if is_named {
                     return true;
@@ -464,7 +464,7 @@ fn names_input_twice(words: &[Word], given: &ArgMatches) -> bool {
 
 // The words that a command takes.
 fn words_of(name: &str) -> &'static [Word] {
-    match COMMANDS.iter().find(|row| row.name == name) {
+    match commands().iter().find(|row| row.name == name) {
         Some(row) => row.words,
         None => &[],
     }
