@@ -81,7 +81,7 @@ list_taken text listed old new told (wired is (inr off)) put = wired is (inr off
 list_taken text listed old new told (planned is ends) put = planned is (listing_taken text listed old new told ends put)
 
 -- a list that the output doesn't take breaks off
-pub list_broken : (text : List ℕ) (old new : Option (List ℕ)) (met told : Fault) → EndsText text (Some []) (Some []) met → IsBrokenOff told
-    → EndsText text old new told
-list_broken text old new met told (wired is ends) off = wired is (inr off)
-list_broken text old new met told (planned is ends) off = planned is (broken_off off)
+pub list_broken : (text listed : List ℕ) (old new : Option (List ℕ)) (met told : Fault) → EndsText text (Some []) (Some listed) met
+    → IsBrokenOff told → EndsText text old new told
+list_broken text listed old new met told (wired is ends) off = wired is (inr off)
+list_broken text listed old new met told (planned is ends) off = planned is (broken_off off)
