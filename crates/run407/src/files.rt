@@ -3,10 +3,7 @@
 ghost use Rattle.std.specs.Prelude.{◌≡◌, ◌≢◌, ◌⊎◌, IfErr};
 ghost use Rattle.std.specs.IoError.{error_kind};
 
-use cli_tasks::Task;
 use commands::{Fault, read_whole};
-use decks_in_row::DecksInRow;
-use std::collections::VecDeque;
 use std::fs::File;
 use std::io::{ErrorKind, Read, Stdin};
 use std::os::unix::fs::{FileTypeExt, MetadataExt};
@@ -54,15 +51,15 @@ fn unopened<'a>(error: &io::Error, path: &'a str) -> Fault<'a>
     }
 }
 
-// A file, opened, or standard input.
-fn open_input(rt: &HostRuntime, path: &str) -> io::Result<Input> {
+/// A file, opened, or standard input if its name is `-`. Its only error is that the file can't be opened.
+pub fn open_input(rt: &HostRuntime, path: &str) -> io::Result<Input> {
     if path == STANDARD {
         return Ok(Input::Standard(rt.stdin()));
     }
     Ok(Input::File(fs::open(rt, path)?))
 }
 
-/// A file, opened, or standard input if its name is `-`.
+/// A file, opened, or standard input, as [`open_input`] opens it.
 ///
 /// # Errors
 ///
@@ -76,37 +73,6 @@ pub fn open<'a>(rt: &HostRuntime, path: &'a str) -> Result<Input, Fault<'a>>
     }
 }
 
-/// A file that is opened when it is read first: where it can't be opened, it can't be read.
-#[derive(Drop)]
-pub struct Unopened<'r, 'a> {
-    rt: &'r HostRuntime,
-    path: &'a str,
-    input: Option<Input>,
-}
-
-impl<'r, 'a> Unopened<'r, 'a> {
-    /// The file of a path, or standard input if that is `-`.
-    pub fn new(rt: &'r HostRuntime, path: &'a str) -> Unopened<'r, 'a> {
-        Unopened {
-            rt,
-            path,
-            input: None,
-        }
-    }
-}
-
-impl Read for Unopened<'_, '_> {
-    fn read(&mut self, buf: &mut [u8]) -> io::Result<usize> {
-        if let Some(input) = &mut self.input {
-            return input.read(buf);
-        }
-        let mut input = open_input(self.rt, self.path)?;
-        let count = input.read(buf)?;
-        self.input = Some(input);
-        Ok(count)
-    }
-}
-
 /// The bytes of a file, or none if no file is named.
 ///
 /// # Errors
@@ -116,68 +82,6 @@ pub fn read<'a>(rt: &HostRuntime, path: Option<&'a str>) -> Result<Vec<u8>, Faul
     match path {
         Some(path) => read_whole(rt.alloc(), open(rt, path)?, path),
         None => Ok(Vec::new(rt.alloc())),
-    }
-}
-
-// Decks in a row. All are opened before any byte is read.
-fn open_all<'a>(rt: &HostRuntime, paths: &[&'a str]) -> Result<DecksInRow<Input>, Fault<'a>> {
-    let mut decks = VecDeque::new(rt.alloc());
-    for path in paths {
-        let deck = open(rt, path)?;
-        decks.push_back(deck).map_err(|_| Fault::Memory)?;
-    }
-    Ok(DecksInRow::new(decks))
-}
-
-/// The deck of a task.
-#[derive(Drop)]
-pub enum Deck<'r, 'a> {
-    /// There is none.
-    Missing,
-    /// One that is open.
-    Open(Input),
-    /// One that isn't open yet.
-    Unopened(Unopened<'r, 'a>),
-    /// Decks one behind the other, all open.
-    Row(DecksInRow<Input>),
-}
-
-impl Read for Deck<'_, '_> {
-    fn read(&mut self, buf: &mut [u8]) -> io::Result<usize> {
-        match self {
-            Deck::Missing => Ok(0),
-            Deck::Open(input) => input.read(buf),
-            Deck::Unopened(input) => input.read(buf),
-            Deck::Row(decks) => decks.read(buf),
-        }
-    }
-}
-
-impl<'r, 'a> Deck<'r, 'a> {
-    /// The deck of the files that a task names. A run takes several, one behind the other. A deck whose bad cards are shown isn't opened before
-    /// it is read, for the chart may have faults.
-    ///
-    /// # Errors
-    ///
-    /// `File` of the first one that can't be opened, `Memory` if a growth was refused.
-    pub fn open(
-        rt: &'r HostRuntime,
-        task: Task,
-        paths: &[&'a str],
-    ) -> Result<Deck<'r, 'a>, Fault<'a>> {
-        match (task, paths) {
-            (_, []) => Ok(Deck::Missing),
-            (Task::Run | Task::RunWhole | Task::RunPages { .. }, _) => {
-                Ok(Deck::Row(open_all(rt, paths)?))
-            }
-            (Task::ShowDeck, [path, ..]) => Ok(Deck::Unopened(Unopened::new(rt, *path))),
-            (_, [path, ..]) => Ok(Deck::Open(open(rt, *path)?)),
-        }
-    }
-
-    /// Whether it is a run's, whose cards are read one after the other.
-    pub fn is_row(&self) -> bool {
-        matches!(self, Deck::Row(_))
     }
 }
 

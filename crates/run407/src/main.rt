@@ -2,6 +2,7 @@
 //! that are opened here. It offers `serve` and `replay_by_orders` of `commands` too.
 #![tactic(auto)]
 
+mod decks;
 mod files;
 mod obeying;
 mod output;

@@ -1,6 +1,7 @@
 //! What the words ask for, done on the files that they name.
 
-use crate::files::{Deck, STANDARD, is_read, read};
+use crate::decks::Deck;
+use crate::files::{STANDARD, is_read, read};
 use crate::output::Output;
 use crate::watched::Watched;
 use crate::words::{shows_both, tell_output_read, tell_waiting};
@@ -41,8 +42,8 @@ pub fn obey<'a>(rt: &HostRuntime, wanted: &Wanted<'a>) -> Result<Ending, Fault<'
         return Ok(tell_output_read(rt));
     }
     let mut out = Output::open(rt, wanted.output)?;
-    let is_told = deck.is_row() && !out.is_terminal();
-    let cards = Watched::new(rt, deck, is_told);
+    let is_watched = deck.is_row() && !out.is_terminal();
+    let cards = Watched::new(rt, deck, is_watched);
     let done = do_task(
         rt.alloc(),
         task,
