@@ -1,4 +1,5 @@
-//! The words of the command line: what they ask for, and on which files. The parser is `clap`'s, and no other crate knows it.
+//! The words of the command line: which task of `cli_tasks` they ask for, and on which files. The parser is `clap`'s, and no other crate
+//! knows it.
 //!
 //! [`read_words`] answers what is [`Wanted`], or why nothing is, with the parser's own text told already.
 #![tactic(auto)]
@@ -6,4 +7,4 @@
 mod parser;
 mod wanted;
 
-pub use wanted::{Pages, Refused, Run, Wanted, read_words};
+pub use wanted::{Refused, Wanted, read_words};

@@ -1,160 +1,30 @@
 //! What the words ask for.
 
-ghost use Rattle.std.specs.Prelude.{◌≡◌};
+ghost use Rattle.std.specs.Prelude.{◌≡◌, IfOk, codes};
 ghost use Rattle.clap.specs.Values.{kind_of};
+ghost use Rattle.cli_tasks.specs.Names.{IsTaskOf, word_of};
 
 use crate::parser::{Word, commands, parser};
 use clap::error::ErrorKind;
 use clap::{ArgMatches, Error};
+use cli_tasks::{Fill, Pages, Task, check_task, match_task, page_named, replay_task, run_task};
 use std::alloc::{AllocFailed, Global};
 use std::io;
 use std::io::{ErrorKind as IoErrorKind, Write};
 
-/// Pages from one to another, both among them, from 1. The last one doesn't come before the first.
-#[derive(Clone, Copy, Debug, PartialEq, Eq)]
-pub struct Pages {
-    pub first: u64,
-    pub last: u64,
-}
-
-/// What the words of a run ask for: the pages of decks, one behind the other, by a planning chart.
+/// What the words of the command line ask for: a task, and the files on which it is done, by their paths.
 #[derive(Drop)]
-pub struct Run<'a> {
-    pub chart: &'a str,
+pub struct Wanted<'a> {
+    /// What is done.
+    pub task: Task,
+    /// The text that is read, if any is.
+    pub text: Option<&'a str>,
+    /// The text that is read beside it: of a match the wiring chart, of a replay the orders.
+    pub other: Option<&'a str>,
+    /// The decks, one behind the other. Only a run takes more than one.
     pub decks: Vec<&'a str>,
-    /// These pages alone.
-    pub pages: Option<Pages>,
-    /// Whether nothing is printed if a card is refused.
-    pub checks_first: bool,
     /// The file that is written in place of standard output.
     pub output: Option<&'a str>,
-}
-
-/// What the words of the command line ask for; files are told by their paths.
-#[derive(Drop)]
-pub enum Wanted<'a> {
-    /// The pages of decks.
-    Run(Run<'a>),
-    /// Whether a planning chart compiles.
-    Check {
-        chart: &'a str,
-    },
-    /// Every fault of a planning chart or a wiring chart.
-    ListFaults {
-        chart: &'a str,
-    },
-    /// Whether a planning chart compiles, and all cards of a deck that it can't be run with.
-    CheckDeck {
-        chart: &'a str,
-        deck: &'a str,
-    },
-    /// Every fault of a planning chart, or, if it has none, all cards of a deck that it can't be run with, each shown; of a wiring chart its
-    /// faults, or else that it takes no deck.
-    ShowDeck {
-        chart: &'a str,
-        deck: &'a str,
-    },
-    /// All cards of a deck that a planning chart can't be run with, or, if there is none, the control keys that come back.
-    GroupDeck {
-        chart: &'a str,
-        deck: &'a str,
-    },
-    /// The lines of a planning chart's report, drawn.
-    Layout {
-        chart: &'a str,
-    },
-    /// What the fields of a planning chart read on a card of a deck.
-    Fields {
-        chart: &'a str,
-        deck: &'a str,
-        card: u32,
-    },
-    /// The wiring chart of a planning chart.
-    Wire {
-        chart: &'a str,
-    },
-    /// The pages of a deck by a wiring chart.
-    Replay {
-        wiring: &'a str,
-        deck: &'a str,
-    },
-    /// The pages of a deck by a wiring chart whose units are served by orders, and what is counted.
-    ReplayByOrders {
-        wiring: &'a str,
-        orders: &'a str,
-        deck: &'a str,
-    },
-    /// A wiring chart in version 2 of its language.
-    Upgrade {
-        wiring: &'a str,
-    },
-    /// The planning chart that a panel is wired for, as a wiring chart wires it.
-    Chart {
-        wiring: &'a str,
-    },
-    /// Whether a panel, as a wiring chart wires it, is wired for a planning chart, and so prints its report of every deck.
-    Match {
-        chart: &'a str,
-        wiring: &'a str,
-        /// Whether no wire is told.
-        hints: bool,
-    },
-    /// The same; where it isn't, a deck is run on it and on the chart's own panel.
-    MatchDeck {
-        chart: &'a str,
-        wiring: &'a str,
-        deck: &'a str,
-    },
-    /// The legend of a planning chart.
-    Legend {
-        chart: &'a str,
-    },
-    /// Why a wheel of a line that is printed of a deck printed its character, by a planning chart or a wiring chart.
-    Explain {
-        text: &'a str,
-        deck: &'a str,
-        page: u64,
-        line: u32,
-        wheel: u32,
-        /// Whether ledgers are told down to the holes of cards.
-        whole: bool,
-    },
-    /// The sum behind the figure on a wheel of a line that is printed of a deck, by a planning chart or a wiring chart; of a long one all
-    /// entries or only some.
-    Ledger {
-        text: &'a str,
-        deck: &'a str,
-        page: u64,
-        line: u32,
-        wheel: u32,
-        all: bool,
-    },
-    /// What each cycle of a run over a deck did, by a planning chart or a wiring chart.
-    Trace {
-        text: &'a str,
-        deck: &'a str,
-    },
-    /// The page for a browser of a planning chart or a wiring chart, and a deck.
-    Show {
-        text: &'a str,
-        deck: &'a str,
-        /// The page of the report around which pages are shown, from 1.
-        around: Option<u32>,
-        /// The file that is written in place of standard output.
-        output: Option<&'a str>,
-    },
-    /// A text as a deck that the machine can read.
-    Fold {
-        text: &'a str,
-        /// The character for a byte that no card has.
-        with: Option<&'a str>,
-    },
-    /// What the guide to faults says of a fault.
-    Fault {
-        number: u8,
-    },
-    /// No command: a planning chart and then its deck stand on standard input.
-    StandardInput,
 }
 
 /// Why the words ask for nothing that is still to be done.
@@ -216,11 +86,6 @@ fn matches_of<'a>(
     parser(alloc, version)?.try_get_matches_from(words)
 }
 
-// The file that a word of a command names; the parser lets no command through that lacks one of its words.
-fn file_of<'a>(given: &ArgMatches<'a>, word: &str) -> &'a str {
-    given.get_str(word).unwrap_or("")
-}
-
 /// What is wrong with words that the parser lets through.
 #[derive(Clone, Copy, Debug, PartialEq, Eq)]
 enum Mistake {
@@ -236,6 +101,8 @@ enum Mistake {
     GroupsOfNone,
     /// Keys that come back are asked for, and every fault too.
     GroupsOfAll,
+    /// What a text is to be folded with is no character of a card.
+    NoFill,
     /// Memory ran out.
     Memory,
 }
@@ -256,6 +123,7 @@ impl Mistake {
             Mistake::HintOfDeck => "error: --hint and --deck can't be asked for together\n",
             Mistake::GroupsOfNone => "error: --groups takes a deck too\n",
             Mistake::GroupsOfAll => "error: --groups and --all can't be asked for together\n",
+            Mistake::NoFill => "error: --with takes one character that a card has\n",
             Mistake::Memory => "error: out of memory\n",
         }
     }
@@ -270,177 +138,155 @@ impl Mistake {
     }
 }
 
-// The pages that a word names.
-fn pages_of(word: &str) -> Option<Pages> {
-    let pages = match word.split_once('-') {
-        Some((first, last)) => Pages {
-            first: first.parse().ok()?,
-            last: last.parse().ok()?,
-        },
-        None => {
-            let only = word.parse().ok()?;
-            Pages {
-                first: only,
-                last: only,
-            }
-        }
-    };
-    if pages.first < 1 || pages.last < pages.first {
-        return None;
-    }
-    Some(pages)
-}
-
-// The page that a word names.
-fn page_of(word: &str) -> Option<u32> {
-    let page: u32 = word.parse().ok()?;
-    if page < 1 { None } else { Some(page) }
-}
-
-// What is asked for by the words of a run.
-fn run_wanted<'a>(alloc: Global, given: &ArgMatches<'a>) -> Result<Wanted<'a>, Mistake> {
-    let mut decks = Vec::new(alloc);
-    for deck in given.get_strs("DECK").unwrap_or(&[]) {
-        decks.push(*deck)?;
-    }
+// How a run is to print.
+fn run_wanted(given: &ArgMatches) -> Result<Task, Mistake>
+    ensures { IfOk result (λ task. word_of task ≡ codes "run") }
+{
     let pages = match given.get_str("PAGES") {
-        Some(word) => Some(pages_of(word).ok_or(Mistake::NoPages)?),
+        Some(word) => Some(Pages::named(word).ok_or(Mistake::NoPages)?),
         None => None,
     };
-    Ok(Wanted::Run(Run {
-        chart: file_of(given, "CHART"),
-        decks,
-        pages,
-        checks_first: given.get_flag("CHECK_FIRST"),
-        output: given.get_str("OUTPUT"),
-    }))
+    Ok(run_task(pages, given.get_flag("CHECK_FIRST")))
 }
 
-// What is asked for by the words that show a deck.
-fn show_wanted<'a>(given: &ArgMatches<'a>) -> Result<Wanted<'a>, Mistake> {
+// Around which page is shown.
+fn show_wanted(given: &ArgMatches) -> Result<Task, Mistake>
+    ensures { IfOk result (λ task. word_of task ≡ codes "show") }
+{
     let around = match given.get_str("AROUND") {
-        Some(word) => Some(page_of(word).ok_or(Mistake::NoPage)?),
+        Some(word) => Some(page_named(word).ok_or(Mistake::NoPage)?),
         None => None,
     };
-    Ok(Wanted::Show {
-        text: file_of(given, "TEXT"),
-        deck: file_of(given, "DECK"),
-        around,
-        output: given.get_str("OUTPUT"),
-    })
+    Ok(Task::Show { around })
 }
 
-// What is asked for by the words of a check, with a deck or without, of every fault or of the keys that come back.
-fn check_wanted<'a>(given: &ArgMatches<'a>) -> Result<Wanted<'a>, Mistake> {
-    let chart = file_of(given, "CHART");
+// How a check checks.
+fn check_wanted(given: &ArgMatches) -> Result<Task, Mistake>
+    ensures { IfOk result (λ task. word_of task ≡ codes "check") }
+{
+    let has_deck = given.get_str("DECK").is_some();
     let all = given.get_flag("ALL");
     let groups = given.get_flag("GROUPS");
-    match given.get_str("DECK") {
-        Some(_) if all && groups => Err(Mistake::GroupsOfAll),
-        Some(deck) if all => Ok(Wanted::ShowDeck { chart, deck }),
-        Some(deck) if groups => Ok(Wanted::GroupDeck { chart, deck }),
-        Some(deck) => Ok(Wanted::CheckDeck { chart, deck }),
-        None if groups => Err(Mistake::GroupsOfNone),
-        None if all => Ok(Wanted::ListFaults { chart }),
-        None => Ok(Wanted::Check { chart }),
+    if groups && !has_deck {
+        return Err(Mistake::GroupsOfNone);
     }
+    if groups && all {
+        return Err(Mistake::GroupsOfAll);
+    }
+    Ok(check_task(has_deck, all, groups))
 }
 
-// What is asked for by the words of a replay, with orders or without.
-fn replay_wanted<'a>(given: &ArgMatches<'a>) -> Wanted<'a> {
-    let wiring = file_of(given, "WIRING");
-    let deck = file_of(given, "DECK");
-    match given.get_str("ORDERS") {
-        Some(orders) => Wanted::ReplayByOrders {
-            wiring,
-            orders,
-            deck,
-        },
-        None => Wanted::Replay { wiring, deck },
-    }
-}
-
-// What is asked for by the words of a match, with a deck, as a hint or with neither.
-fn match_wanted<'a>(given: &ArgMatches<'a>) -> Result<Wanted<'a>, Mistake> {
-    let chart = file_of(given, "CHART");
-    let wiring = file_of(given, "WIRING");
+// How a panel is matched.
+fn match_wanted(given: &ArgMatches) -> Result<Task, Mistake>
+    ensures { IfOk result (λ task. word_of task ≡ codes "match") }
+{
+    let has_deck = given.get_str("DECK").is_some();
     let hints = given.get_flag("HINT");
-    match given.get_str("DECK") {
-        Some(_) if hints => Err(Mistake::HintOfDeck),
-        Some(deck) => Ok(Wanted::MatchDeck {
-            chart,
-            wiring,
-            deck,
-        }),
-        None => Ok(Wanted::Match {
-            chart,
-            wiring,
-            hints,
-        }),
+    if hints && has_deck {
+        return Err(Mistake::HintOfDeck);
     }
+    Ok(match_task(has_deck, hints))
 }
 
-// What is asked for by the words of a command. The parser lets no other name through, and none without the words that it has to have.
-fn command_wanted<'a>(
-    alloc: Global,
-    name: &str,
-    given: &ArgMatches<'a>,
-) -> Result<Wanted<'a>, Mistake> {
+// With what a text is folded: a blank, if nothing else is said.
+fn fold_wanted(given: &ArgMatches) -> Result<Task, Mistake>
+    ensures { IfOk result (λ task. word_of task ≡ codes "fold") }
+{
+    let word = given.get_str("WITH").unwrap_or(" ");
+    let fill = Fill::named(word).ok_or(Mistake::NoFill)?;
+    Ok(Task::Fold { fill })
+}
+
+// The task of a command by its name. The parser lets no other name through, and no command without the numbers that it has to have.
+fn task_of(name: &str, given: &ArgMatches) -> Result<Task, Mistake>
+    ensures { IfOk result (IsTaskOf name.now) }
+{
     Ok(match name {
-        "run" => run_wanted(alloc, given)?,
+        "run" => run_wanted(given)?,
         "check" => check_wanted(given)?,
-        "layout" => Wanted::Layout {
-            chart: file_of(given, "CHART"),
-        },
-        "fields" => Wanted::Fields {
-            chart: file_of(given, "CHART"),
-            deck: file_of(given, "DECK"),
+        "layout" => Task::Layout,
+        "fields" => Task::Fields {
             card: given.get_one("CARD").unwrap_or(1),
         },
-        "wire" => Wanted::Wire {
-            chart: file_of(given, "CHART"),
-        },
-        "replay" => replay_wanted(given),
-        "upgrade" => Wanted::Upgrade {
-            wiring: file_of(given, "WIRING"),
-        },
+        "wire" => Task::Wire,
+        "replay" => replay_task(given.get_str("ORDERS").is_some()),
+        "upgrade" => Task::Upgrade,
+        "chart" => Task::Chart,
         "match" => match_wanted(given)?,
-        "legend" => Wanted::Legend {
-            chart: file_of(given, "CHART"),
-        },
-        "explain" => Wanted::Explain {
-            text: file_of(given, "TEXT"),
-            deck: file_of(given, "DECK"),
+        "legend" => Task::Legend,
+        "explain" => Task::Explain {
             page: given.get_one("PAGE").unwrap_or(0),
             line: given.get_one("LINE").unwrap_or(0),
             wheel: given.get_one("WHEEL").unwrap_or(0),
             whole: given.get_flag("WHOLE"),
         },
-        "ledger" => Wanted::Ledger {
-            text: file_of(given, "TEXT"),
-            deck: file_of(given, "DECK"),
+        "ledger" => Task::Ledger {
             page: given.get_one("PAGE").unwrap_or(0),
             line: given.get_one("LINE").unwrap_or(0),
             wheel: given.get_one("WHEEL").unwrap_or(0),
             all: given.get_flag("ALL"),
         },
-        "trace" => Wanted::Trace {
-            text: file_of(given, "TEXT"),
-            deck: file_of(given, "DECK"),
-        },
+        "trace" => Task::Trace,
         "show" => show_wanted(given)?,
-        "fold" => Wanted::Fold {
-            text: file_of(given, "TEXT"),
-            with: given.get_str("WITH"),
-        },
-        "chart" => Wanted::Chart {
-            wiring: file_of(given, "WIRING"),
-        },
-        "fault" => Wanted::Fault {
+        "fold" => fold_wanted(given)?,
+        "fault" => Task::Fault {
             number: given.get_one("NN").unwrap_or(0),
         },
-        _ => Wanted::StandardInput,
+        _ => Task::RunTogether,
     })
+}
+
+// The file of the text that a command reads: no command takes two of these.
+fn text_of<'a>(given: &ArgMatches<'a>) -> Option<&'a str> {
+    for word in ["CHART", "TEXT"] {
+        if let Some(path) = given.get_str(word) {
+            return Some(path);
+        }
+    }
+    given.get_str("WIRING")
+}
+
+// The file of the text that it reads beside that: a wiring chart beside a planning chart, or orders beside a wiring chart.
+fn other_of<'a>(given: &ArgMatches<'a>) -> Option<&'a str> {
+    match given.get_str("CHART") {
+        Some(_) => given.get_str("WIRING"),
+        None => given.get_str("ORDERS"),
+    }
+}
+
+// What is asked for by the words of a command.
+fn command_wanted<'a>(
+    alloc: Global,
+    name: &str,
+    given: &ArgMatches<'a>,
+) -> Result<Wanted<'a>, Mistake>
+    ensures { IfOk result (λ wanted. IsTaskOf name.now wanted.task) }
+{
+    let task = task_of(name, given)?;
+    let mut decks = Vec::new(alloc);
+    for deck in given.get_strs("DECK").unwrap_or(&[]) {
+        decks.push(*deck)?;
+    }
+    Ok(Wanted {
+        task,
+        text: text_of(given),
+        other: other_of(given),
+        decks,
+        output: given.get_str("OUTPUT"),
+    })
+}
+
+// What is asked for without a command: a planning chart and then its deck stand on standard input.
+fn input_wanted<'a>(alloc: Global) -> Wanted<'a>
+    ensures { result.task ≡ Task.RunTogether }
+{
+    Wanted {
+        task: Task::RunTogether,
+        text: Some("-"),
+        other: None,
+        decks: Vec::new(alloc),
+        output: None,
+    }
 }
 
 // Whether the words of a command name standard input for two files.
@@ -475,7 +321,7 @@ fn wanted_by<'a>(alloc: Global, matches: &ArgMatches<'a>) -> Result<Wanted<'a>, 
     match matches.subcommand() {
         Some((name, given)) if names_input_twice(words_of(name), given) => Err(Mistake::InputTwice),
         Some((name, given)) => command_wanted(alloc, name, given),
-        None => Ok(Wanted::StandardInput),
+        None => Ok(input_wanted(alloc)),
     }
 }
 

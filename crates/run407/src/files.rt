@@ -4,8 +4,6 @@ ghost use Rattle.std.specs.Prelude.{◌≡◌, ◌≢◌, ◌⊎◌, IfErr};
 ghost use Rattle.std.specs.IoError.{error_kind};
 
 use commands::{Fault, read_whole};
-use decks_in_row::DecksInRow;
-use std::collections::VecDeque;
 use std::fs::File;
 use std::io::{ErrorKind, Read, Stdin};
 use std::os::unix::fs::{FileTypeExt, MetadataExt};
@@ -53,7 +51,15 @@ fn unopened<'a>(error: &io::Error, path: &'a str) -> Fault<'a>
     }
 }
 
-/// A file, opened, or standard input if its name is `-`.
+/// A file, opened, or standard input if its name is `-`. Its only error is that the file can't be opened.
+pub fn open_input(rt: &HostRuntime, path: &str) -> io::Result<Input> {
+    if path == STANDARD {
+        return Ok(Input::Standard(rt.stdin()));
+    }
+    Ok(Input::File(fs::open(rt, path)?))
+}
+
+/// A file, opened, or standard input, as [`open_input`] opens it.
 ///
 /// # Errors
 ///
@@ -61,36 +67,22 @@ fn unopened<'a>(error: &io::Error, path: &'a str) -> Fault<'a>
 pub fn open<'a>(rt: &HostRuntime, path: &'a str) -> Result<Input, Fault<'a>>
     ensures { IfErr result (λ told. (told ≡ Fault.Memory) ⊎ (told ≡ Fault.File path.entry)) }
 {
-    if path == STANDARD {
-        return Ok(Input::Standard(rt.stdin()));
-    }
-    match fs::open(rt, path) {
-        Ok(file) => Ok(Input::File(file)),
+    match open_input(rt, path) {
+        Ok(input) => Ok(input),
         Err(error) => Err(unopened(&error, path)),
     }
 }
 
-/// The bytes of a file.
+/// The bytes of a file, or none if no file is named.
 ///
 /// # Errors
 ///
 /// `File` if it can't be opened or read, `Memory` if a growth was refused.
-pub fn read<'a>(rt: &HostRuntime, path: &'a str) -> Result<Vec<u8>, Fault<'a>> {
-    read_whole(rt.alloc(), open(rt, path)?, path)
-}
-
-/// Decks in a row. All are opened before any byte is read.
-///
-/// # Errors
-///
-/// `File` of the first one that can't be opened, `Memory` if a growth was refused.
-pub fn open_all<'a>(rt: &HostRuntime, paths: &[&'a str]) -> Result<DecksInRow<Input>, Fault<'a>> {
-    let mut decks = VecDeque::new(rt.alloc());
-    for path in paths {
-        let deck = open(rt, path)?;
-        decks.push_back(deck).map_err(|_| Fault::Memory)?;
+pub fn read<'a>(rt: &HostRuntime, path: Option<&'a str>) -> Result<Vec<u8>, Fault<'a>> {
+    match path {
+        Some(path) => read_whole(rt.alloc(), open(rt, path)?, path),
+        None => Ok(Vec::new(rt.alloc())),
     }
-    Ok(DecksInRow::new(decks))
 }
 
 // To which file or pipe a path leads; none if it leads to a device or a socket, which may be read and written, or to nothing.

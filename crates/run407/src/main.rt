@@ -1,14 +1,12 @@
-//! The program `run407`: has what the words of the command line ask for done by `commands`, whose `serve` and `replay_by_orders` it offers
-//! too, by `whole_runs`, `panel_guides`, `browser_pages`, `sheets`, `check_calls`, `match_calls`, `text_lists`, `folding` and
-//! `guides`, on the files that they name. `command_line` reads the words.
+//! The program `run407`: `command_line` reads the words of the command line as a task of `cli_tasks`, and `cli_calls` does it, on the files
+//! that are opened here. It offers `serve` and `replay_by_orders` of `commands` too.
 #![tactic(auto)]
 
+mod decks;
 mod files;
-mod folds;
 mod obeying;
 mod output;
 mod release;
-mod running;
 mod watched;
 mod words;
 
@@ -24,7 +22,7 @@ use std::process::ExitCode;
 fn main(rt: HostRuntime) -> ExitCode {
     let status = match given_words(&rt) {
         Ok(words) => match read_words(&rt, VERSION, words.as_slice()) {
-            Ok(wanted) => match obey(&rt, wanted) {
+            Ok(wanted) => match obey(&rt, &wanted) {
                 Ok(done) => {
                     tell_more(&rt, done.status);
                     done.status

@@ -66,32 +66,17 @@ pub fn shows_both(rt: &HostRuntime) -> bool {
     rt.stdout().is_terminal() && rt.stderr().is_terminal()
 }
 
-// Tells why what the words ask for isn't done. If standard error can't be written, the status alone tells of it.
-fn tell_mistaken(rt: &HostRuntime, text: &[u8]) -> Ending
+/// Tells that the output is one of the files that are read. Answers status 2. If standard error can't be written, the status alone tells of it.
+pub fn tell_output_read(rt: &HostRuntime) -> Ending
     ensures { result.status ≡ 2 }
 {
-    let told = rt.stderr().write_all(text);
+    let told = rt
+        .stderr()
+        .write_all(b"error: --output names a file that is read\n");
     Ending {
         status: USAGE,
         is_told: told.is_ok(),
     }
-}
-
-/// Tells that a wiring chart is checked without a deck: only a planning chart says which cards are good. Answers status 2.
-pub fn tell_deck_of_wiring(rt: &HostRuntime) -> Ending
-    ensures { result.status ≡ 2 }
-{
-    tell_mistaken(
-        rt,
-        b"error: a wiring chart is checked without a deck; the columns of cards are checked with a planning chart\n",
-    )
-}
-
-/// Tells that the output is one of the files that are read. Answers status 2.
-pub fn tell_output_read(rt: &HostRuntime) -> Ending
-    ensures { result.status ≡ 2 }
-{
-    tell_mistaken(rt, b"error: --output names a file that is read\n")
 }
 
 /// Answers the status if the words ask for nothing that is still to be done. Want of memory, and that the help can't be written, are told

@@ -1,0 +1,3 @@
+pub mod Chosen
+pub mod Names
+pub mod Words
