@@ -4,7 +4,7 @@ ghost use Rattle.std.specs.Prelude.{◌≡◌, IfOk, codes};
 ghost use Rattle.clap.specs.Values.{kind_of};
 ghost use Rattle.cli_tasks.specs.Names.{IsTaskOf, word_of};
 
-use crate::parser::{COMMANDS, Word, parser};
+use crate::parser::{Word, commands, parser};
 use clap::error::ErrorKind;
 use clap::{ArgMatches, Error};
 use cli_tasks::{Fill, Pages, Task, check_task, match_task, page_named, replay_task, run_task};
@@ -293,10 +293,10 @@ fn input_wanted<'a>(alloc: Global) -> Wanted<'a>
 fn names_input_twice(words: &[Word], given: &ArgMatches) -> bool {
     let mut is_named = false;
     for word in words {
-        let Some(name) = word.input() else {
+        if !word.is_input() {
             continue;
-        };
-        for path in given.get_strs(name).unwrap_or(&[]) {
+        }
+        for path in given.get_strs(word.name).unwrap_or(&[]) {
             if *path == "-" {
                 if is_named {
                     return true;
@@ -310,7 +310,7 @@ fn names_input_twice(words: &[Word], given: &ArgMatches) -> bool {
 
 // The words that a command takes.
 fn words_of(name: &str) -> &'static [Word] {
-    match COMMANDS.iter().find(|row| row.name == name) {
+    match commands().iter().find(|row| row.name == name) {
         Some(row) => row.words,
         None => &[],
     }
