@@ -15,21 +15,17 @@
 //! Behind `show page` stands the page around which pages are shown. The rows of `show` are refused; its pages stand in `shown_cases`.
 //! Of a million cards the number of bytes printed stands in place of these.
 
-ghost use Rattle.std.specs.Prelude.{IfSome, IsSome};
-ghost use Rattle.card_code.specs.CardCode.{rows_of};
-
 use crate::answered::{Served, write_status};
 use allocate::CapacityFault;
 use anyhow::Result;
-use card_code::Column;
-use commands::{Fault, chart_and_deck, serve, tell};
+use cli_calls::do_task;
+use cli_tasks::{Fill, Pages, Task};
+use commands::{Fault, serve, tell};
 use devices::limited::{LimitedReader, LimitedWriter, Stop};
-use panel_guides::Place;
-use panel_guides::ledger_calls::Question;
+use program_io::chart_and_deck;
 use std::alloc::Global;
 use std::fs;
 use std::io::{Read, Write};
-use whole_runs::PageRange;
 
 // The words between parentheses, where a row's part is that.
 fn named(part: &str) -> Option<&str> {
@@ -127,24 +123,12 @@ impl RowDeck {
     }
 }
 
-// What a command gives where its output can't be written.
-fn serve_unwritable<R: Read + Drop>(alloc: Global, command: &str, text: &[u8], deck: R) -> Served {
-    let mut output = LimitedWriter::new(alloc, usize::MAX, Some(Stop::Fails { write: 1 }));
-    let mut told = Vec::new(alloc);
-    let status = serve(
-        alloc,
-        command,
-        text,
-        "my.deck",
-        deck,
-        &mut output,
-        &mut told,
-    );
-    Served {
-        output: Vec::new(alloc),
-        told,
-        status,
-    }
+// A wheel of a line of a page.
+#[derive(Clone, Copy)]
+struct Place {
+    page: u64,
+    line: u32,
+    wheel: u32,
 }
 
 // The wheel of a line that three numbers name.
@@ -161,106 +145,142 @@ fn place_of(words: &str) -> Option<Place> {
     }
 }
 
-// What a command tells of a wheel, and of which one.
-fn told_at(command: &str) -> Option<(Question, Place)> {
-    if let Some(place) = command.strip_prefix("ledger ").and_then(place_of) {
-        return Some((Question::Ledger { all: false }, place));
-    }
-    if let Some(place) = command.strip_prefix("ledger --all ").and_then(place_of) {
-        return Some((Question::Ledger { all: true }, place));
-    }
-    if let Some(place) = command.strip_prefix("explain --whole ").and_then(place_of) {
-        return Some((Question::Explanation { whole: true }, place));
-    }
-    let place = command.strip_prefix("explain ").and_then(place_of)?;
-    Some((Question::Explanation { whole: false }, place))
+// The sum behind the figure on a wheel.
+fn ledger_of(words: &str, all: bool) -> Option<Task> {
+    let Place { page, line, wheel } = place_of(words)?;
+    Some(Task::Ledger {
+        page,
+        line,
+        wheel,
+        all,
+    })
 }
 
-// What a replay by orders gives.
-fn by_orders<R: Read + Drop>(
-    rt: &HostRuntime,
-    wiring: &[u8],
-    orders: &str,
-    deck: R,
-) -> Result<Served> {
-    let orders = bytes_of(rt, orders)?;
-    Ok(Served::by_orders(rt.alloc(), wiring, orders.as_slice(), deck))
+// Why a wheel printed its character.
+fn explanation_of(words: &str, whole: bool) -> Option<Task> {
+    let Place { page, line, wheel } = place_of(words)?;
+    Some(Task::Explain {
+        page,
+        line,
+        wheel,
+        whole,
+    })
 }
 
 // The pages from one number to another, or all.
-fn pages_of(words: &str) -> Option<PageRange> {
+fn pages_of(words: &str) -> Option<Task> {
     if words == "all" {
-        return Some(PageRange::all());
+        return Some(Task::RunWhole);
     }
     let Some((first, last)) = words.split_once(' ') else {
         return None;
     };
     match (first.parse(), last.parse()) {
-        (Ok(first), Ok(last)) => Some(PageRange { first, last }),
+        (Ok(first), Ok(last)) => Some(Task::RunPages {
+            pages: Pages { first, last },
+        }),
         _ => None,
     }
 }
 
-// The character that a fold puts for what no card has, if it is one of a card.
-fn fill_of(word: &str) -> Option<u8>
-    ensures { IfSome result (λ byte. IsSome (rows_of byte)) }
-{
-    match word.as_bytes() {
-        [byte] if Column::of_char(char::from(*byte)).is_some() => Some(*byte),
-        _ => None,
-    }
+// A text as a deck, with a character for what no card has.
+fn folded(word: &str) -> Option<Task> {
+    let fill = Fill::named(word)?;
+    Some(Task::Fold { fill })
 }
 
-// A text, folded; nothing is done if the character is none of a card.
-fn folded(alloc: Global, text: &[u8], fill: &str) -> Served {
-    match fill_of(fill) {
-        Some(fill) => Served::fold(alloc, text, fill),
-        None => Served::new(alloc),
-    }
-}
-
-// What a command gives that may have more words behind it.
-fn worded<R: Read + Drop>(rt: &HostRuntime, command: &str, text: &[u8], deck: R) -> Result<Served> {
-    let alloc = rt.alloc();
-    if let Some(orders) = command.strip_prefix("replay --orders ") {
-        return by_orders(rt, text, orders, deck);
-    }
+// What a command asks for that has numbers, pages or a character behind it.
+fn worded(command: &str) -> Option<Task> {
     if let Some(number) = command.strip_prefix("fault ") {
-        return Ok(Served::of_fault(alloc, number.parse()?));
+        let number = number.parse().ok()?;
+        return Some(Task::Fault { number });
     }
     if let Some(fill) = command.strip_prefix("fold ") {
-        return Ok(folded(alloc, text, fill));
+        return folded(fill);
     }
-    if let Some(pages) = command.strip_prefix("run pages ").and_then(pages_of) {
-        return Ok(Served::run_pages(alloc, text, deck, pages));
+    if let Some(pages) = command.strip_prefix("run pages ") {
+        return pages_of(pages);
     }
     if let Some(page) = command.strip_prefix("show page ") {
-        return Ok(Served::show(alloc, text, deck, Some(page.parse()?)));
+        let around = Some(page.parse().ok()?);
+        return Some(Task::Show { around });
     }
     if let Some(card) = command.strip_prefix("fields ") {
-        return Ok(Served::fields(alloc, text, deck, card.parse()?));
+        let card = card.parse().ok()?;
+        return Some(Task::Fields { card });
     }
-    match told_at(command) {
-        Some((question, place)) => Ok(Served::tell(alloc, text, deck, place, question)),
-        None => Ok(Served::of(alloc, command, text, deck)),
+    told_at(command)
+}
+
+// What a command asks for that tells of a wheel.
+fn told_at(command: &str) -> Option<Task> {
+    if let Some(place) = command.strip_prefix("ledger --all ") {
+        return ledger_of(place, true);
+    }
+    if let Some(place) = command.strip_prefix("ledger ") {
+        return ledger_of(place, false);
+    }
+    if let Some(place) = command.strip_prefix("explain --whole ") {
+        return explanation_of(place, true);
+    }
+    explanation_of(command.strip_prefix("explain ")?, false)
+}
+
+// What a command asks for.
+fn task_of(command: &str) -> Option<Task> {
+    match command {
+        "run" => Some(Task::Run),
+        "(standard input)" => Some(Task::RunTogether),
+        "check" => Some(Task::Check),
+        "check all" => Some(Task::ListFaults),
+        "check deck" => Some(Task::CheckDeck),
+        "check groups" => Some(Task::GroupDeck),
+        "check all deck" => Some(Task::ShowDeck),
+        "wire" => Some(Task::Wire),
+        "replay" => Some(Task::Replay),
+        "upgrade" => Some(Task::Upgrade),
+        "layout" => Some(Task::Layout),
+        "legend" => Some(Task::Legend),
+        "fold" => folded(" "),
+        "trace" => Some(Task::Trace),
+        "show" => Some(Task::Show { around: None }),
+        _ => worded(command),
     }
 }
 
-// What a command gives.
-fn answer<R: Read + Drop>(rt: &HostRuntime, command: &str, text: &[u8], deck: R) -> Result<Served> {
-    let alloc = rt.alloc();
-    match command {
-        "layout" => Ok(Served::layout(alloc, text)),
-        "legend" => Ok(Served::legend(alloc, text)),
-        "fold" => Ok(folded(alloc, text, " ")),
-        "trace" => Ok(Served::trace(alloc, text, deck)),
-        "check all" => Ok(Served::list_faults(alloc, text)),
-        "check deck" => Ok(Served::check_deck(alloc, text, deck)),
-        "check groups" => Ok(Served::check_groups(alloc, text, deck)),
-        "check all deck" => Ok(Served::show_deck(alloc, text, deck)),
-        "show" => Ok(Served::show(alloc, text, deck, None)),
-        _ => worded(rt, command, text, deck),
-    }
+// What a word that is no command gives.
+fn mistaken(alloc: Global, command: &str) -> Served {
+    let mut served = Served::new(alloc);
+    let no_deck = b"".as_slice();
+    served.status = serve(
+        alloc,
+        command,
+        b"",
+        "my.deck",
+        no_deck,
+        &mut served.output,
+        &mut served.told,
+    );
+    served
+}
+
+// What a command gives if its output can't be written.
+fn done_unwritable<R: Read + Drop>(alloc: Global, task: Task, text: &[u8], deck: R) -> Served {
+    let mut served = Served::new(alloc);
+    let mut output = LimitedWriter::new(alloc, usize::MAX, Some(Stop::Fails { write: 1 }));
+    let ending = do_task(
+        alloc,
+        task,
+        text,
+        b"",
+        "my.deck",
+        deck,
+        false,
+        &mut output,
+        &mut served.told,
+    );
+    served.status = ending.status;
+    served
 }
 
 // A row: its command, its text, and its deck with all after that.
@@ -287,26 +307,31 @@ fn row_of(line: &str) -> Option<Row<'_>> {
 
 // What the command of a row gives on a text.
 fn row_answer(rt: &HostRuntime, row: Row, text: &[u8]) -> Result<Served> {
-    if let Some(deck) = row.deck.strip_suffix("|(unwritable)") {
-        let deck = RowDeck::of(rt, deck)?;
-        return Ok(serve_unwritable(rt.alloc(), row.command, text, deck.reader()));
+    let alloc = rt.alloc();
+    let (deck, is_unwritable) = match row.deck.strip_suffix("|(unwritable)") {
+        Some(deck) => (deck, true),
+        None => (row.deck, false),
+    };
+    let deck = RowDeck::of(rt, deck)?;
+    if let Some(orders) = row.command.strip_prefix("replay --orders ") {
+        let orders = bytes_of(rt, orders)?;
+        let task = Task::ReplayByOrders;
+        return Ok(Served::on(alloc, task, text, orders.as_slice(), deck.reader()));
     }
-    let deck = RowDeck::of(rt, row.deck)?;
     if row.command == "run decks" {
-        return Served::run_decks(rt.alloc(), text, deck.cards.as_slice());
+        return Served::run_decks(alloc, text, deck.cards.as_slice());
     }
-    answer(rt, row.command, text, deck.reader())
+    match task_of(row.command) {
+        Some(task) if is_unwritable => Ok(done_unwritable(alloc, task, text, deck.reader())),
+        Some(task) => Ok(Served::of(alloc, task, text, deck.reader())),
+        None => Ok(mistaken(alloc, row.command)),
+    }
 }
 
 fn write_lengths<W: Write>(out: &mut W, text: &[u8]) -> Result<()> {
     let (chart, cards) = chart_and_deck(text);
     writeln!(out, "chart {} deck {}", chart.len(), cards.len())?;
     Ok(())
-}
-
-fn run_standard_input(alloc: Global, text: &[u8]) -> Served {
-    let (chart, cards) = chart_and_deck(text);
-    Served::of(alloc, "run", chart, cards)
 }
 
 // Writes how many bytes were printed, and the rest.
@@ -328,9 +353,6 @@ fn write_for<W: Write>(rt: &HostRuntime, out: &mut W, row: Row) -> Result<()> {
     let text = bytes_of(rt, row.text)?;
     match row.command {
         "(divide)" => write_lengths(out, text.as_slice()),
-        "(standard input)" => run_standard_input(rt.alloc(), text.as_slice()).write_with_status(
-            out,
-        ),
         _ => write_answer(rt, out, row, text.as_slice()),
     }
 }

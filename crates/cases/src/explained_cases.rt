@@ -13,6 +13,7 @@ use crate::walked_pages::{Walked, explain_pages};
 use crate::walked_ways::Ground;
 use anyhow::Result;
 use card_code::read_deck;
+use cli_tasks::Task;
 use compile407::{Compiled, compile};
 use legend::line_setups;
 use setups::Setup;
@@ -49,16 +50,16 @@ impl Printed {
     fn of(alloc: Global, example: &Example) -> Result<Printed> {
         let chart = example.text.as_bytes();
         Ok(Printed {
-            pages: text_of(alloc, "run", chart, example.deck.as_bytes())?,
-            wiring: text_of(alloc, "wire", chart, b"")?,
-            legend: String::from_utf8(Served::legend(alloc, chart).output)?,
+            pages: text_of(alloc, Task::Run, chart, example.deck.as_bytes())?,
+            wiring: text_of(alloc, Task::Wire, chart, b"")?,
+            legend: text_of(alloc, Task::Legend, chart, b"")?,
         })
     }
 }
 
-// What a command gives on a text and a deck, as a text.
-fn text_of(alloc: Global, command: &str, text: &[u8], deck: &[u8]) -> Result<String> {
-    Ok(String::from_utf8(Served::of(alloc, command, text, deck).output)?)
+// What a task gives on a text and a deck, as a text.
+fn text_of(alloc: Global, task: Task, text: &[u8], deck: &[u8]) -> Result<String> {
+    Ok(String::from_utf8(Served::of(alloc, task, text, deck).output)?)
 }
 
 fn write_walked<W: Write>(out: &mut W, name: &str, walked: Walked) -> Result<()> {

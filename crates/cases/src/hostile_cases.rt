@@ -1,10 +1,11 @@
-//! Gives commands texts that are cut after each byte, and texts with each of the 256 bytes in a place, and tells where what is told of
+//! Gives tasks texts that are cut after each byte, and texts with each of the 256 bytes in a place, and tells where what is told of
 //! them changes.
 //!
 //! Before each answer stands the number of bytes, or the byte, from which on it is told; `done` is told of a text that is not refused.
 
 use crate::answered::Served;
 use anyhow::Result;
+use cli_tasks::Task;
 use std::alloc::Global;
 use std::fs;
 use std::io::Write;
@@ -12,16 +13,10 @@ use std::io::Write;
 /// What is done with the text of a file.
 #[derive(Clone, Copy)]
 pub enum Trial {
-    /// A command is given the text cut after each of its bytes, and a deck.
-    Cut {
-        command: &'static str,
-        deck: &'static str,
-    },
-    /// A command is given the text with each byte in front of the other bytes.
-    Behind {
-        command: &'static str,
-        after: &'static str,
-    },
+    /// A task is given the text cut after each of its bytes, and a deck.
+    Cut { task: Task, deck: &'static str },
+    /// A task is given the text with each byte in front of the other bytes.
+    Behind { task: Task, after: &'static str },
     /// Each byte is a deck of one card.
     Card,
 }
@@ -62,42 +57,36 @@ fn write_told<W: Write>(out: &mut W, number: usize, told: &[u8]) -> Result<()> {
 fn write_cuts<W: Write>(
     alloc: Global,
     out: &mut W,
-    command: &str,
+    task: Task,
     text: &[u8],
     deck: &[u8],
 ) -> Result<()> {
     let mut changes = Changes::new(alloc);
     for (end, _) in text.iter().enumerate() {
-        let told = Served::of(alloc, command, &text[..end], deck).told;
+        let told = Served::of(alloc, task, &text[..end], deck).told;
         changes.write(out, end, told)?;
     }
-    let told = Served::of(alloc, command, text, deck).told;
+    let told = Served::of(alloc, task, text, deck).told;
     changes.write(out, text.len(), told)
 }
 
-// What a command tells of a text with a byte and other bytes after it.
-fn told_with(
-    alloc: Global,
-    command: &str,
-    before: &[u8],
-    byte: u8,
-    after: &[u8],
-) -> Result<Vec<u8>> {
+// What a task tells of a text with a byte and other bytes after it.
+fn told_with(alloc: Global, task: Task, before: &[u8], byte: u8, after: &[u8]) -> Result<Vec<u8>> {
     let whole = [before, &[byte], after].concat(alloc)?;
-    Ok(Served::of(alloc, command, whole.as_slice(), b"\n".as_slice()).told)
+    Ok(Served::of(alloc, task, whole.as_slice(), b"\n".as_slice()).told)
 }
 
 // What is told of a text with each byte between two parts of it.
 fn write_bytes<W: Write>(
     alloc: Global,
     out: &mut W,
-    command: &str,
+    task: Task,
     before: &[u8],
     after: &[u8],
 ) -> Result<()> {
     let mut changes = Changes::new(alloc);
     for byte in 0..=255u8 {
-        let told = told_with(alloc, command, before, byte, after)?;
+        let told = told_with(alloc, task, before, byte, after)?;
         changes.write(out, usize::from(byte), told)?;
     }
     Ok(())
@@ -107,7 +96,7 @@ fn write_bytes<W: Write>(
 fn write_decks<W: Write>(alloc: Global, out: &mut W, chart: &[u8]) -> Result<()> {
     let mut changes = Changes::new(alloc);
     for byte in 0..=255u8 {
-        let told = Served::of(alloc, "run", chart, [byte, b'\n'].as_slice()).told;
+        let told = Served::of(alloc, Task::Run, chart, [byte, b'\n'].as_slice()).told;
         changes.write(out, usize::from(byte), told)?;
     }
     Ok(())
@@ -116,10 +105,8 @@ fn write_decks<W: Write>(alloc: Global, out: &mut W, chart: &[u8]) -> Result<()>
 // Writes what is told of a text.
 fn write_for<W: Write>(alloc: Global, out: &mut W, trial: Trial, text: &[u8]) -> Result<()> {
     match trial {
-        Trial::Cut { command, deck } => write_cuts(alloc, out, command, text, deck.as_bytes()),
-        Trial::Behind { command, after } => {
-            write_bytes(alloc, out, command, text, after.as_bytes())
-        }
+        Trial::Cut { task, deck } => write_cuts(alloc, out, task, text, deck.as_bytes()),
+        Trial::Behind { task, after } => { write_bytes(alloc, out, task, text, after.as_bytes()) }
         Trial::Card => write_decks(alloc, out, text),
     }
 }

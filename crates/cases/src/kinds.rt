@@ -11,6 +11,7 @@ use crate::shown_cases::write_shown;
 use crate::upgrade_cases::write_upgrade;
 use crate::wiring_cases::write_wiring;
 use anyhow::Result;
+use cli_tasks::Task;
 use std::fs;
 use std::io::Write;
 
@@ -80,19 +81,19 @@ static PARTS: [Part; 45] = [
     Part::Told,
     Part::Heading("== hostile"),
     Part::Heading("bolts.chart cut after each byte"),
-    Part::Trial("commands/bolts.chart", Trial::Cut { command: "check", deck: "" }),
+    Part::Trial("commands/bolts.chart", Trial::Cut { task: Task::Check, deck: "" }),
     Part::Heading("three-levels-and-a-grand-total.chart cut after each byte"),
-    Part::Trial("reports/three-levels-and-a-grand-total.chart", Trial::Cut { command: "check", deck: "" }),
+    Part::Trial("reports/three-levels-and-a-grand-total.chart", Trial::Cut { task: Task::Check, deck: "" }),
     Part::Heading("one_total.wiring cut after each byte"),
-    Part::Trial("panels/one_total.wiring", Trial::Cut { command: "replay", deck: "005\n" }),
+    Part::Trial("panels/one_total.wiring", Trial::Cut { task: Task::Replay, deck: "005\n" }),
     Part::Heading("hand_wiring_with_a_pilot_loop.wiring cut after each byte"),
-    Part::Trial("panels/hand_wiring_with_a_pilot_loop.wiring", Trial::Cut { command: "replay", deck: "12\n" }),
+    Part::Trial("panels/hand_wiring_with_a_pilot_loop.wiring", Trial::Cut { task: Task::Replay, deck: "12\n" }),
     Part::Heading("bolts.chart and each byte"),
-    Part::Trial("commands/bolts.chart", Trial::Behind { command: "check", after: "" }),
+    Part::Trial("commands/bolts.chart", Trial::Behind { task: Task::Check, after: "" }),
     Part::Heading("CHART407, each byte, 1 and the end"),
-    Part::Trial("hostile/first_word", Trial::Behind { command: "check", after: "1\nEND\n" }),
+    Part::Trial("hostile/first_word", Trial::Behind { task: Task::Check, after: "1\nEND\n" }),
     Part::Heading("one_total.wiring and each byte"),
-    Part::Trial("panels/one_total.wiring", Trial::Behind { command: "replay", after: "" }),
+    Part::Trial("panels/one_total.wiring", Trial::Behind { task: Task::Replay, after: "" }),
     Part::Heading("a card of each byte"),
     Part::Trial("commands/bolts.chart", Trial::Card),
     Part::Heading("== explained"),

@@ -7,30 +7,36 @@
 use crate::answered::Served;
 use crate::case_files::read_case;
 use anyhow::Result;
-use match_calls::match_texts::Telling;
+use cli_tasks::Task;
 use std::fs;
 use std::io::Write;
 
 // What a match with a chart gives.
-fn matched(rt: &HostRuntime, telling: Telling, wiring: &[u8], chart: &str) -> Result<Served> {
+fn matched(rt: &HostRuntime, task: Task, wiring: &[u8], chart: &str) -> Result<Served> {
     let chart = fs::read(rt, chart)?;
-    Ok(Served::matching(rt.alloc(), telling, chart.as_slice(), wiring))
+    Ok(Served::on(rt.alloc(), task, chart.as_slice(), wiring, b"".as_slice()))
 }
 
 // What a match with a chart and a deck gives.
 fn matched_deck(rt: &HostRuntime, wiring: &[u8], chart: &str, deck: &str) -> Result<Served> {
     let chart = fs::read(rt, chart)?;
     let cards = fs::read(rt, deck)?;
-    Ok(Served::matching_deck(rt.alloc(), chart.as_slice(), wiring, cards.as_slice()))
+    Ok(Served::on(
+        rt.alloc(),
+        Task::MatchDeck,
+        chart.as_slice(),
+        wiring,
+        cards.as_slice(),
+    ))
 }
 
 // Writes what is found of a panel, beside a chart or a chart and a deck.
 fn write_found<W: Write>(rt: &HostRuntime, out: &mut W, name: &str, given: &str) -> Result<()> {
     let wiring = read_case(rt, "matches", name, "wiring")?;
     let served = match given.split_once('|') {
-        Some((chart, "(hint)")) => matched(rt, Telling::Hints, wiring.as_slice(), chart),
+        Some((chart, "(hint)")) => matched(rt, Task::MatchHints, wiring.as_slice(), chart),
         Some((chart, deck)) => matched_deck(rt, wiring.as_slice(), chart, deck),
-        None => matched(rt, Telling::Wires, wiring.as_slice(), given),
+        None => matched(rt, Task::Match, wiring.as_slice(), given),
     };
     served?.write_with_status(out)
 }

@@ -8,24 +8,25 @@
 use crate::answered::Served;
 use crate::case_files::Case;
 use anyhow::{Result, bail};
+use cli_tasks::Task;
 use std::alloc::Global;
 use std::io::Write;
 
 // The wiring chart of a chart.
 fn wired(alloc: Global, case: &Case) -> Served {
-    Served::of(alloc, "wire", case.text.as_slice(), b"".as_slice())
+    Served::of(alloc, Task::Wire, case.text.as_slice(), b"".as_slice())
 }
 
 // Whether the machine that is wired as a wiring chart says prints these pages.
 fn prints(alloc: Global, wiring: &[u8], deck: &[u8], pages: &[u8]) -> bool {
-    let replayed = Served::of(alloc, "replay", wiring, deck);
+    let replayed = Served::of(alloc, Task::Replay, wiring, deck);
     replayed.status == 0 && replayed.output.as_slice() == pages
 }
 
 // Writes what is printed or told of the deck of a chart.
 fn write_printed<W: Write>(alloc: Global, out: &mut W, case: &Case, wiring: &[u8]) -> Result<()> {
     let deck = case.deck.as_slice();
-    let printed = Served::of(alloc, "run", case.text.as_slice(), deck);
+    let printed = Served::of(alloc, Task::Run, case.text.as_slice(), deck);
     if printed.status != 0 {
         out.write_all(printed.told.as_slice())?;
         return Ok(());

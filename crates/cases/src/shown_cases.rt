@@ -7,6 +7,7 @@
 use crate::answered::Served;
 use crate::case_files::Case;
 use anyhow::Result;
+use cli_tasks::Task;
 use std::io::Write;
 
 // The name of a case, and the page around which pages are shown, if there is one.
@@ -21,11 +22,7 @@ fn around_of(name: &str) -> Result<(&str, Option<u32>)> {
 pub fn write_shown<W: Write>(rt: &HostRuntime, out: &mut W, name: &str) -> Result<()> {
     let (name, around) = around_of(name)?;
     let case = Case::read(rt, "shown", name, "text")?;
-    let served = Served::show(
-        rt.alloc(),
-        case.text.as_slice(),
-        case.deck.as_slice(),
-        around,
-    );
+    let task = Task::Show { around };
+    let served = Served::of(rt.alloc(), task, case.text.as_slice(), case.deck.as_slice());
     served.write_with_status(out)
 }

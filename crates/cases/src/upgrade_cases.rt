@@ -6,6 +6,7 @@
 use crate::answered::Served;
 use crate::case_files::read_case;
 use anyhow::Result;
+use cli_tasks::Task;
 use std::alloc::Global;
 use std::io::Write;
 
@@ -17,8 +18,8 @@ fn write_replays<W: Write>(
     then: &[u8],
     deck: &[u8],
 ) -> Result<()> {
-    Served::of(alloc, "replay", before, deck).write(out)?;
-    Served::of(alloc, "replay", then, deck).write(out)
+    Served::of(alloc, Task::Replay, before, deck).write(out)?;
+    Served::of(alloc, Task::Replay, then, deck).write(out)
 }
 
 // Writes what an upgrade of a wiring chart gives, and its pages twice where it is not refused.
@@ -28,7 +29,7 @@ fn write_upgraded<W: Write>(
     name: &str,
     wiring: &[u8],
 ) -> Result<()> {
-    let upgraded = Served::of(rt.alloc(), "upgrade", wiring, b"".as_slice());
+    let upgraded = Served::of(rt.alloc(), Task::Upgrade, wiring, b"".as_slice());
     upgraded.write(out)?;
     if upgraded.status != 0 {
         return Ok(());

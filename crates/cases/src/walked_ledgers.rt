@@ -6,8 +6,7 @@ use crate::walked_texts::{
 };
 use crate::walked_ways::Ground;
 use anyhow::{Result, bail};
-use panel_guides::Place;
-use panel_guides::ledger_calls::Question;
+use cli_tasks::Task;
 use std::alloc::Global;
 
 /// What was walked: figures that have a ledger, entries of ledgers, and holes of cards that made them.
@@ -318,8 +317,13 @@ pub fn walk_ledgers(alloc: Global, ground: &Ground, pages: &str) -> Result<Sums>
             line = line.saturating_add(1);
             for wheel in 1..121u32 {
                 if let Some(figure) = figure_ending_at(printed, wheel) {
-                    let place = Place { page, line, wheel };
-                    walk_figure(alloc, ground, place, figure, &mut sums)?;
+                    let task = Task::Ledger {
+                        page,
+                        line,
+                        wheel,
+                        all: true,
+                    };
+                    walk_figure(alloc, ground, task, figure, &mut sums)?;
                 }
             }
         }
@@ -327,17 +331,16 @@ pub fn walk_ledgers(alloc: Global, ground: &Ground, pages: &str) -> Result<Sums>
     Ok(sums)
 }
 
-// Walks the ledger of a figure, if it has one: a figure that is no sum has none.
+// Walks the ledger of a figure, which a task tells, if it has one: a figure that is no sum has none.
 fn walk_figure(
     alloc: Global,
     ground: &Ground,
-    place: Place,
+    task: Task,
     figure: u64,
     sums: &mut Sums,
 ) -> Result<()> {
     let chart = ground.chart.as_bytes();
-    let question = Question::Ledger { all: true };
-    let served = Served::tell(alloc, chart, ground.deck.as_bytes(), place, question);
+    let served = Served::of(alloc, task, chart, ground.deck.as_bytes());
     let ledger = String::from_utf8(served.output)?;
     if ledger.starts_with("ledger of ") {
         return walk_ledger(ground, ledger.as_str(), figure, sums);
