@@ -11,9 +11,10 @@
 //! The crate stands on `card_code`, which says what a line and a card are, and on `devices`, whose sources it offers too.
 #![tactic(auto)]
 
-mod buffer;
+mod block;
 mod fault;
 mod front;
+mod held;
 mod reading;
 
 pub use devices::{DeviceFailed, FromRead, Source};
