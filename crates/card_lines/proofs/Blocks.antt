@@ -1,6 +1,6 @@
 -- Bytes between two places of an array, and bytes that a read brings.
 use Rattle.std.proofs.Common.{◌≡◌, ◌∙◌, ℕ, ◌+◌, ◌-◌, ◌≤◌, List, ◌++◌, length, take, drop, slice_range, Option, Some, None, sym, ap, arith, append_assoc, length-take, length-drop}
-use Rattle.std.proofs.Math.Seq.{drop-drop, take-append-add, take-append-le}
+use Rattle.std.proofs.Math.Seq.{drop-drop}
 use Rattle.std.proofs.lemmas.List.{drop-take}
 use Rattle.std.specs.Io.KnownBytes.{Keeps, prepend_known}
 

@@ -1,12 +1,12 @@
 -- A line that was cut from the front of what came.
-use Rattle.std.proofs.Common.{◌≡◌, ◌≢◌, ◌∙◌, ℕ, zero, suc, ◌+◌, ◌-◌, ◌<◌, ◌≤◌, ◌==◌, ◌⊎◌, inl, inr, false, true, List, [], ◌∷◌, Option, Some, None, is_some, slice_get, ◌++◌, length, take, drop, get_or, refl, sym, ap, subst, arith, cond, append-nil, append_assoc, length-append, length-take, length-drop, take-append-drop}
+use Rattle.std.proofs.Common.{◌≡◌, ◌≢◌, ◌∙◌, ℕ, suc, ◌+◌, ◌-◌, ◌<◌, ◌≤◌, ◌==◌, ◌⊎◌, inl, inr, false, true, List, [], ◌∷◌, Option, Some, None, is_some, slice_get, ◌++◌, length, take, drop, get_or, refl, sym, ap, subst, arith, cond, append-nil, append_assoc, length-append, length-take, length-drop, take-append-drop}
 use Rattle.std.proofs.Math.Seq.{drop-append-add, get_or-append_right, get_or-append_seam, get_or-take, take-append_seam}
 use Rattle.std.proofs.lemmas.List.{get_or-drop}
 use Rattle.std.proofs.Math.ListN.{get_or-append}
 use Rattle.std.proofs.lemmas.Bool.{false≢true}
 use Rattle.std.proofs.lemmas.Bool.Decides.{nat_tests}
 use Rattle.card_lines.proofs.Numbers.{below_or_not}
-use Rattle.card_lines.specs.Front.{IsCut, IsLine, IsPart, IsTooLong, line_end}
+use Rattle.card_lines.specs.Front.{IsCut, IsLine, IsPart, line_end}
 
 -- a line without LF goes on with what comes behind it
 pub end_behind : (line behind : List ℕ) → ((place : ℕ) → place < length line → get_or line place 0 ≢ 10)

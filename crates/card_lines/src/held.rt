@@ -15,7 +15,8 @@ use std::marker::Model;
 // The most bytes of a card's line before its LF: 80 characters and a CR.
 const LONGEST: usize = 81;
 
-// The bytes held: the line being read, as far as it came and has room, and what comes behind it in the block that it was cut from.
+// The bytes held: those of the line being read that came and have room, without its LF, and what the block that they were cut from has
+// behind them.
 #[derive(Drop)]
 pub(crate) struct Held {
     line: ArrayVec<u8, LONGEST>,
@@ -53,18 +54,19 @@ impl Held {
         }
     }
 
-    // The line at the front without its LF, if it isn't too long.
+    // The line at the front without its LF, where it isn't too long.
     pub(crate) fn line(&self) -> &[u8]
         ensures { line_end self.now ≤ LONGEST → result.now ≡ take (line_end self.now) self.now }
     {
         self.line.as_slice()
     }
 
-    // Takes the line at the front off, and its LF if it has one.
+    // Takes the line at the front off, with its LF if it has one, and cuts the next one.
     pub(crate) fn use_up_line(&mut self)
         requires { line_end self.old ≤ LONGEST }
         ensures { self.new ≡ drop (line_end self.old + 1) self.old }
     {
+        // A new one is faster than to clear the old one, which writes byte by byte.
         self.line = ArrayVec::new();
         if !self.block.bytes().is_empty() {
             self.block.use_up(1);
@@ -72,7 +74,7 @@ impl Held {
         cut(&mut self.line, &mut self.block);
     }
 
-    // Reads once, where a part of a line is held; answers how many bytes came. None come only at the end.
+    // Reads once, where a part of a line is held, which goes on with what comes; answers how many bytes came. None come only at the end.
     pub(crate) fn read_more<S: Source>(&mut self, source: &mut S) -> Result<usize, DeviceFailed>
         requires { IsPart self.old }
         ensures text { Keeps (prepend_known self.old (S.left source.old)) (prepend_known self.new (S.left source.new)) }

@@ -1,4 +1,4 @@
-use Rattle.std.proofs.Common.{◌≡◌, ◌∙◌, ◌++◌, ap, drop, subst, sym}
+use Rattle.std.proofs.Common.{◌∙◌, ◌++◌, ap, drop, subst, sym}
 use Rattle.card_lines.proofs.Cuts.{cut_on, cut_stays}
 use Rattle.card_lines.proofs.held.cut.Goals as goal
 use Rattle.card_lines.specs.Front.{IsCut}

@@ -72,8 +72,7 @@ pub returns-in-Part-clause-at_end : goal.returns-in-Part-clause-at_end
 returns-in-Part-clause-at_end g c =
     let part = subst (IsFront c.fill.new.self.held) c.in-Part.is c.in-Ok.ensures.front in
     let held = ap (λ r. r.held) c.self.view_is in
-    let line = c.without_cr.ensures.line ∙ ap without_cr (line_of_part c.self.inside.held _ (subst IsPart (sym held) part) c.line.ensures ∙ held) in
-    (
+    let line = c.without_cr.ensures.line ∙ ap without_cr (line_of_part c.self.inside.held _ (subst IsPart (sym held) part) c.line.ensures ∙ held) in (
       c.in-Ok.ensures.end c.in-Part.is,
       nil_from_length _ (subst (λ (l : List ℕ). length l ≡ 0) line (grind (arith, nat_tests, c.if-is_empty.ensures))),
     )
