@@ -6,7 +6,7 @@ use Rattle.std.proofs.lemmas.Bool.Decides.{nat_tests}
 use Rattle.card_code.proofs.Pieces.{lines_at_first, lines_of_last}
 use Rattle.card_code.specs.Lines.{lines_of, without_cr}
 use Rattle.card_lines.proofs.Numbers.{below_or_not, equal_or_not}
-use Rattle.card_lines.specs.Front.{IsLine, IsTooLong}
+use Rattle.card_lines.specs.Front.{IsLine, IsTooLong, line_end}
 use Rattle.card_lines.specs.Reading.{HasFirstLine}
 
 -- no LF in some bytes
@@ -139,8 +139,9 @@ module _ (held rest : List ℕ) (front : IsTooLong held) where
         }
 
 -- a whole line that is held is the first line
-pub held_line : (held rest : List ℕ) (end : ℕ) → IsLine held end → HasFirstLine held end (end + 1) rest
-held_line held rest end at =
+pub held_line : (held rest : List ℕ) → IsLine held (line_end held) → HasFirstLine held rest
+held_line held rest at =
+    let end = line_end held in
     lines_at_first (held ++ rest) _ _ end (omega (arith, length-append held rest, at.within))
     (get_or-append held rest 0 end at.within ∙ at.found)
     (λ place below ten. at.before place below (sym (get_or-append held rest 0 place (omega (arith, below, at.within))) ∙ ten))

@@ -1,6 +1,6 @@
 pub mod Numbers
-pub mod Buffers
-pub mod Fronts
+pub mod Blocks
+pub mod Cuts
 pub mod FirstLines
 pub mod Next
 pub mod Filling

@@ -1,7 +1,7 @@
 -- The next card, or the fault in its place.
-use Rattle.std.proofs.Common.{◌≡◌, ◌∙◌, ℕ, ◌+◌, ◌<◌, List, [], ◌∷◌, ◌++◌, length, take, drop, Option, Some, None, Result, Ok, Err, OnOk, IfSome, is_some, refl, sym, ap, subst, arith, append-nil, append_assoc, take-append-drop}
-use Rattle.std.proofs.Math.Seq.{take-length, drop-length}
-use Rattle.std.proofs.lemmas.List.{drop_more}
+use Rattle.std.proofs.Common.{◌≡◌, ◌∙◌, ℕ, ◌+◌, ◌<◌, ◌≤◌, List, [], ◌∷◌, ◌++◌, length, take, drop, Option, Some, None, Result, Ok, Err, OnOk, IfSome, is_some, refl, sym, ap, subst, arith, append-nil, append_assoc, take-append-drop}
+use Rattle.std.proofs.Math.Seq.{take-length}
+use Rattle.std.proofs.lemmas.List.{drop_all, drop_more}
 use Rattle.std.proofs.lemmas.Bool.Decides.{nat_tests}
 use Rattle.std.proofs.lemmas.Bool.{false≢true}
 use Rattle.std.specs.Io.KnownBytes.{IsAtEnd, Keeps, prepend_known}
@@ -11,9 +11,10 @@ use Rattle.card_code.specs.Deck.{HasCharacters, IsCardOf, HasLineFault}
 use Rattle.card_code.specs.Lines.{lines_of, without_cr}
 use Rattle.card_code.specs.declared.deck.DeckFault.{DeckFault}
 use Rattle.card_code.specs.declared.deck.DeckFault.TheVariants.{CardTooLong, NoSuchCharacter, TooManyCards, Memory}
+use Rattle.card_lines.proofs.Cuts.{end_of_all}
 use Rattle.card_lines.proofs.FirstLines.{long_first}
 use Rattle.card_lines.specs.Faults.{HasFaultNext}
-use Rattle.card_lines.specs.Front.{IsLine, IsPart, IsTooLong}
+use Rattle.card_lines.specs.Front.{IsLine, IsPart, IsTooLong, line_end}
 use Rattle.card_lines.specs.Reading.{GivesCard, HasFirstLine, TakesEndedLine}
 use Rattle.card_lines.specs.declared.fault.ReadFault.TheVariants as read
 
@@ -29,14 +30,15 @@ left_of held text None known = absurd (false≢true (ap is_some known))
 left_of held text (Some rest) known = (rest, refl, sym (ap bytes_of known))
 
 -- a card comes off the front
-pub gives : (given end used : ℕ) (held text card : List ℕ) (left : Option (List ℕ)) → given < 999999
-    → ((rest : List ℕ) → left ≡ Some rest → HasFirstLine held end used rest) → IsCardOf (without_cr (take end held)) card
-    → prepend_known held left ≡ Some text → GivesCard given text card (prepend_known (drop used held) left)
-gives given end used held text card left few first punched known =
+pub gives : (given : ℕ) (held text card : List ℕ) (left : Option (List ℕ)) → given < 999999
+    → ((rest : List ℕ) → left ≡ Some rest → HasFirstLine held rest) → IsCardOf (without_cr (take (line_end held) held)) card
+    → prepend_known held left ≡ Some text → GivesCard given text card (prepend_known (drop (line_end held + 1) held) left)
+gives given held text card left few first punched known =
     let rest = left_of held text left known in
+    let used = line_end held + 1 in
     record {
       few = few;
-      line = without_cr (take end held);
+      line = without_cr (take (line_end held) held);
       front = take used held;
       rest = drop used held ++ rest.0;
       parts = rest.2 ∙ ap (λ (t : List ℕ). t ++ rest.0) (sym (take-append-drop used held)) ∙ append_assoc (take used held) (drop used held) rest.0;
@@ -55,19 +57,19 @@ told given text line others few cut TooManyCards at = absurd at
 told given text line others few cut Memory at = absurd at
 
 -- after 999,999 cards another line is one too many
-pub many : (given end used : ℕ) (held text : List ℕ) (left : Option (List ℕ)) → given ≡ 999999
-    → ((rest : List ℕ) → left ≡ Some rest → HasFirstLine held end used rest) → prepend_known held left ≡ Some text
+pub many : (given : ℕ) (held text : List ℕ) (left : Option (List ℕ)) → given ≡ 999999
+    → ((rest : List ℕ) → left ≡ Some rest → HasFirstLine held rest) → prepend_known held left ≡ Some text
     → HasFaultNext given text (read.Deck TooManyCards)
-many given end used held text left full first known =
+many given held text left full first known =
     let rest = left_of held text left known in
     let cut = ap lines_of (rest.2) ∙ first (rest.0) (rest.1) in
     (full, λ none. absurd (omega (arith, ap length (sym none ∙ cut))))
 
 -- the fault of the line at the front
-pub told_next : (given end used : ℕ) (held text : List ℕ) (left : Option (List ℕ)) (fault : DeckFault) → given < 999999
-    → ((rest : List ℕ) → left ≡ Some rest → HasFirstLine held end used rest) → prepend_known held left ≡ Some text
-    → HasLineFault (without_cr (take end held)) (given + 1) fault → HasFaultNext given text (read.Deck fault)
-told_next given end used held text left fault few first known at =
+pub told_next : (given : ℕ) (held text : List ℕ) (left : Option (List ℕ)) (fault : DeckFault) → given < 999999
+    → ((rest : List ℕ) → left ≡ Some rest → HasFirstLine held rest) → prepend_known held left ≡ Some text
+    → HasLineFault (without_cr (take (line_end held) held)) (given + 1) fault → HasFaultNext given text (read.Deck fault)
+told_next given held text left fault few first known at =
     let rest = left_of held text left known in
     told given text _ _ few (ap lines_of (rest.2) ∙ first (rest.0) (rest.1)) fault at
 
@@ -89,13 +91,16 @@ long_many given held text left full front known =
 
 -- the last line, which no LF ends: all that is held is it, and nothing is left
 pub last_first : (held : List ℕ) (left : Option (List ℕ)) → IsPart held → IsAtEnd left → 0 < length (without_cr held)
-    → (rest : List ℕ) → left ≡ Some rest → HasFirstLine held (length held) (length held) rest
+    → (rest : List ℕ) → left ≡ Some rest → HasFirstLine held rest
 last_first held left part end some rest is =
     let none : rest ≡ [] = subst IsAtEnd is end in
+    let all : line_end held ≡ length held = end_of_all held part.unended in
+    let front : take (line_end held) held ≡ held = ap (λ k. take k held) all ∙ take-length held in
+    let behind : drop (line_end held + 1) held ≡ [] = drop_all (line_end held + 1) held (omega (arith, all)) in
     ap (λ (t : List ℕ). lines_of (held ++ t)) none ∙ ap lines_of (append-nil held)
     ∙ lines_of_last held (without_cr held) [] part.unended refl (grind (arith, nat_tests, some)) refl
-    ∙ ap (λ (t : List ℕ). without_cr t ∷ lines_of []) (sym (take-length held))
-    ∙ ap (λ (t : List ℕ). without_cr (take (length held) held) ∷ lines_of t) (sym (ap (λ (t : List ℕ). drop (length held) held ++ t) none ∙ append-nil (drop (length held) held) ∙ drop-length held))
+    ∙ ap (λ (t : List ℕ). without_cr t ∷ lines_of []) (sym front)
+    ∙ ap (λ (t : List ℕ). without_cr (take (line_end held) held) ∷ lines_of t) (sym (ap (λ (t : List ℕ). t ++ rest) behind ∙ none))
 
 -- no line is left where the end is met and nothing but a CR is held
 pub none_left : (held text : List ℕ) (left : Option (List ℕ)) → IsPart held → IsAtEnd left → length (without_cr held) ≡ 0
@@ -107,9 +112,10 @@ none_left held text left part end empty known =
     ∙ lines_of_none held (without_cr held) part.unended refl (grind (arith, nat_tests, empty))
 
 -- a whole line that is held comes off the front with its LF
-pub ended_line : (held text : List ℕ) (left : Option (List ℕ)) (end : ℕ) → IsLine held end → prepend_known held left ≡ Some text
-    → TakesEndedLine text (prepend_known (drop (end + 1) held) left)
-ended_line held text left end at known =
+pub ended_line : (held text : List ℕ) (left : Option (List ℕ)) → IsLine held (line_end held) → prepend_known held left ≡ Some text
+    → TakesEndedLine text (prepend_known (drop (line_end held + 1) held) left)
+ended_line held text left at known =
+    let end = line_end held in
     let rest = left_of held text left known in
     let behind : drop end held ≡ 10 ∷ drop (end + 1) held =
     drop_more held end 0 (at.within) ∙ ap (λ b. b ∷ drop (end + 1) held) (at.found) in
@@ -154,3 +160,9 @@ of_found P Q more (Err fault) found is = tt
 pub given_as : {come : Option (List ℕ)} (one other : ℕ) (text card : List ℕ) → one ≡ other → GivesCard one text card come
     → GivesCard other text card come
 given_as {come} one other text card is = subst (λ n. GivesCard n text card come) is
+
+-- what is held of a part of a line is the line
+pub line_of_part : (held line : List ℕ) → IsPart held → (line_end held ≤ 81 → line ≡ take (line_end held) held) → line ≡ held
+line_of_part held line part is =
+    let all : line_end held ≡ length held = end_of_all held part.unended in
+    is (omega (arith, all, part.short)) ∙ ap (λ k. take k held) all ∙ take-length held

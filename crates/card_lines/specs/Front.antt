@@ -1,5 +1,5 @@
 -- What stands at the front of some bytes of a text, whatever comes after them.
-use Rattle.std.specs.Prelude.{◌≡◌, ◌≢◌, ℕ, ◌<◌, ◌≤◌, List, length, slice_index}
+use Rattle.std.specs.Prelude.{◌≡◌, ◌≢◌, ℕ, suc, ◌<◌, ◌≤◌, ◌==◌, ◌⊎◌, List, [], ◌∷◌, length, slice_index, if◌then◌else◌}
 use Rattle.card_lines.specs.declared.front.Front.{Front}
 use Rattle.card_lines.specs.declared.front.Front.TheVariants as front
 
@@ -22,8 +22,19 @@ pub record IsPart (held : List ℕ) : Type 0 where
   pub unended : (place : ℕ) → place < length held → slice_index held place ≢ 10
   pub cr : length held ≡ 81 → slice_index held 80 ≡ 13
 
+-- how many bytes come before the first LF, or are there in all
+abbrev pub line_end : List ℕ → ℕ
+line_end [] = 0
+line_end (b ∷ bs) = if b == 10 then 0 else suc (line_end bs)
+
 -- what stands at the front
 abbrev pub IsFront : List ℕ → Front → Type 0
-IsFront held (front.Line end) = IsLine held end
+IsFront held front.Line = IsLine held (line_end held)
 IsFront held front.TooLong = IsTooLong held
 IsFront held front.Part = IsPart held
+
+-- A line was cut from the front of what came: it has no LF, and what comes behind it is its LF, unless it has no room or nothing more came.
+pub record IsCut (line behind : List ℕ) : Type 0 where
+  pub few : length line ≤ 81
+  pub unended : (place : ℕ) → place < length line → slice_index line place ≢ 10
+  pub whole : 0 < length behind → (slice_index behind 0 ≡ 10) ⊎ (length line ≡ 81)

@@ -1,10 +1,10 @@
 -- Cards that come off the front of what a source gives.
-use Rattle.std.specs.Prelude.{◌≡◌, ℕ, ◌<◌, ◌⊎◌, Bool, true, false, List, [], ◌∷◌, ◌++◌, Option, Some, drop, take}
+use Rattle.std.specs.Prelude.{◌≡◌, ℕ, ◌+◌, ◌<◌, ◌⊎◌, Bool, true, false, List, [], ◌∷◌, ◌++◌, Option, Some, drop, take}
 use Rattle.std.specs.Io.KnownBytes.{prepend_known}
 use Rattle.card_code.specs.Deck.{IsCardOf}
 use Rattle.card_code.specs.Lines.{lines_of, without_cr}
 use Rattle.card_code.specs.MostCards.{most_cards}
-use Rattle.card_lines.specs.Front.{IsLine, IsTooLong}
+use Rattle.card_lines.specs.Front.{IsLine, IsTooLong, line_end}
 
 -- A reading of cards: its source, the bytes held that were read and not given yet, how many cards were given, whether the end of the source
 -- was met, and whether a fault was told.
@@ -51,6 +51,6 @@ pub record GivesCard (given : ℕ) (text card : List ℕ) (to_come : Option (Lis
   pub cut : lines_of text ≡ line ∷ lines_of rest
   pub punched : IsCardOf line card
 
--- With the bytes that come after those held, the first line is that of the first so many of them, and after so many the other lines begin.
-abbrev pub HasFirstLine : (held : List ℕ) (end used : ℕ) (rest : List ℕ) → Type 0
-HasFirstLine held end used rest = lines_of (held ++ rest) ≡ without_cr (take end held) ∷ lines_of (drop used held ++ rest)
+-- With the bytes that come after those held, the first line is what is held before the first LF, and the other lines begin behind that.
+abbrev pub HasFirstLine : (held rest : List ℕ) → Type 0
+HasFirstLine held rest = lines_of (held ++ rest) ≡ without_cr (take (line_end held) held) ∷ lines_of (drop (line_end held + 1) held ++ rest)

@@ -1,7 +1,9 @@
 //! Decks read card by card from any source of bytes.
 //!
-//! [`CardLines`] holds what was read and not given yet, at most 65,536 bytes, in a buffer of that size, and gives the cards of the
-//! deck that the source's bytes are, one by one, however the source cuts them. It asks for no memory.
+//! [`CardLines`] gives the cards of the deck that a source's bytes are, one by one, however the source cuts them. It holds a block of the
+//! source, at most 65,536 bytes, and apart from it the line being read, at most 81 bytes: 80 characters and a CR, in an `ArrayVec`. A line
+//! is cut from the block as soon as the one before it is given; if the block ends within it, it goes on with the next one. Nothing of this
+//! takes memory.
 //!
 //! ```text
 //! let mut lines = CardLines::new(FromRead::new(file));
@@ -11,9 +13,10 @@
 //! The crate stands on `card_code`, which says what a line and a card are, and on `devices`, whose sources it offers too.
 #![tactic(auto)]
 
-mod buffer;
+mod block;
 mod fault;
 mod front;
+mod held;
 mod reading;
 
 pub use devices::{DeviceFailed, FromRead, Source};

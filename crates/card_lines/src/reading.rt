@@ -7,14 +7,14 @@ ghost use Rattle.card_code.specs.declared.deck.DeckFault.{DeckFault};
 ghost use Rattle.card_code.specs.Lines.{lines_of, without_cr};
 ghost use Rattle.card_code.specs.MostCards.{most_cards};
 ghost use Rattle.card_lines.specs.Reading.{Reading, still_to_come, IsSettled, IsThere, IsOver, GivesCard, TakesEndedLine, HasFirstLine};
-ghost use Rattle.card_lines.specs.Front.{IsFront, IsPart, IsTooLong};
+ghost use Rattle.card_lines.specs.Front.{IsFront, IsPart, IsTooLong, line_end};
 ghost use Rattle.card_lines.specs.Faults.{HasFaultNext};
 ghost use Rattle.card_lines.specs.declared.fault.ReadFault.TheVariants as read;
 ghost use Rattle.card_lines.specs.declared.front.Front.TheVariants as stands;
 
-use crate::buffer::Buffer;
 use crate::fault::ReadFault;
-use crate::front::{Front, look_at};
+use crate::front::Front;
+use crate::held::Held;
 use card_code::{Card, DeckFault, MOST_CARDS, punch_line, read_card, without_cr};
 use devices::{DeviceFailed, Source};
 use std::marker::Model;
@@ -26,7 +26,7 @@ use std::marker::Model;
 #[derive(Drop)]
 pub struct CardLines<S: Source + Drop> {
     source: S,
-    held: Buffer,
+    held: Held,
     given: u32,
     at_end: bool,
     has_failed: bool,
@@ -57,7 +57,7 @@ impl<S: Source + Drop> CardLines<S> {
     {
         CardLines {
             source,
-            held: Buffer::new(),
+            held: Held::new(),
             given: 0,
             at_end: false,
             has_failed: false,
@@ -213,16 +213,13 @@ impl<S: Source + Drop> CardLines<S> {
             });
         };
         match front {
-            Front::Line(end) => self.take_line(end, end + 1, next),
+            Front::Line => self.take_line(next),
             Front::TooLong => Err(self.too_long()),
-            Front::Part if without_cr(self.held.bytes()).is_empty() => {
+            Front::Part if without_cr(self.held.line()).is_empty() => {
                 *next = None;
                 Ok(())
             }
-            Front::Part => {
-                let end = self.held.bytes().len();
-                self.take_line(end, end, next)
-            }
+            Front::Part => self.take_line(next),
         }
     }
 
@@ -242,7 +239,7 @@ impl<S: Source + Drop> CardLines<S> {
         ensures same { S.borrow self.new.source ≡ S.borrow self.old.source }
     {
         loop {
-            let front = look_at(self.held.bytes());
+            let front = self.held.front();
             if !matches!(front, Front::Part) || self.at_end {
                 return Ok(front);
             }
@@ -250,16 +247,10 @@ impl<S: Source + Drop> CardLines<S> {
         }
     }
 
-    // Puts the card of the line in its place that is the first `end` bytes held, which with its LF, if it has one, are the first `used`.
-    fn take_line(
-        &mut self,
-        end: usize,
-        used: usize,
-        next: &mut Option<Card>,
-    ) -> Result<(), ReadFault>
-        requires first { (rest : List ℕ) → S.left self.old.source ≡ Some rest → HasFirstLine self.old.held end used rest }
-        requires within { used ≤ length self.old.held }
-        requires end { end ≤ used }
+    // Puts the card of the line at the front in its place, which is held whole or is the last one.
+    fn take_line(&mut self, next: &mut Option<Card>) -> Result<(), ReadFault>
+        requires first { (rest : List ℕ) → S.left self.old.source ≡ Some rest → HasFirstLine self.old.held rest }
+        requires short { line_end self.old.held ≤ 81 }
         ensures some { OnOk result (IsSome next.new) }
         ensures card { OnOk result (IfSome next.new (λ card. (text : List ℕ) → still_to_come S.left self.old ≡ Some text →
             GivesCard self.old.given text card (still_to_come S.left self.new))) }
@@ -269,15 +260,15 @@ impl<S: Source + Drop> CardLines<S> {
             still_to_come S.left self.old ≡ Some text → HasFaultNext self.old.given text fault) }
         ensures not_read { IfErr result (λ fault. (line : ℕ) → fault ≢ read.Read line) }
         ensures kept { OnErr result (self.new ≡ self.old) }
-        ensures used { OnOk result (self.new.held ≡ drop used self.old.held) }
+        ensures used { OnOk result (self.new.held ≡ drop (line_end self.old.held + 1) self.old.held) }
         ensures at_end { self.new.at_end ≡ self.old.at_end }
         ensures unread { self.new.source ≡ self.old.source }
     {
         if self.given == MOST_CARDS as u32 {
             return Err(DeckFault::TooManyCards.into());
         }
-        put_card(self.given + 1, without_cr(&self.held.bytes()[..end]), next)?;
-        self.held.use_up(used);
+        put_card(self.given + 1, without_cr(self.held.line()), next)?;
+        self.held.use_up_line();
         self.given += 1;
         Ok(())
     }

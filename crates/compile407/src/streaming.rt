@@ -17,8 +17,9 @@ use streamed_runs::StreamFault;
 /// then the machine is fed, and the lines that this gives are taken up. They are written in blocks of 64 KB, so a sink that fails is met
 /// only once a block is full, perhaps many cards after the card whose lines it doesn't take.
 ///
-/// Besides the machine a run holds two cards, the lines of one card, the sum of the unfinished group of each total, 64 KB of the deck
-/// that was read and 64 KB of pages that wait to be written. A long deck takes no more memory than a short one.
+/// Besides the machine a run holds two cards, the lines of one card, the sum of each total up to the last card that ended a group, the sum
+/// of each amount over the cards since, the line of the deck that is being read, 64 KB of the deck and 64 KB of pages that wait to be
+/// written. A long deck takes no more memory than a short one.
 ///
 /// # Errors
 ///

@@ -1,11 +1,12 @@
 -- What a read leaves of decks in a row.
-use Rattle.std.proofs.Common.{◌≡◌, ◌≢◌, ◌∙◌, ℕ, ◌-◌, suc, zero, ap, sym, refl, arith, Bool, true, false, ◌==◌, List, [], ◌∷◌, ◌++◌, length, get_or, Option, Some, None, append_assoc, set, subst, take}
+use Rattle.std.proofs.Common.{◌≡◌, ◌≢◌, ◌∙◌, ℕ, ◌-◌, suc, zero, ap, sym, refl, arith, Bool, true, false, ◌==◌, List, [], ◌∷◌, ◌++◌, length, get_or, map, drop, Option, Some, None, append_assoc, set, subst, take}
+use Rattle.std.specs.Option.{IsSome, option_to_list}
 use Rattle.std.specs.Prelude.{◌<◌, ◌≤◌, option_map}
 use Rattle.std.specs.Io.KnownBytes.{Consumes, IsAtEnd, prepend_known}
 use Rattle.std.proofs.lemmas.Bool.{eqb-true, false≢true}
 use Rattle.std.proofs.lemmas.List.{take-take}
-use Rattle.decks_in_row.specs.InRow.{behind_byte, ended, known_behind}
-use Rattle.decks_in_row.specs.Rows.{begins_line, behind_read, given_of, lacks_end}
+use Rattle.decks_in_row.specs.InRow.{behind_byte, ended, in_row, known_behind, left_of}
+use Rattle.decks_in_row.specs.Rows.{begins_line, behind_read, given_of, lacks_end, left_behind}
 use Rattle.decks_in_row.specs.declared.stand.Stand.{Stand}
 use Rattle.decks_in_row.specs.declared.stand.Stand.TheVariants.{HeldCr, InLine, LineStart}
 
@@ -195,3 +196,23 @@ one_read (byte ∷ next ∷ bytes) (suc count) size some = absurd (omega (arith,
 pub gives_owed : (byte : ℕ) (left : Option (List ℕ)) → Consumes (prepend_known (byte ∷ []) left) left (byte ∷ [])
 gives_owed byte None = tt
 gives_owed byte (Some bytes) = refl
+
+-- what readers that tell their bytes have left is the text of their decks in a row
+pub left_in_row : {R : Type 0} (left : R → Option (List ℕ)) (decks : List R) (texts : List (List ℕ)) → map left decks ≡ map Some texts
+    → left_of left LineStart decks ≡ Some (in_row texts)
+left_in_row left [] [] known = refl
+left_in_row left [] (text ∷ texts) known = absurd (omega (arith, ap length known))
+left_in_row left (deck ∷ decks) [] known = absurd (omega (arith, ap length known))
+left_in_row left (deck ∷ decks) (text ∷ texts) known =
+    ap (λ one. known_behind (option_map (ended LineStart) one) (left_of left LineStart decks)) (first known)
+    ∙ ap (known_behind (Some (ended LineStart text))) (left_in_row left decks texts (ap (drop 1) known))
+  where
+    first : (left deck ∷ map left decks ≡ Some text ∷ map Some texts) → left deck ≡ Some text
+    first same = ap (λ all. get_or all 0 None) same
+
+-- the first of readers and those behind it have left what all of them have
+pub first_taken : {R : Type 0} (left : R → Option (List ℕ)) (first : Option R) (rest decks : List R) → (0 < length decks → IsSome first)
+    → decks ≡ option_to_list first ++ rest → left_behind left LineStart first rest ≡ left_of left LineStart decks
+first_taken left None rest [] some are = refl
+first_taken left None rest (deck ∷ decks) some are = absurd (false≢true (some (omega arith)))
+first_taken left (Some deck) rest decks some are = ap (left_of left LineStart) (sym are)

@@ -1,7 +1,7 @@
 //! Readers in a row.
 
-ghost use Rattle.std.specs.Prelude.{◌≡◌, ◌≢◌, ◌<◌, ◌≤◌, ◌-◌, ◌*◌, None, Ok, length};
-ghost use Rattle.decks_in_row.specs.InRow.{left_of};
+ghost use Rattle.std.specs.Prelude.{◌≡◌, ◌≢◌, ◌<◌, ◌≤◌, ◌-◌, ◌*◌, ℕ, List, map, None, Some, Ok, length};
+ghost use Rattle.decks_in_row.specs.InRow.{in_row, left_of};
 ghost use Rattle.decks_in_row.specs.Rows.{Gives, left_behind, reads_left, row_left};
 
 use crate::stand::Stand;
@@ -25,9 +25,13 @@ pub struct DecksInRow<R: Read + Drop> {
 }
 
 impl<R: Read + Drop> DecksInRow<R> {
-    /// The readers in their order, of which nothing was read yet.
+    /// The readers in their order, of which nothing was read yet. What readers that tell their bytes have left is the text of these decks in
+    /// a row.
     pub fn new(mut decks: VecDeque<R>) -> DecksInRow<R>
-        ensures { row_left R.remaining result.owed result.stand result.deck result.next.items ≡ left_of R.remaining Stand.LineStart decks.items }
+        ensures left { row_left R.remaining result.owed result.stand result.deck result.next.items
+            ≡ left_of R.remaining Stand.LineStart decks.items }
+        ensures known { (texts : List (List ℕ)) → map R.remaining decks.items ≡ map Some texts →
+            row_left R.remaining result.owed result.stand result.deck result.next.items ≡ Some (in_row texts) }
     {
         let deck = decks.pop_front();
         DecksInRow {

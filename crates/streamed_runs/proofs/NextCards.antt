@@ -1,5 +1,5 @@
 -- The next card of a deck, and what is told in its place.
-use Rattle.std.proofs.Common.{◌≡◌, ◌∙◌, refl, sym, ap, subst, ℕ, ◌+◌, ◌≤◌, List, [], ◌∷◌, ◌++◌, Option, Some, None, IfNone, IfSome, length, append_assoc, append-nil}
+use Rattle.std.proofs.Common.{◌≡◌, ◌∙◌, refl, sym, ap, subst, arith, ℕ, ◌+◌, ◌<◌, ◌≤◌, List, [], ◌∷◌, ◌++◌, Option, Some, None, IfNone, IfSome, length, append_assoc, append-nil}
 use Rattle.std.proofs.lemmas.List.Elements.{AllZip-push}
 use Rattle.std.specs.Io.KnownBytes.{Keeps}
 use Rattle.std.specs.List.{AllZip}
@@ -138,12 +138,19 @@ fault_up_to left text cards old new fault kept part come =
 
 -- the card that was read is not valid
 pub invalid_next : {S : Type 0} (left : S → Option (List ℕ)) (chart : Chart) (text : List ℕ) (cards : List (List ℕ)) (new : Reading S)
-    (found : Option (List ℕ)) (card : List ℕ) (fault : CardFault) (number : ℕ) → length cards ≡ number → found ≡ Some card
-    → IsFirstInvalid (fields_of chart.lines) card fault → ReadsOn left text cards new found
+    (found : Option (List ℕ)) (card : List ℕ) (fault : CardFault) (number : ℕ) → length cards ≡ number → number < most_cards
+    → found ≡ Some card → IsFirstInvalid (fields_of chart.lines) card fault → ReadsOn left text cards new found
     → IsInvalidNext chart text cards fault (number + 1)
-invalid_next left chart text cards new found card fault number counted is first reads =
+invalid_next left chart text cards new found card fault number counted few is first reads =
     let come : HasToCome left text (cards ++ card ∷ []) new = subst (λ f. ReadsOn left text cards new f) is reads in
-    record { card = card; rest = come.rest; is_read = come.is_read; is_next = ap (λ n. n + 1) (sym counted); is_first = first }
+    record {
+      card = card;
+      rest = come.rest;
+      is_read = come.is_read;
+      is_next = ap (λ n. n + 1) (sym counted);
+      few = omega (arith, few);
+      is_first = first;
+    }
 
 -- nothing comes after all lines of a text
 no_lines : lines_of [] ≡ []

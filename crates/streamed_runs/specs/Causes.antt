@@ -1,7 +1,9 @@
 -- Why a streamed run stops.
-use Rattle.std.specs.Prelude.{◌≡◌, ℕ, ◌+◌, ◌-◌, Bool, true, false, List, [], ◌∷◌, ◌++◌, Option, Some, None, length, ⊤}
+use Rattle.std.specs.Prelude.{◌≡◌, ℕ, ◌+◌, ◌-◌, ◌≤◌, Bool, true, false, List, [], ◌∷◌, ◌++◌, Option, Some, None, length, ⊤}
+use Rattle.card_code.specs.MostCards.{most_cards}
 use Rattle.card_lines.specs.Faults.{HasFaultNext, read_fault_number}
 use Rattle.card_lines.specs.declared.fault.ReadFault.{ReadFault}
+use Rattle.card_lines.specs.declared.fault.ReadFault.TheVariants as read
 use Rattle.charts.specs.Chart.{Chart}
 use Rattle.line_rules.specs.FieldRules.Fields.{fields_of}
 use Rattle.chart_rules.specs.ValidCard.{IsFirstInvalid, fault_number}
@@ -26,12 +28,13 @@ pub record IsUnreadNext (text : List ℕ) (cards : List (List ℕ)) (fault : Rea
   pub is_read : HasRead text cards rest
   pub is_fault : HasFaultNext (length cards) rest fault
 
--- the card after those read so far, that of this number, is not valid for the chart, by its first invalid field
+-- The card after those read so far, that of this number, is one of the first 999,999 and not valid for the chart, by its first invalid field.
 pub record IsInvalidNext (chart : Chart) (text : List ℕ) (cards : List (List ℕ)) (fault : CardFault) (number : ℕ) : Type 0 where
   pub card : List ℕ
   pub rest : List ℕ
   pub is_read : HasRead text (cards ++ card ∷ []) rest
   pub is_next : number ≡ length cards + 1
+  pub few : number ≤ most_cards
   pub is_first : IsFirstInvalid (fields_of chart.lines) card fault
 
 -- What a cause says of the text of the deck and of the valid cards that were read before it was met. That a device has failed is said of
@@ -42,6 +45,13 @@ HasCause chart text cards (cause.Invalid fault number) = IsInvalidNext chart tex
 HasCause chart text cards (cause.Misfit misfit) = first_of (misfits chart.lines cards) ≡ Some (told misfit)
 HasCause chart text cards cause.Write = ⊤
 HasCause chart text cards cause.Memory = ⊤
+
+-- A cause that a text has, whatever devices and memory do.
+abbrev pub IsOfText : StreamCause → Type 0
+IsOfText (cause.Card (read.Deck fault)) = ⊤
+IsOfText (cause.Invalid fault number) = ⊤
+IsOfText (cause.Misfit misfit) = ⊤
+IsOfText other = ⊥
 
 -- whether a run that stops for a cause has written all lines before those of a card, and no byte more
 abbrev pub stops_between_cards : StreamCause → Bool

@@ -16,9 +16,12 @@ use Rattle.report.specs.Misfits.{first_of, misfits}
 use Rattle.report.specs.Totals.{Fits}
 use Rattle.setups.specs.Tapes.{IsCarriageTape}
 use Rattle.setups.specs.Wiring.{Wiring}
+use Rattle.streamed_runs.specs.Causes.{IsOfText}
 use Rattle.streamed_runs.specs.FirstCauses.{IsFirstMisfit}
 use Rattle.streamed_runs.specs.Reading.{HasRead}
+use Rattle.streamed_runs.specs.Runs.{HasStopped}
 use Rattle.streamed_runs.specs.Streams.{Streams}
+use Rattle.streamed_runs.specs.declared.fault.StreamCause.{StreamCause}
 
 -- A run begins where the machine is fed a valid card.
 abbrev pub StreamsBegin : Type 0
@@ -72,3 +75,12 @@ MisfitsAreTheDecks =
     (chart : Chart) (text : List ℕ) (cards : List (List ℕ)) (rest : List ℕ) (misfit : Found) (all : List (List ℕ))
     → HasRead text cards rest → IsFirstMisfit chart text cards misfit → Deck text all
     → first_of (misfits chart.lines all) ≡ Some (told misfit)
+
+-- A text stops runs for one cause: that of a run over it, unless memory or a device has stopped it, is that of each other one, whatever each
+-- has written and left to read.
+abbrev pub TextsHaveOneCause : Type 0
+TextsHaveOneCause =
+    (chart : Chart) (text : List ℕ) (one other : StreamCause) (left its_left : Option (List ℕ)) (written its_written : List ℕ)
+    → IsOfText one → IsOfText other
+    → HasStopped chart text left one written → HasStopped chart text its_left other its_written
+    → one ≡ other

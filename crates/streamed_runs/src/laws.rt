@@ -1,6 +1,6 @@
 //! Laws of runs over decks whose cards come one by one. The functions do nothing: the contract of each is the law.
 
-ghost use Rattle.streamed_runs.specs.Laws.{FeedsPlaceInOrder, MisfitsAreTheDecks, StreamsBegin, StreamsEnd, StreamsGoOn, StreamsMayHaveNoCard};
+ghost use Rattle.streamed_runs.specs.Laws.{FeedsPlaceInOrder, MisfitsAreTheDecks, StreamsBegin, StreamsEnd, StreamsGoOn, StreamsMayHaveNoCard, TextsHaveOneCause};
 
 /// A run begins where the machine is fed a valid card.
 pub fn streams_begin()
@@ -32,4 +32,9 @@ pub fn feeds_place_in_order()
 /// A misfit at which a run stops is the first of the whole deck, also where the deck goes on after the cards that were read.
 pub fn misfits_are_the_decks()
     ensures { MisfitsAreTheDecks }
+{}
+
+/// A text stops runs for one cause: that of a run over it, unless memory or a device has stopped it, is that of each other one.
+pub fn texts_have_one_cause()
+    ensures { TextsHaveOneCause }
 {}

@@ -4,7 +4,7 @@ ghost use Rattle.std.specs.Prelude.{IfErr, IfOk};
 ghost use Rattle.check_calls.specs.DeckChecks.BadLines.{IsBadLine, IsGoodLine};
 
 use card_code::{Card, read_card};
-use chart_rules::{Chart, valid_card};
+use chart_rules::{Chart, valid_read_card};
 use faults::{Fault, RunFault};
 
 // The card of a line, the one with a number, or what is told of it where it is none, or none that is valid for the chart.
@@ -13,7 +13,7 @@ pub(crate) fn judge<'a>(chart: &Chart, number: u32, line: &[u8]) -> Result<Card,
     ensures bad { IfErr result (λ told. IsBadLine chart.now number line.now told) }
 {
     let card = read_card(number, line)?;
-    match valid_card(chart, &card) {
+    match valid_read_card(chart, &card) {
         Ok(()) => Ok(card),
         Err(fault) => Err(RunFault::of_card(fault, number).into()),
     }

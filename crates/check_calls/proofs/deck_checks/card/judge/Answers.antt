@@ -1,8 +1,12 @@
 use Rattle.std.proofs.Common.{refl}
 use Rattle.std.proofs.lemmas.Result.{err_from_is_err_and}
+use Rattle.card_code.proofs.Characters.{characters-punched}
 use Rattle.check_calls.proofs.DeckChecks.Cards.{invalid_is_bad}
 use Rattle.check_calls.specs.DeckChecks.BadLines.{no_card}
 use Rattle.check_calls.proofs.deck_checks.card.judge.Goals as goal
+
+pub valid_read_card-requires : goal.valid_read_card-requires
+valid_read_card-requires c = characters-punched c.args.line.now c.in_ok-card.card c.in_ok-card.ensures.card
 
 pub returns-in_err-card-clause-bad : goal.returns-in_err-card-clause-bad
 returns-in_err-card-clause-bad c =

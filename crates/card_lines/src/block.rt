@@ -1,4 +1,4 @@
-//! Bytes that were read and not used yet.
+//! A block of the source.
 
 ghost use Rattle.std.specs.Prelude.{◌≡◌, ◌+◌, ◌-◌, ◌^◌, ◌<◌, ◌≤◌, ℕ, min, List, [], ◌++◌, length, drop, slice_range, IfOk, OnErr};
 ghost use Rattle.std.specs.Io.KnownBytes.{IsAtEnd, Keeps, prepend_known};
@@ -10,27 +10,27 @@ use std::marker::Model;
 // Room for many lines, so that a read of the system brings many.
 const ROOM: usize = 65536;
 
-// The bytes held.
+// The bytes of a block that were not used yet.
 #[derive(Drop)]
-pub(crate) struct Buffer {
+pub(crate) struct Block {
     bytes: [u8; ROOM],
     from: usize,
     to: usize,
 }
 
-impl Model for Buffer {
+impl Model for Block {
     ghost Value = { List ℕ };
 
-    ghost view = { λ buffer. slice_range buffer.bytes buffer.from buffer.to };
+    ghost view = { λ block. slice_range block.bytes block.from block.to };
 
-    ghost invariant = { λ buffer. (buffer.from ≤ buffer.to) × (buffer.to ≤ 65536) };
+    ghost invariant = { λ block. (block.from ≤ block.to) × (block.to ≤ 65536) };
 }
 
-impl Buffer {
+impl Block {
     pub(crate) fn new() -> Self
         ensures { result ≡ [] }
     {
-        Buffer {
+        Block {
             bytes: [0; ROOM],
             from: 0,
             to: 0,
@@ -51,24 +51,20 @@ impl Buffer {
         self.from += count;
     }
 
-    // Reads once, after what is held, of which there are at most 81 bytes; answers how many bytes came. None come only at the end.
-    pub(crate) fn read_more<S: Source>(&mut self, source: &mut S) -> Result<usize, DeviceFailed>
-        requires { length self.old ≤ 81 }
-        ensures text { Keeps (prepend_known self.old (S.left source.old)) (prepend_known self.new (S.left source.new)) }
-        ensures more { IfOk result (λ count. length self.new ≡ length self.old + count) }
+    // Reads once, in the place of a block that was used up; answers how many bytes came. None come only at the end.
+    pub(crate) fn read<S: Source>(&mut self, source: &mut S) -> Result<usize, DeviceFailed>
+        requires { self.old ≡ [] }
+        ensures text { Keeps (S.left source.old) (prepend_known self.new (S.left source.new)) }
+        ensures more { IfOk result (λ count. length self.new ≡ count) }
         ensures end { IfOk result (λ count. count ≡ 0 → IsAtEnd (S.left source.new)) }
-        ensures none { IfOk result (λ count. count ≡ 0 → self.new ≡ self.old) }
-        ensures kept { OnErr result (self.new ≡ self.old) }
+        ensures kept { OnErr result (self.new ≡ []) }
         ensures counted { S.reads source.new ≡ min (S.reads source.old + 1) (2 ^ 64 - 1) }
         ensures failed { HasFailedBy result (S.has_failed source.old) (S.has_failed source.new) }
         ensures same { S.borrow source.new ≡ S.borrow source.old }
     {
-        let held = self.to - self.from;
-        self.bytes.copy_within(self.from..self.to, 0);
         self.from = 0;
-        self.to = held;
-        let count = source.read(&mut self.bytes[held..])?;
-        self.to = held + count;
-        Ok(count)
+        self.to = 0;
+        self.to = source.read(&mut self.bytes)?;
+        Ok(self.to)
     }
 }

@@ -1,6 +1,6 @@
 use Rattle.std.proofs.Common.{◌≡◌, ◌∙◌, ◌-◌, length, ap, drop, sym, arith}
-use Rattle.card_lines.proofs.Buffers.{advance, long}
-use Rattle.card_lines.proofs.buffer.Buffer.use_up.Goals as goal
+use Rattle.card_lines.proofs.Blocks.{advance, long}
+use Rattle.card_lines.proofs.block.Block.use_up.Goals as goal
 
 pub returns : goal.returns
 returns c =
