@@ -11,7 +11,6 @@ use Rattle.cli_calls.specs.Ends.{ByStatus, DoneOrAbove, DoneOrRefused, DoneOrSto
 use Rattle.cli_tasks.specs.declared.pages.Pages.{Pages}
 use Rattle.cli_tasks.specs.declared.task.Task.{Task}
 use Rattle.cli_tasks.specs.declared.task.Task.TheVariants as task
-use Rattle.commands.specs.Answers.{HasWiring}
 use Rattle.commands.specs.Refusals.{RefusesChart}
 use Rattle.commands.specs.ServedReplays.Answers.{HasOrders}
 use Rattle.commands.specs.ServedReplays.Counted.{counts_line}
