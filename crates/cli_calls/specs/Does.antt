@@ -11,7 +11,6 @@ use Rattle.cli_calls.specs.Ends.{ByStatus, DoneOrAbove, DoneOrRefused, DoneOrSto
 use Rattle.cli_tasks.specs.declared.pages.Pages.{Pages}
 use Rattle.cli_tasks.specs.declared.task.Task.{Task}
 use Rattle.cli_tasks.specs.declared.task.Task.TheVariants as task
-use Rattle.commands.specs.Answers.{HasWiring}
 use Rattle.commands.specs.Refusals.{RefusesChart}
 use Rattle.commands.specs.ServedReplays.Answers.{HasOrders}
 use Rattle.commands.specs.ServedReplays.Counted.{counts_line}
@@ -50,7 +49,7 @@ use Rattle.program_io.specs.Input.{IsDivided}
 use Rattle.program_io.specs.declared.command.Command.{Command}
 use Rattle.program_io.specs.declared.command.Command.TheVariants as command
 use Rattle.served_runs.specs.declared.counts.Counts.{Counts}
-use Rattle.sheets.specs.SheetCalls.Fields.{PrintsFields, StopsFields}
+use Rattle.sheets.specs.SheetCalls.CardSheets.{PrintsFields, StopsFields}
 use Rattle.sheets.specs.SheetCalls.Layouts.{PrintsLayout, StopsLayout}
 use Rattle.text_lists.specs.Endings.{AnswersText, EndsText}
 use Rattle.whole_runs.specs.Whole.{HasPrintedChosen, StopsWhole}
@@ -133,9 +132,9 @@ module _ (old new before after : Option (List ℕ)) (Unprinted Untold : Type 0) 
   pub data ShowsDeck (text : List ℕ) (deck : Option (List ℕ)) (unreadable : Fault) (shows_both : Bool) : Type 0 where
     faulty : (told : Fault) → ending.status ≡ status_of told → EndsText text old new told → Tells told
         → ShowsDeck text deck unreadable shows_both
-    wiring : (listed : Option (List ℕ)) → is_wiring_text text ≡ true → AnswersText text (Some []) listed → ending.status ≡ 2 → Unprinted
+    of_wiring : (listed : Option (List ℕ)) → is_wiring_text text ≡ true → AnswersText text (Some []) listed → ending.status ≡ 2 → Unprinted
         → IsWordsTold deck_of_wiring ending.is_told before after → ShowsDeck text deck unreadable shows_both
-    planned : (listed : Option (List ℕ)) → is_wiring_text text ≡ false → AnswersText text (Some []) listed
+    of_chart : (listed : Option (List ℕ)) → is_wiring_text text ≡ false → AnswersText text (Some []) listed
         → ShowsCards text deck unreadable shows_both → ShowsDeck text deck unreadable shows_both
 
   -- what a wheel printed is explained, or its ledger is told

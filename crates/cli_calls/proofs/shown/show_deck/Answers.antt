@@ -1,5 +1,5 @@
 use Rattle.std.proofs.Common.{◌≡◌, ℕ, List, Some, subst, sym, ◌∙◌, refl}
-use Rattle.cli_calls.specs.Does.{ShowsDeck, faulty, planned, wiring}
+use Rattle.cli_calls.specs.Does.{faulty, of_chart, of_wiring}
 use Rattle.text_lists.specs.Endings.{AnswersText}
 use Rattle.cli_calls.proofs.shown.show_deck.Goals as goal
 
@@ -11,10 +11,10 @@ returns-in-Ok g c =
     let answers = subst (λ (none : List ℕ). AnswersText c.args.text.now (Some none) (Some c.list_text.new.out.items)) c.new-listed.ensures.items
         c.in-Ok.ensures.fine in
     let told = c.tell_deck_of_wiring.ensures in
-    wiring _ (sym c.is_wiring_text.ensures ∙ c.if-is_wiring_text.true) answers told.status refl told.line
+    of_wiring _ (sym c.is_wiring_text.ensures ∙ c.if-is_wiring_text.true) answers told.status refl told.line
 
 pub returns : goal.returns
 returns g c =
     let answers = subst (λ (none : List ℕ). AnswersText c.args.text.now (Some none) (Some c.list_text.new.out.items)) c.new-listed.ensures.items
         c.in-Ok-2.ensures.fine in
-    planned _ (sym c.is_wiring_text.ensures ∙ c.if-is_wiring_text.false) answers c.show_cards.ensures
+    of_chart _ (sym c.is_wiring_text.ensures ∙ c.if-is_wiring_text.false) answers c.show_cards.ensures
