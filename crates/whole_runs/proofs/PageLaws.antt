@@ -1,12 +1,12 @@
 -- The pages of lines.
-use Rattle.std.proofs.Common.{◌≡◌, ◌∙◌, refl, sym, ap, subst, arith, ℕ, zero, suc, ◌+◌, ◌-◌, ◌<◌, ◌≤◌, ◌==◌, ◌||◌, Bool, true, false, not, List, [], ◌∷◌, ◌++◌, length, ◌↔◌, length-append, append_assoc, ◌&&◌, ◌⊎◌, inl, inr, cond, append-nil}
+use Rattle.std.proofs.Common.{◌≡◌, ◌∙◌, refl, sym, ap, subst, arith, ℕ, zero, suc, ◌+◌, ◌-◌, ◌<◌, ◌≤◌, ◌==◌, ◌||◌, Bool, true, false, not, List, [], ◌∷◌, ◌++◌, length, ◌↔◌, length-append, append_assoc, ◌&&◌, ◌⊎◌, inl, inr, cond}
 use Rattle.std.proofs.lemmas.Bool.Decides.{nat_tests}
 use Rattle.std.proofs.lemmas.List.Folds.{list_any-append}
 use Rattle.std.specs.List.{flat_map, list_any, range_with_len}
 use Rattle.streamed_runs.specs.Below.page_text.Pages.{Pages, last_page, line_bytes, onto_cut, page_bytes, text_at, without_trailing_blanks}
 use Rattle.streamed_runs.specs.Below.page_text.declared.placed_lines.placed_line.PlacedLine.{PlacedLine}
 use Rattle.whole_runs.specs.PageLaws.{AllPagesAreTheText, PagesAreThere, PagesAreTheirBytes, has_form_feed}
-use Rattle.whole_runs.specs.Pages.{chosen_pages, first_pages, has_page, pages_behind}
+use Rattle.whole_runs.specs.Pages.{first_pages, has_page, pages_behind}
 
 -- A page ends in a form feed and has no other.
 pub record IsPage (page : List ℕ) : Type 0 where
