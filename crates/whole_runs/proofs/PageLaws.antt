@@ -5,7 +5,7 @@ use Rattle.std.proofs.lemmas.List.Folds.{list_any-append}
 use Rattle.std.specs.List.{flat_map, list_any, range_with_len}
 use Rattle.streamed_runs.specs.Below.page_text.Pages.{Pages, last_page, line_bytes, onto_cut, page_bytes, text_at, without_trailing_blanks}
 use Rattle.streamed_runs.specs.Below.page_text.declared.placed_lines.placed_line.PlacedLine.{PlacedLine}
-use Rattle.whole_runs.specs.PageLaws.{AllPagesAreTheText, PagesAreThere, PagesAreTheirBytes, has_form_feed}
+use Rattle.whole_runs.specs.PageLaws.{AllPagesAreTheText, PagesAreThere, PagesAreTheirBytes, HaveNoFormFeed, has_form_feed}
 use Rattle.whole_runs.specs.Pages.{first_pages, has_page, pages_behind}
 
 -- A page ends in a form feed and has no other.
@@ -96,7 +96,7 @@ cut_none (character ∷ text) none =
     let parts = neither (character == 12) (has_form_feed text) none in
     onto_none character (without_trailing_blanks text) parts.0 (cut_none text parts.1)
 
-text_none : (placed : List PlacedLine) (page line : ℕ) → list_any (λ line. has_form_feed line.text) placed ≡ false
+text_none : (placed : List PlacedLine) (page line : ℕ) → HaveNoFormFeed placed
     → has_form_feed (text_at placed page line) ≡ false
 text_none [] page line none = refl
 text_none (first ∷ others) page line none =
@@ -106,14 +106,14 @@ text_none (first ∷ others) page line none =
       | false ↦ text_none others page line parts.1
     ]
 
-line_none : (placed : List PlacedLine) (page line : ℕ) → list_any (λ line. has_form_feed line.text) placed ≡ false
+line_none : (placed : List PlacedLine) (page line : ℕ) → HaveNoFormFeed placed
     → has_form_feed (line_bytes placed page line) ≡ false
 line_none placed page line none =
     let cut = without_trailing_blanks (text_at placed page line) in
     list_any-append (λ character. character == 12) cut (10 ∷ [])
     ∙ both (has_form_feed cut) false (cut_none (text_at placed page line) (text_none placed page line none)) refl
 
-lines_none : (placed : List PlacedLine) (page : ℕ) (lines : List ℕ) → list_any (λ line. has_form_feed line.text) placed ≡ false
+lines_none : (placed : List PlacedLine) (page : ℕ) (lines : List ℕ) → HaveNoFormFeed placed
     → has_form_feed (flat_map (line_bytes placed page) lines) ≡ false
 lines_none placed page [] none = refl
 lines_none placed page (line ∷ lines) none =
@@ -121,7 +121,7 @@ lines_none placed page (line ∷ lines) none =
     ∙ both (has_form_feed (line_bytes placed page line)) (has_form_feed (flat_map (line_bytes placed page) lines))
     (line_none placed page line none) (lines_none placed page lines none)
 
-each_page : (placed : List PlacedLine) (long : ℕ) → list_any (λ line. has_form_feed line.text) placed ≡ false
+each_page : (placed : List PlacedLine) (long : ℕ) → HaveNoFormFeed placed
     → (number : ℕ) → IsPage (page_bytes placed long number)
 each_page placed long none number = record {
   inner = flat_map (line_bytes placed number) (range_with_len 1 long);
