@@ -1,2 +1,3 @@
+mod PageLaws
 mod Passing
 mod Printing
