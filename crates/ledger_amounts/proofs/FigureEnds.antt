@@ -8,8 +8,12 @@ use Rattle.std.proofs.lemmas.List.{get_or-append-add, get_or-drop, get_or-replic
 use Rattle.std.proofs.lemmas.List.Elements.{All-get_or}
 use Rattle.ledgers.specs.declared.account.Account.{Account}
 use Rattle.setups.specs.Wiring.{Wiring}
-use Rattle.wheel_ledgers.specs.Figures.{begin_of, end_of, figure_on, is_cut, is_joined}
+use Rattle.wheel_ledgers.specs.Figures.{begin_of, end_of, figure_on, is_joined}
 use Rattle.ledger_amounts.specs.Figures.{IsBetweenBlanks}
+
+-- a figure doesn't go on to a place over a wheel
+abbrev pub is_cut : Wiring → Account → List ℕ → (place wheel : ℕ) → Bool
+is_cut wiring account line place wheel = nat_eq (slice_index_or line place 32) 32 || not (is_joined wiring account wheel)
 
 -- from a character of it back
 begins-at : (wiring : Wiring) (account : Account) (text : List ℕ) (begin place : ℕ) → begin ≤ place

@@ -31,7 +31,7 @@ use Rattle.report.specs.BodyLines.{Piece, char_at, line_of, piece_at, total_line
 use Rattle.report.specs.Edits.{edited, last_digits}
 use Rattle.report.specs.Totals.{total_of}
 use Rattle.setups.specs.Wiring.{Wiring, is_plugged}
-use Rattle.wheel_ledgers.specs.Figures.{figure_on, is_cut, is_joined, is_own}
+use Rattle.wheel_ledgers.specs.Figures.{figure_on, is_joined, is_own}
 use Rattle.wheel_ledgers.specs.ToldLedgers.{account_told}
 use Rattle.wheel_ledgers.specs.Totals.{account_of, find_total, has_place, totals_in}
 use Rattle.wired_panels.proofs.Below.printed_lines.Jacks.{FigureItem, FigureItem-has, LinksAt, Plugs, plugs-link}
@@ -44,7 +44,7 @@ use Rattle.wiring_table.specs.Figures.{IsAmount, IsFigure, on_total, total_emitt
 use Rattle.wiring_table.specs.Jacks.{HasFigure, link}
 use Rattle.ledger_amounts.proofs.Amounts.{ledgers-amounts, placed-text}
 use Rattle.ledger_amounts.proofs.EditedTexts.{edited-between}
-use Rattle.ledger_amounts.proofs.FigureEnds.{StandsAlone, cut-apart, cut-blank, figure-stands, is-blank}
+use Rattle.ledger_amounts.proofs.FigureEnds.{StandsAlone, is_cut, cut-apart, cut-blank, figure-stands, is-blank}
 use Rattle.ledger_amounts.proofs.Found.{totals-found}
 use Rattle.ledger_amounts.proofs.OneLedger.{places-have}
 use Rattle.ledger_amounts.proofs.OwnWheels.{own-named, own-on}
@@ -158,6 +158,7 @@ module _ (chart : Chart) (plan : Lists) (wiring : Wiring) (panel : IsPanel chart
       ∙ ap (λ (n : ℕ). slice_index_or text n 32) back
 
   linked : (wheel : ℕ) → asked.wheel < wheel → wheel < asked.wheel + length text → is_joined wiring account wheel ≡ true
+  unfolding is_joined
   linked wheel low high =
       ap (λ (b : Bool). b || (is_own wiring account (wheel - 1) && is_own wiring account wheel))
       ((panel.wired.jacks (jack.Link wheel)).1 (link asked.wheel its wheel has low (omega (arith, high, long))))
@@ -177,6 +178,7 @@ module _ (chart : Chart) (plan : Lists) (wiring : Wiring) (panel : IsPanel chart
   own-at = own-on chart plan wiring panel rise field amount own account told
 
   behind : asked.wheel + length text ≤ 120 → is_joined wiring account (asked.wheel + length text) ≡ false
+  unfolding is_joined
   behind within =
       also-not (is_plugged wiring (jack.Link (asked.wheel + length text))) (is_own wiring account (asked.wheel + length text - 1)) (is_own wiring account (asked.wheel + length text)) no-link
       (λ on.
@@ -214,6 +216,7 @@ module _ (chart : Chart) (plan : Lists) (wiring : Wiring) (panel : IsPanel chart
       omega (arith, first, from, after)
 
   before : 1 < asked.wheel → is_cut wiring account line (asked.wheel - 2) asked.wheel ≡ true
+  unfolding is_joined
   before after = by (is_plugged wiring (jack.Link asked.wheel)) refl
     where
       by : (b : Bool) → is_plugged wiring (jack.Link asked.wheel) ≡ b → is_cut wiring account line (asked.wheel - 2) asked.wheel ≡ true

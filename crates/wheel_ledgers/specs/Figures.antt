@@ -49,25 +49,29 @@ is_own wiring account wheel =
     || (has_digit wiring account (wheel - 1) && has_digit wiring account (wheel + 1))
 
 -- a wheel is joined to the one before it: LINK is plugged on it, or both are the account's own
-abbrev pub is_joined : Wiring → Account → (wheel : ℕ) → Bool
+unfoldable pub is_joined : Wiring → Account → (wheel : ℕ) → Bool
 is_joined wiring account wheel =
     is_plugged wiring (Link wheel) || (is_own wiring account (wheel - 1) && is_own wiring account wheel)
 
--- a figure doesn't go on to a place of a line, over a wheel: a blank stands there, or the wheel isn't joined to the one before it
-abbrev pub is_cut : Wiring → Account → List ℕ → (place wheel : ℕ) → Bool
-is_cut wiring account text place wheel = nat_eq (slice_index_or text place 32) 32 || not (is_joined wiring account wheel)
+-- a figure that goes on behind a place of a line begins there: the place is blank, or the wheel behind it isn't joined to it
+abbrev pub begins_behind : Wiring → Account → List ℕ → (place : ℕ) → Bool
+begins_behind wiring account text place = nat_eq (slice_index_or text place 32) 32 || not (is_joined wiring account (place + 2))
+
+-- one that goes on before a place ends there: the place is blank, or its wheel isn't joined to the one before it
+abbrev pub ends_before : Wiring → Account → List ℕ → (place : ℕ) → Bool
+ends_before wiring account text place = nat_eq (slice_index_or text place 32) 32 || not (is_joined wiring account (place + 1))
 
 -- Where a figure begins, if a character of it stands behind so many others of the line.
 unfoldable pub begin_of : Wiring → Account → List ℕ → ℕ → ℕ
 begin_of wiring account text zero = zero
 begin_of wiring account text (suc place) =
-    if is_cut wiring account text place (place + 2) then suc place else begin_of wiring account text place
+    if begins_behind wiring account text place then suc place else begin_of wiring account text place
 
 -- Where it ends, if it goes on before a place, from which the line has so many characters.
 unfoldable pub end_of : Wiring → Account → List ℕ → (place others : ℕ) → ℕ
 end_of wiring account text place zero = place
 end_of wiring account text place (suc others) =
-    if is_cut wiring account text place (place + 1) then place else end_of wiring account text (place + 1) others
+    if ends_before wiring account text place then place else end_of wiring account text (place + 1) others
 
 -- The figure on a wheel of a line.
 abbrev pub figure_on : Wiring → Account → List ℕ → (wheel : ℕ) → List ℕ

@@ -2,7 +2,7 @@
 
 ghost use Rattle.std.specs.Prelude.{◌≡◌, ◌≤◌, ◌<◌, ◌+◌, ◌++◌, OnOk};
 ghost use Rattle.ledgers.specs.Accounts.{IsAccount};
-ghost use Rattle.wheel_ledgers.specs.Figures.{balance_to, begin_of, digit_of, digit_to, end_of, figure_on, has_digit, has_mark, is_cut, is_joined, is_own, mark_of, mark_to, printed_text};
+ghost use Rattle.wheel_ledgers.specs.Figures.{balance_to, begin_of, begins_behind, digit_of, digit_to, end_of, ends_before, figure_on, has_digit, has_mark, is_joined, is_own, mark_of, mark_to, printed_text};
 
 use counters::group_of_unit;
 use hubs::{Group, Hub, Jack};
@@ -99,6 +99,7 @@ fn is_own(setup: &Setup, account: Account, wheel: u8) -> bool
 }
 
 // Whether a wheel is joined to the one before it: LINK is plugged on it, or both are the account's own.
+#[tactic(auto, unfolding(crate::specs::Figures::is_joined))]
 fn is_joined(setup: &Setup, account: Account, wheel: u8) -> bool
     requires account { IsAccount account }
     requires from { 2 ≤ wheel }
@@ -109,21 +110,23 @@ fn is_joined(setup: &Setup, account: Account, wheel: u8) -> bool
         || (is_own(setup, account, wheel - 1) && is_own(setup, account, wheel))
 }
 
-// Whether a figure doesn't go on to a place of a line, over a wheel: a blank stands there, or the wheel isn't joined to the one before it.
-fn is_cut(
-    setup: &Setup,
-    account: Account,
-    text: &[u8; LINE_WHEELS],
-    place: usize,
-    wheel: u8,
-) -> bool
+// Whether a figure that goes on behind a place of a line begins there: the place is blank, or the wheel behind it isn't joined to it.
+fn begins_behind(setup: &Setup, account: Account, text: &[u8; LINE_WHEELS], place: usize) -> bool
     requires account { IsAccount account }
-    requires place { place < 120 }
-    requires from { 2 ≤ wheel }
-    requires to { wheel ≤ 120 }
-    ensures { result ≡ is_cut setup.now account text.now place wheel }
+    requires place { place < 119 }
+    ensures { result ≡ begins_behind setup.now account text.now place }
 {
-    text[place] == b' ' || !is_joined(setup, account, wheel)
+    text[place] == b' ' || !is_joined(setup, account, place as u8 + 2)
+}
+
+// Whether one that goes on before a place ends there: the place is blank, or its wheel isn't joined to the one before it.
+fn ends_before(setup: &Setup, account: Account, text: &[u8; LINE_WHEELS], place: usize) -> bool
+    requires account { IsAccount account }
+    requires some { 1 ≤ place }
+    requires place { place < 120 }
+    ensures { result ≡ ends_before setup.now account text.now place }
+{
+    text[place] == b' ' || !is_joined(setup, account, place as u8 + 1)
 }
 
 // Where a figure begins, if a character of it stands behind so many others of the line.
@@ -134,7 +137,7 @@ fn begin_of(setup: &Setup, account: Account, text: &[u8; LINE_WHEELS], place: us
     ensures value { result ≡ begin_of setup.now account text.now place }
     ensures range { result ≤ place }
 {
-    if place == 0 || is_cut(setup, account, text, place - 1, place as u8 + 1) {
+    if place == 0 || begins_behind(setup, account, text, place - 1) {
         return place;
     }
     begin_of(setup, account, text, place - 1)
@@ -156,7 +159,7 @@ fn end_of(
     ensures from { place ≤ result }
     ensures to { result ≤ 120 }
 {
-    if others == 0 || is_cut(setup, account, text, place, place as u8 + 1) {
+    if others == 0 || ends_before(setup, account, text, place) {
         return place;
     }
     end_of(setup, account, text, place + 1, others - 1)
