@@ -187,14 +187,14 @@ impl Served {
     pub fn run_pages<R: Read + Drop>(
         alloc: Global,
         chart: &[u8],
-        deck: R,
+        mut deck: R,
         pages: PageRange,
     ) -> Served {
         let mut served = Served::new(alloc);
         served.status = run_whole_to_end(
             alloc,
             chart,
-            deck,
+            &mut deck,
             pages,
             &mut served.output,
             &mut served.told,

@@ -5,7 +5,8 @@
 //! and `(divide)` in place of a command, a text that has a chart and its deck, which are run, or of which the lengths are told;
 //! `(10000000 letters)` in one line, and `(1000000 empty lines)` and `(1000001 empty lines)`, in place of a text or deck; `(every wire)`
 //! in place of a wiring chart; `(unreadable)` and `(1000000 blank cards)` in place of a deck; and last of all `(unwritable)`, where the
-//! output can't be written.
+//! output can't be written, `(read 5 fails)`, where the deck is read byte by byte until a read fails, or `(flushes)`, where it is told how
+//! often the output was flushed.
 //! A command `replay --orders` has its orders behind it, given as a text is; `fault` has its number behind it, `fields` that of the card, and
 //! `explain`, `explain --whole`, `ledger` and `ledger --all` the page, the line and the wheel.
 //! A `check deck` checks the deck too, where `check` leaves it alone, a `check groups` also tells the control keys that come back, a `check all`
@@ -101,6 +102,18 @@ fn bytes_of(rt: &HostRuntime, part: &str) -> Result<Vec<u8>> {
     }
 }
 
+// The cards of a row's deck, and the number of its read that fails, where the row names one.
+fn failing_read(deck: &str) -> Option<(&str, u64)> {
+    let Some((cards, words)) = deck.split_once("|(read ") else {
+        return None;
+    };
+    let number = words.strip_suffix(" fails)")?;
+    match number.parse() {
+        Ok(read) => Some((cards, read)),
+        Err(_) => None,
+    }
+}
+
 // A row's deck, and the read of it that fails.
 #[derive(Drop)]
 struct RowDeck {
@@ -116,14 +129,25 @@ impl RowDeck {
                 fails_at: Some(1),
             });
         }
+        if let Some((cards, read)) = failing_read(deck) {
+            return Ok(RowDeck {
+                cards: bytes_of(rt, cards)?,
+                fails_at: Some(read),
+            });
+        }
         Ok(RowDeck {
             cards: bytes_of(rt, deck)?,
             fails_at: None,
         })
     }
 
+    // A reader of the deck. Where a read of it fails, each gives one byte.
     fn reader(&self) -> LimitedReader<'_> {
-        LimitedReader::new(self.cards.as_slice(), usize::MAX, self.fails_at)
+        let cards = self.cards.as_slice();
+        match self.fails_at {
+            Some(_) => LimitedReader::new(cards, 1, self.fails_at),
+            None => LimitedReader::new(cards, usize::MAX, None),
+        }
     }
 }
 
@@ -145,6 +169,33 @@ fn serve_unwritable<R: Read + Drop>(alloc: Global, command: &str, text: &[u8], d
         told,
         status,
     }
+}
+
+// What a command gives, and behind what it prints how often it flushed its output.
+fn serve_flushed<R: Read + Drop>(
+    alloc: Global,
+    command: &str,
+    text: &[u8],
+    deck: R,
+) -> Result<Served> {
+    let mut output = LimitedWriter::new(alloc, usize::MAX, None);
+    let mut told = Vec::new(alloc);
+    let status = serve(
+        alloc,
+        command,
+        text,
+        "my.deck",
+        deck,
+        &mut output,
+        &mut told,
+    );
+    let mut printed = output.bytes().to_vec(alloc)?;
+    writeln!(printed, "flushes {}", output.flushes())?;
+    Ok(Served {
+        output: printed,
+        told,
+        status,
+    })
 }
 
 // The wheel of a line that three numbers name.
@@ -290,6 +341,10 @@ fn row_answer(rt: &HostRuntime, row: Row, text: &[u8]) -> Result<Served> {
     if let Some(deck) = row.deck.strip_suffix("|(unwritable)") {
         let deck = RowDeck::of(rt, deck)?;
         return Ok(serve_unwritable(rt.alloc(), row.command, text, deck.reader()));
+    }
+    if let Some(deck) = row.deck.strip_suffix("|(flushes)") {
+        let deck = RowDeck::of(rt, deck)?;
+        return serve_flushed(rt.alloc(), row.command, text, deck.reader());
     }
     let deck = RowDeck::of(rt, row.deck)?;
     if row.command == "run decks" {

@@ -46,19 +46,21 @@ pub fn obey<'a>(rt: &HostRuntime, wanted: Wanted<'a>) -> Result<Ending, Fault<'a
                 return Ok(tell_output_read(rt));
             }
             let mut pages = Output::open(rt, run.output)?;
-            let cards = Watched::new(rt, decks, !pages.is_terminal());
+            let mut cards = Watched::new(rt, decks, !pages.is_terminal());
             let text = text.as_slice();
             let done = match waiting_pages(&run) {
-                Some(range) => run_whole_to_end(alloc, text, cards, range, &mut pages, faults),
-                None => run_to_end(alloc, text, cards, &mut pages, faults),
+                Some(range) => {
+                    run_whole_to_end(alloc, text, &mut cards, range, &mut pages, faults)
+                }
+                None => run_to_end(alloc, text, &mut cards, &mut pages, faults),
             };
             pages.finish(rt, done)
         }
         Wanted::StandardInput => {
             tell_waiting(rt);
             let text = read_whole(alloc, rt.stdin(), "-")?;
-            let (chart, deck) = chart_and_deck(text.as_slice());
-            run_to_end(alloc, chart, deck, out, faults)
+            let (chart, mut deck) = chart_and_deck(text.as_slice());
+            run_to_end(alloc, chart, &mut deck, out, faults)
         }
         Wanted::Check { chart } => serve_text(rt, Command::Check, chart)?,
         Wanted::ListFaults { chart } => {
