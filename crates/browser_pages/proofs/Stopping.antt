@@ -1,9 +1,10 @@
--- Why no page is written.
+-- How a page is written, and why none is.
 use Rattle.std.proofs.Common.{◌≡◌, ◌≢◌, ◌∙◌, ap, sym, subst, ℕ, List, [], Option, Some, Result, unwrap_or}
 use Rattle.std.specs.Prelude.{IfErr, IfSome}
+use Rattle.std.specs.Io.KnownBytes.{Appends}
 use Rattle.browser_pages.specs.Asked.{LacksAsked}
-use Rattle.browser_pages.specs.ShowEnds.{LeavesUnshown, StopsShow}
-use Rattle.browser_pages.specs.Shown.{IsUnshown, no_such_page, texts}
+use Rattle.browser_pages.specs.ShowEnds.{LeavesUnshown, PrintsPage, PrintsPageOf, StopsShow}
+use Rattle.browser_pages.specs.Shown.{IsShown, IsUnshown, no_such_page, texts}
 use Rattle.faults.specs.declared.fault.Fault.{Fault}
 use Rattle.faults.specs.declared.fault.Fault.TheVariants as fault
 use Rattle.panel_guides.proofs.RefusedTexts.{texts_status}
@@ -13,9 +14,21 @@ use Rattle.panel_guides.specs.Panels.{IsRunOf}
 use Rattle.panel_guides.specs.Unexplained.{unexplained_status}
 use Rattle.panel_guides.specs.declared.unexplained.Unexplained.{Unexplained}
 use Rattle.panel_guides.specs.declared.unexplained.Unexplained.TheVariants as why
-use Rattle.program_io.proofs.Refusing.{is_known}
+use Rattle.program_io.proofs.Refusing.{is_known, read_is_known}
 use Rattle.program_io.proofs.StoppingWith.{outcome_stops_again, texts_stop_with}
 use Rattle.setups.specs.Wiring.{Wiring}
+
+-- the page in memory is written
+pub page_written : (text deck : List ℕ) (around : Option ℕ) (page bytes : List ℕ) (old new : Option (List ℕ)) → IsShown text deck around page
+    → bytes ≡ page → Appends old new bytes → PrintsPageOf text deck around old new
+page_written text deck around page bytes old new shown same written =
+    record { page = page; shown = shown; written = subst (Appends old new) same written }
+
+-- that of the deck that was read
+pub page_of_read : (text read items : List ℕ) (deck : Option (List ℕ)) (around : Option ℕ) (old new : Option (List ℕ)) → read ≡ items
+    → IfSome deck (λ known. items ≡ known) → PrintsPageOf text read around old new → PrintsPage text deck around old new
+page_of_read text read items deck around old new same is_deck prints =
+    record { read = read; is_deck = read_is_known deck read items same is_deck; prints = prints }
 
 module _ (text deck : List ℕ) (around : Option ℕ) where
   -- what is told of the texts

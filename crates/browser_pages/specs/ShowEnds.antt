@@ -29,7 +29,7 @@ pub record LeavesUnshown (text : List ℕ) (deck : Option (List ℕ)) (around : 
   pub unshown : IsUnshown text read around told
 
 -- Why no page was written: the texts are refused or there is no such page of the report, or the deck can't be read, and nothing was written;
--- or the output can't be written, or memory ran out, and a part of the page may have been written.
+-- or the output can't be written, or memory ran out.
 abbrev pub StopsShow : (text : List ℕ) (deck : Option (List ℕ)) (around : Option ℕ) (told : Unexplained) (unreadable : Fault)
     (Unprinted : Type 0) → Type 0
 StopsShow text deck around told unreadable Unprinted =

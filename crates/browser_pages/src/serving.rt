@@ -4,6 +4,7 @@ ghost use Rattle.std.specs.Prelude.{◌≡◌, ◌≤◌, ◌⊎◌, IfErr, OnOk
 ghost use Rattle.faults.specs.Lines.{IsTold};
 ghost use Rattle.panel_guides.specs.Panels.{HasPanel};
 ghost use Rattle.panel_guides.specs.Unexplained.{IsToldUnexplained};
+ghost use Rattle.program_io.specs.Fronts.{WritesFront};
 ghost use Rattle.browser_pages.specs.ShowEnds.{LeavesUnshown, PrintsPage, PrintsPageOf, StopsShow};
 
 use crate::pages::page_of;
@@ -24,6 +25,8 @@ fn print_shown<'a, W: Write>(
     ensures printed { OnOk result (PrintsPageOf text.now deck.now around (W.contents out.old) (W.contents out.new)) }
     ensures stopped { IfErr result (λ told. (unreadable : Fault)
         → StopsShow text.now (Some deck.now) around told unreadable (out.new ≡ out.old)) }
+    ensures front { (out.new ≡ out.old)
+        ⊎ WritesFront (PrintsPageOf text.now deck.now around) (W.contents out.old) (W.contents out.new) }
 {
     let page = page_of(alloc, text, deck, around)?;
     put(out, page.as_bytes())?;
@@ -36,7 +39,7 @@ fn print_shown<'a, W: Write>(
 /// # Errors
 ///
 /// As [`page_of`] tells, and nothing is written; of a deck that can't be read a fault of the text comes before. `Memory` where a growth
-/// was refused and `Write` where the output can't be written, and then a part of the page may have been written.
+/// was refused and `Write` where the output can't be written, and then the front of the page may have been written.
 pub fn print_page<'a, R: Read + Drop, W: Write>(
     alloc: Global,
     text: &[u8],
@@ -48,6 +51,8 @@ pub fn print_page<'a, R: Read + Drop, W: Write>(
     ensures printed { OnOk result (PrintsPage text.now (R.remaining deck) around (W.contents out.old) (W.contents out.new)) }
     ensures stopped { IfErr result (λ told.
         StopsShow text.now (R.remaining deck) around told (Fault.File path.entry) (out.new ≡ out.old)) }
+    ensures front { (out.new ≡ out.old)
+        ⊎ WritesFront (PrintsPage text.now (R.remaining deck) around) (W.contents out.old) (W.contents out.new) }
 {
     match read_whole(alloc, deck, path) {
         Ok(bytes) => print_shown(alloc, text, bytes.as_slice(), around, out),
@@ -63,7 +68,7 @@ pub fn print_page<'a, R: Read + Drop, W: Write>(
 /// The text is a planning chart, whose report of the deck is shown, or a wiring chart, whose pages of the deck are, around a page or none, as
 /// [`page_of`] tells. `path` names the deck in what is told of one that can't be read, after a fault of the text. The statuses are 0 done,
 /// and then nothing is told, 3 refused input, a page that the report doesn't have among it, 4 file fault, 5 memory. Nothing is written by
-/// status 3, nor where the deck can't be read. Where the output can't be written or memory runs out, a part of the page may have been.
+/// status 3, nor where the deck can't be read. Where the output can't be written or memory runs out, the front of the page may have been.
 pub fn show_to_end<R: Read + Drop, W: Write, V: Write>(
     alloc: Global,
     text: &[u8],
@@ -81,6 +86,8 @@ pub fn show_to_end<R: Read + Drop, W: Write, V: Write>(
         × IsTold (Fault.File path.entry) result.is_told (V.contents faults.old) (V.contents faults.new))
         ⊎ IsTold Fault.Write result.is_told (V.contents faults.old) (V.contents faults.new) }
     ensures memory { result.status ≡ 5 → IsTold Fault.Memory result.is_told (V.contents faults.old) (V.contents faults.new) }
+    ensures front { (out.new ≡ out.old)
+        ⊎ WritesFront (PrintsPage text.now (R.remaining deck) around) (W.contents out.old) (W.contents out.new) }
     ensures statuses { (result.status ≡ 0) ⊎ (3 ≤ result.status × result.status ≤ 5) }
 {
     match print_page(alloc, text, path, deck, around, out) {

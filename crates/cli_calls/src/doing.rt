@@ -44,8 +44,8 @@ fn run_together<W: Write, V: Write>(
     ensures { RunsTogether (W.contents out.old) (W.contents out.new) (V.contents faults.old) (V.contents faults.new)
         (out.new ≡ out.old) (faults.new ≡ faults.old) result text.now }
 {
-    let (chart, deck) = chart_and_deck(text);
-    run_to_end(alloc, chart, deck, out, faults)
+    let (chart, mut deck) = chart_and_deck(text);
+    run_to_end(alloc, chart, &mut deck, out, faults)
 }
 
 // Checks a deck.

@@ -1,5 +1,5 @@
 -- What the parts of a command answer, gathered.
-use Rattle.std.proofs.Common.{◌≡◌, ◌≢◌, ◌∙◌, ap, sym, subst, refl, ℕ, List, [], Option, Result, Ok, Err, unwrap_or, IfSome}
+use Rattle.std.proofs.Common.{◌≡◌, ◌≢◌, ◌∙◌, ◌⊎◌, inl, inr, ap, sym, subst, refl, ℕ, List, [], Option, Result, Ok, Err, unwrap_or, IfSome}
 use Rattle.std.specs.Prelude.{IfErr, OnOk, codes}
 use Rattle.std.specs.Io.KnownBytes.{Appends}
 use Rattle.wire_chart.specs.Below.wiring_text.WiringFaults as wiring_faults
@@ -7,6 +7,8 @@ use Rattle.wire_chart.specs.Below.wiring_text.declared.fault.WiringFault.{Wiring
 use Rattle.wire_chart.specs.Below.wiring_text.declared.fault.WiringFault.TheVariants as wiring
 use Rattle.commands.proofs.Refusing.{wiring_refused}
 use Rattle.program_io.proofs.Refusing.{is_known, read_is_known, refusal_is_not_memory}
+use Rattle.program_io.specs.Commands.{word_of}
+use Rattle.program_io.specs.Fronts.{WritesFront}
 use Rattle.commands.specs.Answers.{Answers, Compiles, IsUpgradeOf, IsWiringChartOf, PrintAlike}
 use Rattle.commands.specs.Refusals.{Refuses, RefusesReplay}
 use Rattle.faults.specs.ToldFaults.{wiring_told}
@@ -105,6 +107,25 @@ pub done_for_deck : {X E : Type 0} (result : Result X E) (command unread : Comma
 done_for_deck (Ok _) command unread text deck old new same of_any =
     subst (λ (of : Command). IsDone of text deck old new) (sym same) (of_any deck)
 done_for_deck (Err _) command unread text deck old new same of_any = tt
+
+-- what holds of the front of a command's answer holds of the command that it is
+pub front_by : (given known : Command) (text : List ℕ) (deck old new : Option (List ℕ)) (Nothing : Type 0) → given ≡ known
+    → Nothing ⊎ WritesFront (IsDone known text deck) old new → Nothing ⊎ WritesFront (IsDone given text deck) old new
+front_by given known text deck old new Nothing same front =
+    subst (λ (of : Command). Nothing ⊎ WritesFront (IsDone of text deck) old new) (sym same) front
+
+pub front_for_deck : (given known : Command) (text : List ℕ) (deck old new : Option (List ℕ)) (Nothing : Type 0) → given ≡ known
+    → Nothing ⊎ ((any : Option (List ℕ)) → WritesFront (IsDone known text any) old new) → Nothing ⊎ WritesFront (IsDone given text deck) old new
+front_for_deck given known text deck old new Nothing same (inl none) = inl none
+front_for_deck given known text deck old new Nothing same (inr front) =
+    front_by given known text deck old new Nothing same (inr (front deck))
+
+-- and of the command that a word names
+pub front_by_word : (deck : Option (List ℕ)) {text : List ℕ} {old new : Option (List ℕ)} {Nothing : Type 0} (word : List ℕ) (known : Command)
+    → word ≡ word_of known → Nothing ⊎ WritesFront (IsDone known text deck) old new
+    → Nothing ⊎ ((named : Command) × (word ≡ word_of named) × WritesFront (IsDone named text deck) old new)
+front_by_word deck word known is (inl none) = inl none
+front_by_word deck word known is (inr front) = inr (known, is, front)
 
 pub refused_for_deck : {X : Type 0} (result : Result X Fault) (command unread : Command) (text : List ℕ) (deck : Option (List ℕ)) (Q : Type 0)
     → command ≡ unread

@@ -46,40 +46,45 @@ cause_tells cause.Write told (inl is) = memory is
 cause_tells cause.Write told (inr is) = unwritten is
 cause_tells cause.Memory told named = memory named
 
-ends_tell : (text : List ℕ) (reader old new : Option (List ℕ)) (told : Fault) (Unprinted : Type 0)
-    → EndsRun text reader old new told Unprinted → Tells told
-ends_tell text reader old new told Unprinted (chart_refused refuses unprinted) = refused_or_memory told (chart_refusal text told refuses)
-ends_tell text reader old new told Unprinted (chart_unread is unprinted) = memory is
-ends_tell text reader old new told Unprinted (run_stopped stops) = cause_tells stops.fault.cause told stops.named
+ends_tell : {text : List ℕ} {reader left old new : Option (List ℕ)} {told : Fault} {Unprinted : Type 0}
+    → EndsRun text reader left old new told Unprinted → Tells told
+ends_tell {text = text} {told = told} (chart_refused refuses unprinted) = refused_or_memory told (chart_refusal text told refuses)
+ends_tell (chart_unread is unprinted) = memory is
+ends_tell {told = told} (run_stopped stops) = cause_tells stops.fault.cause told stops.named
+
+-- the line that tells a fault tells it by another name
+pub line_of : (told : Fault) (is_told : Bool) (before after : Option (List ℕ)) → IsTold told is_told before after → (met : Fault) → told ≡ met
+    → IsTold met is_told before after
+line_of told is_told before after line met is = subst (λ (of : Fault). IsTold of is_told before after) is line
 
 -- which line is told by the status of what stopped a run
-module _ (text : List ℕ) (reader old new : Option (List ℕ)) (told : Fault) (Unprinted : Type 0) (status : ℕ) (is_told : Bool)
+module _ {text : List ℕ} {reader left old new : Option (List ℕ)} (told : Fault) {Unprinted : Type 0} (status : ℕ) (is_told : Bool)
     (before after : Option (List ℕ)) (is_status : status ≡ status_of told) (line : IsTold told is_told before after) where
-  pub line_of : (met : Fault) → told ≡ met → IsTold met is_told before after
-  line_of met is = subst (λ (of : Fault). IsTold of is_told before after) is line
+  line_met : (met : Fault) → told ≡ met → IsTold met is_told before after
+  line_met = line_of told is_told before after line
 
   -- a run: a card that was not read, or the output
-  pub run_device : EndsRun text reader old new told Unprinted → status ≡ 4
+  pub run_device : EndsRun text reader left old new told Unprinted → status ≡ 4
       → IsTold fault.Write is_told before after ⊎ ((card : ℕ) × IsTold (fault.Unread card) is_told before after)
-  run_device ends four = by (ends_tell text reader old new told Unprinted ends)
+  run_device ends four = by (ends_tell ends)
     where
       by : Tells told → IsTold fault.Write is_told before after ⊎ ((card : ℕ) × IsTold (fault.Unread card) is_told before after)
       by (refused three) = absurd (omega (arith, is_status, three, four))
-      by (unread card is) = inr (card, line_of (fault.Unread card) is)
-      by (unwritten is) = inl (line_of fault.Write is)
+      by (unread card is) = inr (card, line_met (fault.Unread card) is)
+      by (unwritten is) = inl (line_met fault.Write is)
       by (memory is) = absurd (omega (arith, is_status, ap status_of is, four))
 
-  pub run_memory : EndsRun text reader old new told Unprinted → status ≡ 5 → IsTold fault.Memory is_told before after
-  run_memory ends five = by (ends_tell text reader old new told Unprinted ends)
+  pub run_memory : EndsRun text reader left old new told Unprinted → status ≡ 5 → IsTold fault.Memory is_told before after
+  run_memory ends five = by (ends_tell ends)
     where
       by : Tells told → IsTold fault.Memory is_told before after
       by (refused three) = absurd (omega (arith, is_status, three, five))
       by (unread card is) = absurd (omega (arith, is_status, ap status_of is, five))
       by (unwritten is) = absurd (omega (arith, is_status, ap status_of is, five))
-      by (memory is) = line_of fault.Memory is
+      by (memory is) = line_met fault.Memory is
 
-  pub run_ends_status : EndsRun text reader old new told Unprinted → 3 ≤ status × status ≤ 5
-  run_ends_status ends = by (ends_tell text reader old new told Unprinted ends)
+  pub run_ends_status : EndsRun text reader left old new told Unprinted → 3 ≤ status × status ≤ 5
+  run_ends_status ends = by (ends_tell ends)
     where
       by : Tells told → 3 ≤ status × status ≤ 5
       by (refused three) = (omega (arith, is_status, three), omega (arith, is_status, three))

@@ -20,7 +20,7 @@ use Rattle.faults.specs.Status.{status_of}
 use Rattle.faults.specs.declared.deck.RunFault.TheVariants as deck
 use Rattle.faults.specs.declared.fault.Fault.{Fault}
 use Rattle.faults.specs.declared.fault.Fault.TheVariants as fault
-use Rattle.compile407.specs.Below.streamed_runs.Runs.{HasRun, RunsToEnd, StopsShort}
+use Rattle.compile407.specs.Below.streamed_runs.Runs.{HasRun, HasStopped, RunsToEnd, StopsShort}
 use Rattle.compile407.specs.Below.streamed_runs.declared.fault.StreamCause.TheVariants as cause
 use Rattle.compile407.specs.Below.streamed_runs.declared.fault.StreamFault.{StreamFault}
 
@@ -49,46 +49,60 @@ run_whole compiled text compiles reader old new count run = record {
       };
 }
 
--- What was written until a run stopped stays: what the stopped run left is kept, and stands after what the writer held.
-pub stopped_in_run : (compiled : Compilation) (text : List ℕ) → CompilesAs text compiled → (reader source left lent middle kept old new : Option (List ℕ))
-    (stopped : StreamFault) (told : Fault) → IsToldOf stopped.cause told → source ≡ reader
-    → StopsShort compiled.chart source left lent middle stopped → Keeps middle kept
-    → ((written : List ℕ) → Appends lent kept written → Appends old new written) → StopsInRun text reader old new told
-stopped_in_run compiled text compiles reader source left lent middle kept old new stopped told named same stops keeps back = record {
+-- What was written until a run stopped stays: what the stopped run left is kept, and stands after what the writer held. What it left of the
+-- deck is what the reader has left.
+pub stopped_in_run : (compiled : Compilation) (text : List ℕ) → CompilesAs text compiled
+    → (reader source rest left lent middle kept old new : Option (List ℕ)) (stopped : StreamFault) (told : Fault) → IsToldOf stopped.cause told
+    → source ≡ reader → rest ≡ left → StopsShort compiled.chart source rest lent middle stopped → Keeps middle kept
+    → ((written : List ℕ) → Appends lent kept written → Appends old new written) → StopsInRun text reader left old new told
+stopped_in_run compiled text compiles reader source rest left lent middle kept old new stopped told named same is_left stops keeps back = record {
   compiled = compiled;
   compiles = compiles;
   fault = stopped;
   named = named;
-  left = left;
   stopped = record {
     written = stops.written;
     gained = back stops.written (Appends-kept lent middle kept stops.written stops.gained keeps);
     counted = stops.counted;
-    stopped = λ known is. stops.stopped known (same ∙ is);
+    stopped = λ known is.
+        subst (λ (of : Option (List ℕ)). HasStopped compiled.chart known of stopped.cause stops.written) is_left
+        (stops.stopped known (same ∙ is));
   };
 }
 
 -- the chart was refused, or memory was wanting for it
-pub ends_by_chart : (text : List ℕ) (reader old new : Option (List ℕ)) (met told : Fault) (Unprinted : Type 0)
-    → (met ≢ fault.Memory → RefusesChart text met) → told ≡ met → Unprinted → EndsRun text reader old new told Unprinted
-ends_by_chart text reader old new met told Unprinted refuses same unprinted = by (memory_or_not met)
+pub ends_by_chart : (text : List ℕ) (reader left old new : Option (List ℕ)) (met told : Fault) (Unprinted : Type 0)
+    → (met ≢ fault.Memory → RefusesChart text met) → told ≡ met → Unprinted → EndsRun text reader left old new told Unprinted
+ends_by_chart text reader left old new met told Unprinted refuses same unprinted = by (memory_or_not met)
   where
-    by : (met ≡ fault.Memory) ⊎ (met ≢ fault.Memory) → EndsRun text reader old new told Unprinted
+    by : (met ≡ fault.Memory) ⊎ (met ≢ fault.Memory) → EndsRun text reader left old new told Unprinted
     by (inl is) = chart_unread (same ∙ is) unprinted
     by (inr not_memory) = chart_refused (subst (RefusesChart text) (sym same) (refuses not_memory)) unprinted
 
 -- a run whose texts are refused
-pub refused_run : (text : List ℕ) (reader old new : Option (List ℕ)) (told : Fault) (Unprinted : Type 0)
-    → EndsRun text reader old new told Unprinted → status_of told ≡ 3 → HasRefused command.Run text reader old new told Unprinted
-refused_run text reader old new told Unprinted (chart_refused refuses unprinted) three = inl (refuses, unprinted)
-refused_run text reader old new told Unprinted (chart_unread is unprinted) three = absurd (omega (arith, ap status_of is, three))
-refused_run text reader old new told Unprinted (run_stopped stops) three = inr stops
+pub refused_run : (text : List ℕ) (reader left old new : Option (List ℕ)) (told : Fault) (Unprinted : Type 0)
+    → EndsRun text reader left old new told Unprinted → status_of told ≡ 3
+    → (RefusesChart text told × Unprinted) ⊎ StopsInRun text reader left old new told
+refused_run text reader left old new told Unprinted (chart_refused refuses unprinted) three = inl (refuses, unprinted)
+refused_run text reader left old new told Unprinted (chart_unread is unprinted) three = absurd (omega (arith, ap status_of is, three))
+refused_run text reader left old new told Unprinted (run_stopped stops) three = inr stops
 
-pub run_refused : {X : Type 0} (result : Result X Fault) (text : List ℕ) (reader old new : Option (List ℕ)) (Unprinted : Type 0)
-    → IfErr result (λ told. EndsRun text reader old new told Unprinted)
-    → IfErr result (λ told. status_of told ≡ 3 → HasRefused command.Run text reader old new told Unprinted)
-run_refused (Ok _) text reader old new Unprinted ends = tt
-run_refused (Err told) text reader old new Unprinted ends = refused_run text reader old new told Unprinted ends
+-- whatever the reader has left
+module _ {X : Type 0} (text : List ℕ) (reader left old new : Option (List ℕ)) (Unprinted : Type 0) where
+  left_then : {told : Fault} → (RefusesChart text told × Unprinted) ⊎ StopsInRun text reader left old new told
+      → HasRefused command.Run text reader old new told Unprinted
+  left_then (inl refuses) = inl refuses
+  left_then (inr stops) = inr (left, stops)
+
+  pub run_refused : (result : Result X Fault) → IfErr result (λ told. EndsRun text reader left old new told Unprinted)
+      → IfErr result (λ told. status_of told ≡ 3 → HasRefused command.Run text reader old new told Unprinted)
+  run_refused (Ok _) ends = tt
+  run_refused (Err told) ends = λ three. left_then (refused_run text reader left old new told Unprinted ends three)
+
+  pub run_failed : (unreadable : Fault) (result : Result X Fault) → IfErr result (λ told. EndsRun text reader left old new told Unprinted)
+      → IfErr result (λ told. HasFailed command.Run text reader old new told unreadable Unprinted)
+  run_failed unreadable (Ok _) ends = tt
+  run_failed unreadable (Err told) ends = (left, ends)
 
 -- what holds of a command holds of the one that it is
 pub served_by : {X E : Type 0} (result : Result X E) (given known : Command) (text : List ℕ) (reader old new : Option (List ℕ))
@@ -134,8 +148,8 @@ module _ (text : List ℕ) (reader old new : Option (List ℕ)) (told unreadable
   -- of a replay its deck too, where the wiring chart reads
   replay_device : status ≡ 4 → Stops told unreadable Unprinted → (told ≡ unreadable → HasWiring text) → Device command.Replay
   replay_device four (texts_refused three unprinted) reads = absurd (omega (arith, is_status, three, four))
-  replay_device four (deck_unread is unprinted) reads = inl (unprinted, refl, reads is, line_of text reader old new told Unprinted status is_told before after is_status line unreadable is)
-  replay_device four (output_unwritten is) reads = inr (inl (line_of text reader old new told Unprinted status is_told before after is_status line fault.Write is))
+  replay_device four (deck_unread is unprinted) reads = inl (unprinted, refl, reads is, line_of told is_told before after line unreadable is)
+  replay_device four (output_unwritten is) reads = inr (inl (line_of told is_told before after line fault.Write is))
   replay_device four (memory_wanting is) reads = absurd (omega (arith, is_status, ap status_of is, four))
 
   of_run_device : IsTold fault.Write is_told before after ⊎ ((card : ℕ) × IsTold (fault.Unread card) is_told before after)
@@ -144,7 +158,7 @@ module _ (text : List ℕ) (reader old new : Option (List ℕ)) (told unreadable
   of_run_device (inr unread_card) = inr (inr (refl, unread_card))
 
   pub told_of_device_by : (known : Command) → HasFailed known text reader old new told unreadable Unprinted → status ≡ 4 → Device known
-  told_of_device_by command.Run has four = of_run_device (run_device text reader old new told Unprinted status is_told before after is_status line has four)
+  told_of_device_by command.Run has four = of_run_device (run_device told status is_told before after is_status line has.1 four)
   told_of_device_by command.Check has four = output_device command.Check four has
   told_of_device_by command.Wire has four = output_device command.Wire four has
   told_of_device_by command.Replay has four = replay_device four has.0 has.1
@@ -152,7 +166,7 @@ module _ (text : List ℕ) (reader old new : Option (List ℕ)) (told unreadable
 
   pub told_of_memory_by : (known : Command) → HasFailed known text reader old new told unreadable Unprinted → status ≡ 5
       → IsTold fault.Memory is_told before after
-  told_of_memory_by command.Run has five = run_memory text reader old new told Unprinted status is_told before after is_status line has five
+  told_of_memory_by command.Run has five = run_memory told status is_told before after is_status line has.1 five
   told_of_memory_by command.Check has five =
       told_of_memory told fault.Write Unprinted status is_told before after has is_status line refl five
   told_of_memory_by command.Wire has five =
@@ -163,7 +177,7 @@ module _ (text : List ℕ) (reader old new : Option (List ℕ)) (told unreadable
       told_of_memory told fault.Write Unprinted status is_told before after has is_status line refl five
 
   pub told_status_by : (known : Command) → HasFailed known text reader old new told unreadable Unprinted → 3 ≤ status × status ≤ 5
-  told_status_by command.Run has = run_ends_status text reader old new told Unprinted status is_told before after is_status line has
+  told_status_by command.Run has = run_ends_status told status is_told before after is_status line has.1
   told_status_by command.Check has = stopped_status told fault.Write Unprinted status is_told before after has is_status line refl
   told_status_by command.Wire has = stopped_status told fault.Write Unprinted status is_told before after has is_status line refl
   told_status_by command.Replay has = stopped_status told unreadable Unprinted status is_told before after has.0 is_status line path
@@ -202,3 +216,8 @@ pub handed_back : {W N : Type 0} (contents : W → Option (List ℕ)) (written :
 handed_back {W = W} contents written {old = old} {lent = lent} {left = left} final is same stays holds =
     subst (λ (state : W). Appends (contents old) (contents state) written) (sym (final.1 is ∙ stays))
     (subst (λ (state : W). Appends (contents state) (contents left) written) same holds)
+
+-- What was lent is, once it is back, as its lender left it.
+pub is_back : {W N : Type 0} {name last : N} {left now : W} (final : (state : W) × (name ≡ last → state ≡ now)) → name ≡ last → now ≡ left
+    → left ≡ final.0
+is_back final is stays = sym (final.1 is ∙ stays)

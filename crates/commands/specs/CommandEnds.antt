@@ -1,6 +1,6 @@
 -- What a command has done where it ends well, and what it has told where it doesn't. The deck is known where its reader tells its bytes
 -- beforehand, and what is written where the writer tells what it holds.
-use Rattle.std.specs.Prelude.{◌≡◌, ℕ, ◌≤◌, List, Option, IfSome, length, take}
+use Rattle.std.specs.Prelude.{◌≡◌, ℕ, List, Option, IfSome}
 use Rattle.std.specs.Io.KnownBytes.{Appends}
 use Rattle.commands.specs.Answers.{Answers, AreReplayedPages}
 use Rattle.commands.specs.Refusals.{Refuses}
@@ -26,11 +26,3 @@ pub record PrintsReplay (text deck : List ℕ) (old new : Option (List ℕ)) : T
   pub answer : List ℕ
   pub pages : AreReplayedPages text deck answer
   pub written : Appends old new answer
-
--- The first bytes of them were printed after what was there, so many.
-pub record PrintsFront (text deck : List ℕ) (old new : Option (List ℕ)) : Type 0 where
-  pub answer : List ℕ
-  pub pages : AreReplayedPages text deck answer
-  pub count : ℕ
-  pub within : count ≤ length answer
-  pub written : Appends old new (take count answer)

@@ -39,22 +39,21 @@ pub record HasRunWhole (text : List ℕ) (deck old new : Option (List ℕ)) : Ty
   pub compiles : CompilesAs text compiled
   pub whole : (known : List ℕ) → deck ≡ Some known → IsDone command.Run text deck old new
 
--- The text is a chart that compiles; the run stopped, and this is told of its cause. As many bytes were written after what was there as the
--- run counts; they are the front of the report of the cards read so far, and where a card or a total stopped it, exactly the lines before
--- those of a card.
-pub record StopsInRun (text : List ℕ) (deck old new : Option (List ℕ)) (told : Fault) : Type 0 where
+-- The text is a chart that compiles; the run stopped, with so much of the deck left to the reader, and this is told of its cause. As many bytes
+-- were written after what was there as the run counts; they are the front of the report of the cards read so far, and where a card or a total
+-- stopped it, exactly the lines before those of a card.
+pub record StopsInRun (text : List ℕ) (deck left old new : Option (List ℕ)) (told : Fault) : Type 0 where
   pub compiled : Compilation
   pub compiles : CompilesAs text compiled
   pub fault : StreamFault
   pub named : IsToldOf fault.cause told
-  pub left : Option (List ℕ)
   pub stopped : StopsShort compiled.chart deck left old new fault
 
 -- Why a run was not done: its chart is refused, or memory was wanting for it, and nothing was printed; or the run stopped.
-pub data EndsRun (text : List ℕ) (deck old new : Option (List ℕ)) (told : Fault) (Unprinted : Type 0) : Type 0 where
-  chart_refused : RefusesChart text told → Unprinted → EndsRun text deck old new told Unprinted
-  chart_unread : told ≡ fault.Memory → Unprinted → EndsRun text deck old new told Unprinted
-  run_stopped : StopsInRun text deck old new told → EndsRun text deck old new told Unprinted
+pub data EndsRun (text : List ℕ) (deck left old new : Option (List ℕ)) (told : Fault) (Unprinted : Type 0) : Type 0 where
+  chart_refused : RefusesChart text told → Unprinted → EndsRun text deck left old new told Unprinted
+  chart_unread : told ≡ fault.Memory → Unprinted → EndsRun text deck left old new told Unprinted
+  run_stopped : StopsInRun text deck left old new told → EndsRun text deck left old new told Unprinted
 
 -- what a command has done where it ends well
 abbrev pub HasServed : Command → List ℕ → (deck old new : Option (List ℕ)) → Type 0
@@ -66,7 +65,8 @@ HasServed command.Upgrade text deck old new = IsDone command.Upgrade text deck o
 
 -- What a command has told and printed where it refuses its texts: nothing is printed, but by a run whose chart compiles.
 abbrev pub HasRefused : Command → List ℕ → (deck old new : Option (List ℕ)) → Fault → (Unprinted : Type 0) → Type 0
-HasRefused command.Run text deck old new told Unprinted = (RefusesChart text told × Unprinted) ⊎ StopsInRun text deck old new told
+HasRefused command.Run text deck old new told Unprinted =
+    (RefusesChart text told × Unprinted) ⊎ ((left : Option (List ℕ)) × StopsInRun text deck left old new told)
 HasRefused command.Check text deck old new told Unprinted = IsRefused command.Check text deck told × Unprinted
 HasRefused command.Wire text deck old new told Unprinted = IsRefused command.Wire text deck told × Unprinted
 HasRefused command.Replay text deck old new told Unprinted = IsRefused command.Replay text deck told × Unprinted
@@ -75,7 +75,8 @@ HasRefused command.Upgrade text deck old new told Unprinted = IsRefused command.
 -- Why a command was not carried out. The deck's own fault is told of a replay alone, and only where its wiring chart reads; of the commands
 -- that read no deck the one device is the output.
 abbrev pub HasFailed : Command → List ℕ → (deck old new : Option (List ℕ)) → (told unreadable : Fault) → (Unprinted : Type 0) → Type 0
-HasFailed command.Run text deck old new told unreadable Unprinted = EndsRun text deck old new told Unprinted
+HasFailed command.Run text deck old new told unreadable Unprinted =
+    (left : Option (List ℕ)) × EndsRun text deck left old new told Unprinted
 HasFailed command.Check text deck old new told unreadable Unprinted = Stops told fault.Write Unprinted
 HasFailed command.Wire text deck old new told unreadable Unprinted = Stops told fault.Write Unprinted
 HasFailed command.Replay text deck old new told unreadable Unprinted = Stops told unreadable Unprinted × (told ≡ unreadable → HasWiring text)

@@ -3,7 +3,8 @@
 ghost use Rattle.std.specs.Prelude.{◌≡◌, ◌⊎◌, ℕ, IfErr, OnErr, OnOk};
 ghost use Rattle.card_code.specs.Deck.{IsDeckText};
 ghost use Rattle.commands.specs.Refusals.{RefusesReplay};
-ghost use Rattle.commands.specs.CommandEnds.{PrintsFront, PrintsReplay};
+ghost use Rattle.commands.specs.CommandEnds.{PrintsReplay};
+ghost use Rattle.program_io.specs.Fronts.{WritesFront};
 ghost use Rattle.program_io.specs.Stops.{Stops};
 ghost use Rattle.faults.specs.Status.{status_of};
 ghost use Rattle.commands.specs.DeckReplays.Replays.{GainsFront, GainsPages};
@@ -11,7 +12,7 @@ ghost use Rattle.commands.specs.DeckReplays.Replays.{GainsFront, GainsPages};
 use crate::replays::{ReplayCause, Replayed, replay};
 use card_code::check_deck;
 use faults::Fault;
-use program_io::Lent;
+use program_io::LentWriter;
 use setups::Setup;
 use std::alloc::Global;
 use std::io::Write;
@@ -40,7 +41,7 @@ fn print_deck<'a, W: Write>(
     ensures front { OnErr result ((count : ℕ) × GainsFront setup.now deck.now count (W.contents out.old) (W.contents out.new)) }
     ensures told { IfErr result (λ told. (told ≡ Fault.Memory) ⊎ (told ≡ Fault.Write)) }
 {
-    let Replayed { sink, written } = replay(alloc, setup, deck, Lent::new(out));
+    let Replayed { sink, written } = replay(alloc, setup, deck, LentWriter::new(out));
     let unwritten = sink.told();
     // The lent output is handed back, so that it is known what was written: that saves a caller to give it away.
     let _out = sink.into_writer();
@@ -65,7 +66,7 @@ pub fn print_replay<'a, W: Write>(
     ensures pages { OnOk result (PrintsReplay wiring.now deck.now (W.contents out.old) (W.contents out.new)) }
     ensures refused { IfErr result (λ told. status_of told ≡ 3 → RefusesReplay wiring.now deck.now told × (out.new ≡ out.old)) }
     ensures stopped { IfErr result (λ told. (unreadable : Fault) → Stops told unreadable (out.new ≡ out.old)) }
-    ensures front { OnErr result ((out.new ≡ out.old) ⊎ PrintsFront wiring.now deck.now (W.contents out.old) (W.contents out.new)) }
+    ensures front { (out.new ≡ out.old) ⊎ WritesFront (PrintsReplay wiring.now deck.now) (W.contents out.old) (W.contents out.new) }
 {
     let setup = read_setup(alloc, wiring)?;
     check_deck(deck)?;

@@ -9,9 +9,9 @@ ghost use Rattle.faults.specs.Status.{status_of};
 use crate::answers::compilation;
 use card_lines::ReadFault;
 use compile407::RunFault;
-use devices::{FromRead, Sink};
+use devices::Sink;
 use faults::{Ending, Fault, tell};
-use program_io::Lent;
+use program_io::{LentReader, LentWriter};
 use std::alloc::Global;
 use std::io::{Read, Write};
 use streamed_runs::{StreamCause, Streamed, stream_deck};
@@ -46,7 +46,8 @@ fn told_of<'a>(cause: StreamCause, unwritten: Fault<'a>) -> Fault<'a>
     }
 }
 
-/// Prints the pages of a planning chart and a deck, card by card. The chart is compiled before any byte of the deck is read.
+/// Prints the pages of a planning chart and of the deck that a reader has left, card by card. The chart is compiled before any byte of the
+/// deck is read.
 ///
 /// # Errors
 ///
@@ -54,23 +55,27 @@ fn told_of<'a>(cause: StreamCause, unwritten: Fault<'a>) -> Fault<'a>
 /// meets: of a card that can't be read, is none or isn't valid, or of a total that doesn't fit, and then the lines before those of a card
 /// are printed; `Memory` where a growth was refused and `Write` where the output can't be written, and then the front of the pages may
 /// have been printed.
-pub fn print_run<'a, R: Read + Drop, W: Write>(
+pub fn print_run<'a, R: Read, W: Write>(
     alloc: Global,
     chart: &[u8],
-    deck: R,
+    deck: &mut R,
     out: &mut W,
 ) -> Result<(), Fault<'a>>
-    ensures whole { OnOk result (HasRunWhole chart.now (R.remaining deck) (W.contents out.old) (W.contents out.new)) }
+    ensures whole { OnOk result (HasRunWhole chart.now (R.remaining deck.old) (W.contents out.old) (W.contents out.new)) }
     ensures ends { IfErr result (λ told.
-        EndsRun chart.now (R.remaining deck) (W.contents out.old) (W.contents out.new) told (out.new ≡ out.old)) }
+        EndsRun chart.now (R.remaining deck.old) (R.remaining deck.new) (W.contents out.old) (W.contents out.new) told (out.new ≡ out.old)) }
 {
     let compiled = compilation(alloc, chart)?;
-    let Streamed { mut sink, run, .. } = stream_deck(
+    let Streamed {
+        source,
+        mut sink,
+        run,
+    } = stream_deck(
         alloc,
         compiled.chart(),
         compiled.setup(),
-        FromRead::new(deck),
-        Lent::new(out),
+        LentReader::new(deck),
+        LentWriter::new(out),
     );
     let unwritten = sink.told();
     match run {
@@ -82,37 +87,38 @@ pub fn print_run<'a, R: Read + Drop, W: Write>(
         Err(fault) => {
             // What was written is handed on; where that fails too, the first fault is told.
             let _ = sink.flush();
-            // As above.
+            // Both are handed back, as above.
+            let _deck = source.into_reader();
             let _out = sink.into_writer();
             Err(told_of(fault.cause, unwritten))
         }
     }
 }
 
-/// Runs a deck through a planning chart, and tells on one line of `faults` why the run stopped.
+/// Runs the deck that a reader has left through a planning chart, and tells on one line of `faults` why the run stopped.
 ///
 /// The chart compiles before any byte of the deck is read, and the pages are printed card by card. The statuses are 0 done, and then nothing
 /// is told, 3 refused input, 4 file fault, 5 memory. If the chart is refused, nothing is printed. A fault of a card, of a total or of the
-/// reader leaves the lines before those of a card printed, and no byte more. If the output can't be written or memory runs out, a part of
+/// reader leaves the lines before those of a card printed, and no byte more. If the output can't be written or memory runs out, the front of
 /// the pages may have been.
-pub fn run_to_end<R: Read + Drop, W: Write, V: Write>(
+pub fn run_to_end<R: Read, W: Write, V: Write>(
     alloc: Global,
     chart: &[u8],
-    deck: R,
+    deck: &mut R,
     out: &mut W,
     faults: &mut V,
 ) -> Ending
-    ensures done { result.status ≡ 0 → HasRunWhole chart.now (R.remaining deck) (W.contents out.old) (W.contents out.new)
+    ensures done { result.status ≡ 0 → HasRunWhole chart.now (R.remaining deck.old) (W.contents out.old) (W.contents out.new)
         × (faults.new ≡ faults.old) }
     ensures refused { result.status ≡ 3 → (told : Fault)
         × ((RefusesChart chart.now told × (out.new ≡ out.old))
-        ⊎ StopsInRun chart.now (R.remaining deck) (W.contents out.old) (W.contents out.new) told)
+        ⊎ StopsInRun chart.now (R.remaining deck.old) (R.remaining deck.new) (W.contents out.old) (W.contents out.new) told)
         × IsTold told result.is_told (V.contents faults.old) (V.contents faults.new) }
     ensures device { result.status ≡ 4 → IsTold Fault.Write result.is_told (V.contents faults.old) (V.contents faults.new)
         ⊎ ((card : ℕ) × IsTold (Fault.Unread card) result.is_told (V.contents faults.old) (V.contents faults.new)) }
     ensures memory { result.status ≡ 5 → IsTold Fault.Memory result.is_told (V.contents faults.old) (V.contents faults.new) }
     ensures stopped { 3 ≤ result.status → (told : Fault) × (result.status ≡ status_of told)
-        × EndsRun chart.now (R.remaining deck) (W.contents out.old) (W.contents out.new) told (out.new ≡ out.old)
+        × EndsRun chart.now (R.remaining deck.old) (R.remaining deck.new) (W.contents out.old) (W.contents out.new) told (out.new ≡ out.old)
         × IsTold told result.is_told (V.contents faults.old) (V.contents faults.new) }
     ensures statuses { (result.status ≡ 0) ⊎ (3 ≤ result.status × result.status ≤ 5) }
 {

@@ -4,6 +4,7 @@ ghost use Rattle.std.specs.Prelude.{◌≡◌, ◌≢◌, ◌≤◌, ◌⊎◌, 
 ghost use Rattle.program_io.specs.Commands.{IsNoCommand, word_of};
 ghost use Rattle.commands.specs.Answers.{HasWiring};
 ghost use Rattle.commands.specs.CommandEnds.{IsDone, IsRefused};
+ghost use Rattle.program_io.specs.Fronts.{WritesFront};
 ghost use Rattle.program_io.specs.Stops.{Stops};
 ghost use Rattle.commands.specs.Streamed.{HasFailed, HasRefused, HasServed};
 ghost use Rattle.faults.specs.Lines.{IsTold};
@@ -25,6 +26,8 @@ fn serve_check<'a, W: Write>(alloc: Global, text: &[u8], out: &mut W) -> Result<
     ensures refused { IfErr result (λ told. status_of told ≡ 3
         → ((deck : Option (List ℕ)) → IsRefused Command.Check text.now deck told) × (out.new ≡ out.old)) }
     ensures stopped { IfErr result (λ told. (unreadable : Fault) → Stops told unreadable (out.new ≡ out.old)) }
+    ensures front { (out.new ≡ out.old) ⊎ ((deck : Option (List ℕ))
+        → WritesFront (IsDone Command.Check text.now deck) (W.contents out.old) (W.contents out.new)) }
 {
     check(alloc, text)?;
     put(out, b"ok\n")
@@ -37,6 +40,8 @@ fn serve_wire<'a, W: Write>(alloc: Global, text: &[u8], out: &mut W) -> Result<(
     ensures refused { IfErr result (λ told. status_of told ≡ 3
         → ((deck : Option (List ℕ)) → IsRefused Command.Wire text.now deck told) × (out.new ≡ out.old)) }
     ensures stopped { IfErr result (λ told. (unreadable : Fault) → Stops told unreadable (out.new ≡ out.old)) }
+    ensures front { (out.new ≡ out.old) ⊎ ((deck : Option (List ℕ))
+        → WritesFront (IsDone Command.Wire text.now deck) (W.contents out.old) (W.contents out.new)) }
 {
     let written = wiring_chart(alloc, text)?;
     put(out, written.as_bytes())
@@ -49,6 +54,8 @@ fn serve_upgrade<'a, W: Write>(alloc: Global, text: &[u8], out: &mut W) -> Resul
     ensures refused { IfErr result (λ told. status_of told ≡ 3
         → ((deck : Option (List ℕ)) → IsRefused Command.Upgrade text.now deck told) × (out.new ≡ out.old)) }
     ensures stopped { IfErr result (λ told. (unreadable : Fault) → Stops told unreadable (out.new ≡ out.old)) }
+    ensures front { (out.new ≡ out.old) ⊎ ((deck : Option (List ℕ))
+        → WritesFront (IsDone Command.Upgrade text.now deck) (W.contents out.old) (W.contents out.new)) }
 {
     let rewritten = upgraded(alloc, text)?;
     put(out, rewritten.as_bytes())
@@ -67,6 +74,8 @@ fn serve_replay<'a, R: Read + Drop, W: Write>(
         → IsRefused Command.Replay text.now (R.remaining deck) told × (out.new ≡ out.old)) }
     ensures unread { IfErr result (λ told. told ≡ Fault.File path.entry → HasWiring text.now) }
     ensures stopped { IfErr result (λ told. Stops told (Fault.File path.entry) (out.new ≡ out.old)) }
+    ensures front { (out.new ≡ out.old)
+        ⊎ WritesFront (IsDone Command.Replay text.now (R.remaining deck)) (W.contents out.old) (W.contents out.new) }
 {
     match read_whole(alloc, deck, path) {
         Ok(bytes) => print_replay(alloc, text, bytes.as_slice(), out),
@@ -83,7 +92,7 @@ fn carry_out<'a, R: Read + Drop, W: Write>(
     command: Command,
     text: &[u8],
     path: &'a str,
-    deck: R,
+    mut deck: R,
     out: &mut W,
 ) -> Result<(), Fault<'a>>
     ensures done { OnOk result (HasServed command text.now (R.remaining deck) (W.contents out.old) (W.contents out.new)) }
@@ -91,12 +100,14 @@ fn carry_out<'a, R: Read + Drop, W: Write>(
         → HasRefused command text.now (R.remaining deck) (W.contents out.old) (W.contents out.new) told (out.new ≡ out.old)) }
     ensures failed { IfErr result (λ told.
         HasFailed command text.now (R.remaining deck) (W.contents out.old) (W.contents out.new) told (Fault.File path.entry) (out.new ≡ out.old)) }
+    ensures front { command ≢ Command.Run → (out.new ≡ out.old)
+        ⊎ WritesFront (IsDone command text.now (R.remaining deck)) (W.contents out.old) (W.contents out.new) }
 {
     match command {
         Command::Check => serve_check(alloc, text, out),
         Command::Wire => serve_wire(alloc, text, out),
         Command::Upgrade => serve_upgrade(alloc, text, out),
-        Command::Run => print_run(alloc, text, deck, out),
+        Command::Run => print_run(alloc, text, &mut deck, out),
         Command::Replay => serve_replay(alloc, text, path, deck, out),
     }
 }
@@ -110,7 +121,7 @@ fn carry_out<'a, R: Read + Drop, W: Write>(
 /// fault, 5 memory.
 ///
 /// Nothing is printed by status 3, but by a run whose chart compiles, nor if the deck of a replay can't be read. If the output can't be
-/// written or memory runs out, a part of the answer may have been.
+/// written or memory runs out, the front of the answer may have been.
 pub fn serve_command<R: Read + Drop, W: Write, V: Write>(
     alloc: Global,
     command: Command,
@@ -135,6 +146,8 @@ pub fn serve_command<R: Read + Drop, W: Write, V: Write>(
     ensures failed { 3 ≤ result.status → (told : Fault) × (result.status ≡ status_of told)
         × HasFailed command text.now (R.remaining deck) (W.contents out.old) (W.contents out.new) told (Fault.File path.entry) (out.new ≡ out.old)
         × IsTold told result.is_told (V.contents faults.old) (V.contents faults.new) }
+    ensures front { command ≢ Command.Run → (out.new ≡ out.old)
+        ⊎ WritesFront (IsDone command text.now (R.remaining deck)) (W.contents out.old) (W.contents out.new) }
     ensures statuses { (result.status ≡ 0) ⊎ (3 ≤ result.status × result.status ≤ 5) }
 {
     match carry_out(alloc, command, text, path, deck, out) {
@@ -176,6 +189,8 @@ pub fn serve_to_end<R: Read + Drop, W: Write, V: Write>(
         × (result.status ≡ status_of told)
         × HasFailed known text.now (R.remaining deck) (W.contents out.old) (W.contents out.new) told (Fault.File path.entry) (out.new ≡ out.old)
         × IsTold told result.is_told (V.contents faults.old) (V.contents faults.new) }
+    ensures front { command.now ≢ word_of Command.Run → (out.new ≡ out.old) ⊎ ((known : Command) × (command.now ≡ word_of known)
+        × WritesFront (IsDone known text.now (R.remaining deck)) (W.contents out.old) (W.contents out.new)) }
     ensures statuses { (result.status ≢ 1) × (result.status ≤ 5) }
 {
     let Some(known) = Command::named(command) else {
@@ -202,6 +217,8 @@ pub fn serve<R: Read + Drop, W: Write, V: Write>(
         × HasRefused known text.now (R.remaining deck) (W.contents out.old) (W.contents out.new) told (out.new ≡ out.old) }
     ensures failed { 3 ≤ result → (known : Command) × (told : Fault) × (command.now ≡ word_of known) × (result ≡ status_of told)
         × HasFailed known text.now (R.remaining deck) (W.contents out.old) (W.contents out.new) told (Fault.File path.entry) (out.new ≡ out.old) }
+    ensures front { command.now ≢ word_of Command.Run → (out.new ≡ out.old) ⊎ ((known : Command) × (command.now ≡ word_of known)
+        × WritesFront (IsDone known text.now (R.remaining deck)) (W.contents out.old) (W.contents out.new)) }
     ensures statuses { (result ≢ 1) × (result ≤ 5) }
 {
     serve_to_end(alloc, command, text, path, deck, out, faults).status

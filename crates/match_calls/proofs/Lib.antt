@@ -4,6 +4,7 @@ mod Pairs
 pub mod Refusing
 mod Telling
 mod TellingOver
+mod Written
 pub mod MatchReports
 pub mod MatchDecks
 pub mod MatchTexts

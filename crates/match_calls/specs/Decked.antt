@@ -4,13 +4,29 @@ use Rattle.std.specs.Prelude.{◌≡◌, ℕ, List, Option, IfSome}
 use Rattle.faults.specs.declared.fault.Fault.{Fault}
 use Rattle.faults.specs.declared.fault.Fault.TheVariants as fault
 use Rattle.match_calls.specs.Apart.{IsAlikeText, IsOtherwiseText}
-use Rattle.match_calls.specs.Found.{Prints}
+use Rattle.match_calls.specs.Found.{IsWiredText, Prints}
 use Rattle.match_calls.specs.Panels.{HasPanels, RefusesAll}
 use Rattle.match_calls.specs.Unmatched.{unmatched_status}
 use Rattle.match_calls.specs.declared.unmatched.Unmatched.{Unmatched}
 use Rattle.match_calls.specs.declared.unmatched.Unmatched.TheVariants as why
 use Rattle.match_calls.specs.declared.match_decks.lines.LinePlace.{LinePlace}
 use Rattle.match_calls.specs.declared.match_texts.counts.Counts.{Counts}
+use Rattle.match_calls.specs.declared.outcome.Outcome.{Outcome}
+use Rattle.match_calls.specs.declared.outcome.Outcome.TheVariants as outcome
+use Rattle.program_io.specs.Fronts.{WritesFront}
+
+-- the text of what is found over a deck was written after what was there
+abbrev pub PrintsOver : (chart wiring deck : List ℕ) → Outcome → (old new : Option (List ℕ)) → Type 0
+PrintsOver chart wiring deck outcome.Wired = Prints chart wiring (λ _. IsWiredText)
+PrintsOver chart wiring deck (outcome.Unwired counts) = Prints chart wiring (IsAlikeText wiring deck counts)
+PrintsOver chart wiring deck (outcome.PrintsOtherwise place) = Prints chart wiring (IsOtherwiseText wiring deck place)
+
+-- the front of it was, of the deck that was read
+pub record WritesFrontOver (chart wiring : List ℕ) (deck old new : Option (List ℕ)) : Type 0 where
+  pub read : List ℕ
+  pub is_deck : IfSome deck (λ known. read ≡ known)
+  pub found : Outcome
+  pub front : WritesFront (PrintsOver chart wiring read found) old new
 
 -- What is told of texts that don't match: the panel is not wired for the chart, and what is missing and extra was printed, and how the
 -- first line of the deck that it prints otherwise differs, if one does; or a text is refused, and nothing was printed.
@@ -30,7 +46,7 @@ pub record LeavesOver (chart wiring : List ℕ) (deck : Option (List ℕ)) (told
   pub leaves : LeavesApart chart wiring read told old new Unprinted
 
 -- Why the command does not end well: that; or the deck can't be read, and nothing was printed; or the output can't be written, or memory ran
--- out, and a part of what is found may have been printed.
+-- out.
 pub data StopsOver (chart wiring : List ℕ) (deck : Option (List ℕ)) (told : Unmatched) (unreadable : Fault) (old new : Option (List ℕ))
     (Unprinted : Type 0) : Type 0 where
   unmatched : unmatched_status told ≡ 3 → LeavesOver chart wiring deck told old new Unprinted

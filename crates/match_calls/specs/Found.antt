@@ -1,5 +1,5 @@
 -- What is found of a compiled chart and a panel, and the text that tells it.
-use Rattle.std.specs.Prelude.{◌≡◌, ℕ, List, ◌++◌, Option, codes}
+use Rattle.std.specs.Prelude.{◌≡◌, ℕ, List, ◌++◌, Option, Some, None, codes}
 use Rattle.std.specs.Io.KnownBytes.{Appends}
 use Rattle.compile407.specs.Compilation.{Compilation}
 use Rattle.match_calls.specs.Panels.{ArePanels}
@@ -52,3 +52,8 @@ pub record Prints (chart wiring : List ℕ) (IsRight : Version → Compilation �
   pub text : List ℕ
   pub right : IsRight version compiled setup text
   pub written : Appends old new text
+
+-- the text of what is found was: by these counts the panel is not wired for the chart, by none it is
+abbrev pub PrintsFound : Telling → (chart wiring : List ℕ) → Option Counts → (old new : Option (List ℕ)) → Type 0
+PrintsFound telling chart wiring None = Prints chart wiring (λ _. IsWiredText)
+PrintsFound telling chart wiring (Some counts) = Prints chart wiring (IsUnwiredText telling wiring counts)

@@ -19,8 +19,7 @@ pub data LeavesUnmatched (telling : Telling) (chart wiring : List ℕ) (told : U
   refused : (fault : Fault) → told ≡ why.Failed fault → RefusesPanels chart wiring fault → Unprinted
       → LeavesUnmatched telling chart wiring told old new Unprinted
 
--- Why the command does not end well: that; or the output can't be written, or memory ran out, and a part of what is found may have been
--- printed.
+-- Why the command does not end well: that; or the output can't be written, or memory ran out.
 pub data StopsMatch (telling : Telling) (chart wiring : List ℕ) (told : Unmatched) (old new : Option (List ℕ)) (Unprinted : Type 0)
     : Type 0 where
   unmatched : unmatched_status told ≡ 3 → LeavesUnmatched telling chart wiring told old new Unprinted

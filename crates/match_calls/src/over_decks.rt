@@ -5,7 +5,7 @@ ghost use Rattle.std.specs.String.{string_bytes};
 ghost use Rattle.card_code.specs.Deck.{Deck};
 ghost use Rattle.card_code.specs.MostCards.{most_cards};
 ghost use Rattle.faults.specs.Lines.{IsTold};
-ghost use Rattle.match_calls.specs.Decked.{LeavesOver, StopsOver};
+ghost use Rattle.match_calls.specs.Decked.{LeavesOver, StopsOver, WritesFrontOver};
 ghost use Rattle.match_calls.specs.Found.{IsUnwiredText, IsWiredText, Prints};
 ghost use Rattle.match_calls.specs.Helper.{IsDeckText};
 ghost use Rattle.match_calls.specs.Panels.{HasPanels};
@@ -93,8 +93,8 @@ fn deck_answer<'a>(
 ///
 /// The fault of the planning chart, else that of the wiring chart, else that the deck can't be read, else the fault of its text, and nothing
 /// is printed; else, where no plan is found by which the panel is wired for the chart, `PrintsOtherwise` with the place of the first line that
-/// differs, or `Unwired` where none does. `Memory` where a growth was refused and `Write` where the output can't be written, and then a
-/// part may have been printed.
+/// differs, or `Unwired` where none does. `Memory` where a growth was refused and `Write` where the output can't be written, and then the
+/// front of it may have been printed.
 pub fn print_deck_match<'a, R: Read + Drop, W: Write>(
     alloc: Global,
     chart: &[u8],
@@ -106,6 +106,8 @@ pub fn print_deck_match<'a, R: Read + Drop, W: Write>(
     ensures printed { OnOk result (Prints chart.now wiring.now (λ _. IsWiredText) (W.contents out.old) (W.contents out.new)) }
     ensures stopped { IfErr result (λ told. StopsOver chart.now wiring.now (R.remaining deck) told (Fault.File path.entry)
         (W.contents out.old) (W.contents out.new) (out.new ≡ out.old)) }
+    ensures front { (out.new ≡ out.old)
+        ⊎ WritesFrontOver chart.now wiring.now (R.remaining deck) (W.contents out.old) (W.contents out.new) }
 {
     let panels = panels_of(alloc, chart, wiring)?;
     let bytes = read_whole(alloc, deck, path)?;
@@ -124,7 +126,8 @@ pub fn print_deck_match<'a, R: Read + Drop, W: Write>(
 /// `path` names the deck in what is told of one that can't be read, after the faults of both texts. The statuses are 0 where the panel is
 /// wired for the chart, and then nothing is told; 3 where it is not, and `fault 95 page P line L` is told of the first line that differs, or
 /// `fault 94 missing A extra B` where none does, or where a text is refused, and nothing is printed; 4 where the deck can't be read, and
-/// nothing is printed, or the output can't be written, 5 memory, and then a part may have been printed.
+/// nothing is printed, or the output can't be written, 5 memory, and then the front of what
+/// is found may have been printed.
 pub fn match_deck_to_end<R: Read + Drop, W: Write, V: Write>(
     alloc: Global,
     chart: &[u8],
@@ -143,6 +146,8 @@ pub fn match_deck_to_end<R: Read + Drop, W: Write, V: Write>(
         × IsTold (Fault.File path.entry) result.is_told (V.contents faults.old) (V.contents faults.new))
         ⊎ IsTold Fault.Write result.is_told (V.contents faults.old) (V.contents faults.new) }
     ensures memory { result.status ≡ 5 → IsTold Fault.Memory result.is_told (V.contents faults.old) (V.contents faults.new) }
+    ensures front { (out.new ≡ out.old)
+        ⊎ WritesFrontOver chart.now wiring.now (R.remaining deck) (W.contents out.old) (W.contents out.new) }
     ensures statuses { (result.status ≡ 0) ⊎ (3 ≤ result.status × result.status ≤ 5) }
 {
     match print_deck_match(alloc, chart, wiring, path, deck, out) {

@@ -1,10 +1,12 @@
 //! The command that matches a panel with a chart, over any writers.
 
-ghost use Rattle.std.specs.Prelude.{◌≡◌, ◌≤◌, ◌⊎◌, IfErr, OnOk};
+ghost use Rattle.std.specs.Prelude.{◌≡◌, ◌≤◌, ◌⊎◌, IfErr, OnOk, Option};
 ghost use Rattle.faults.specs.Lines.{IsTold};
-ghost use Rattle.match_calls.specs.Found.{IsWiredText, Prints};
+ghost use Rattle.match_calls.specs.Found.{IsWiredText, Prints, PrintsFound};
 ghost use Rattle.match_calls.specs.Matched.{LeavesUnmatched, StopsMatch};
 ghost use Rattle.match_calls.specs.Unmatched.{IsToldUnmatched};
+ghost use Rattle.match_calls.specs.declared.match_texts.counts.Counts.{Counts};
+ghost use Rattle.program_io.specs.Fronts.{WritesFront};
 
 use crate::found::found_of;
 use crate::match_texts::Telling;
@@ -23,7 +25,7 @@ use std::io::Write;
 ///
 /// The fault of the planning chart, else that of the wiring chart, and nothing is printed; else `Unwired` where no plan is found by
 /// which the panel is wired for the chart, and what is missing and extra is printed. `Memory` where a growth was refused and `Write`
-/// where the output can't be written, and then a part may have been printed.
+/// where the output can't be written, and then the front of it may have been printed.
 pub fn print_match<'a, W: Write>(
     alloc: Global,
     telling: Telling,
@@ -34,6 +36,8 @@ pub fn print_match<'a, W: Write>(
     ensures printed { OnOk result (Prints chart.now wiring.now (λ _. IsWiredText) (W.contents out.old) (W.contents out.new)) }
     ensures stopped { IfErr result (λ told.
         StopsMatch telling chart.now wiring.now told (W.contents out.old) (W.contents out.new) (out.new ≡ out.old)) }
+    ensures front { (out.new ≡ out.old) ⊎ ((counts : Option Counts)
+        × WritesFront (PrintsFound telling chart.now wiring.now counts) (W.contents out.old) (W.contents out.new)) }
 {
     let panels = panels_of(alloc, chart, wiring)?;
     let found = found_of(alloc, telling, &panels, wiring)?;
@@ -49,7 +53,7 @@ pub fn print_match<'a, W: Write>(
 ///
 /// Where the panel is wired for the chart, the machine prints the chart's report of every deck that can be run, and not only of those that
 /// were tried. The statuses are 0 where it is, and then nothing is told; 3 where it is not, and `fault 94 missing A extra B` is told, or
-/// where a text is refused, and nothing is printed; 4 where the output can't be written, 5 memory, and then a part may have been printed.
+/// where a text is refused, and nothing is printed; 4 where the output can't be written, 5 memory, and then the front of it may have been printed.
 pub fn match_to_end<W: Write, V: Write>(
     alloc: Global,
     telling: Telling,
@@ -65,6 +69,8 @@ pub fn match_to_end<W: Write, V: Write>(
         × IsToldUnmatched told result.is_told (V.contents faults.old) (V.contents faults.new) }
     ensures output { result.status ≡ 4 → IsTold Fault.Write result.is_told (V.contents faults.old) (V.contents faults.new) }
     ensures memory { result.status ≡ 5 → IsTold Fault.Memory result.is_told (V.contents faults.old) (V.contents faults.new) }
+    ensures front { (out.new ≡ out.old) ⊎ ((counts : Option Counts)
+        × WritesFront (PrintsFound telling chart.now wiring.now counts) (W.contents out.old) (W.contents out.new)) }
     ensures statuses { (result.status ≡ 0) ⊎ (3 ≤ result.status × result.status ≤ 5) }
 {
     match print_match(alloc, telling, chart, wiring, out) {

@@ -6,3 +6,4 @@ pub mod RefusedTexts
 pub mod Stopping
 pub mod TraceCalls
 pub mod LedgerCalls
+mod Written

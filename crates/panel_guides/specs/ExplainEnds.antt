@@ -16,7 +16,7 @@ pub record LeavesUnexplained (text : List ℕ) (deck : Option (List ℕ)) (place
   pub unexplained : IsUnexplained text read place told
 
 -- Why no explanation was printed: the texts are refused or there is no such place, or the deck can't be read, and nothing was printed; or
--- the output can't be written, or memory ran out, and a part of the explanation may have been printed.
+-- the output can't be written, or memory ran out.
 abbrev pub StopsExplanation : (text : List ℕ) (deck : Option (List ℕ)) (place : Place) (told : Unexplained) (unreadable : Fault)
     (Unprinted : Type 0) → Type 0
 StopsExplanation text deck place told unreadable Unprinted =

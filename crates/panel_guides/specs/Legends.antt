@@ -33,8 +33,7 @@ pub record PrintsLegend (text : List ℕ) (old new : Option (List ℕ)) : Type 0
   pub is_legend : IsLegendOf text answer
   pub written : Appends old new answer
 
--- Why no legend was printed: the chart is refused, and nothing was printed; or the output can't be written, or memory ran out, and a part
--- of the legend may have been printed.
+-- Why no legend was printed: the chart is refused, and nothing was printed; or the output can't be written, or memory ran out.
 pub data StopsLegend (text : List ℕ) (told : Fault) (Unprinted : Type 0) : Type 0 where
   refused : status_of told ≡ 3 → RefusesChart text told → Unprinted → StopsLegend text told Unprinted
   unwritten : told ≡ fault.Write → StopsLegend text told Unprinted

@@ -4,6 +4,7 @@ ghost use Rattle.std.specs.Prelude.{◌≡◌, ◌≢◌, ◌≤◌, ◌⊎◌, 
 ghost use Rattle.commands.specs.Refusals.{RefusesChart};
 ghost use Rattle.faults.specs.Lines.{IsTold};
 ghost use Rattle.panel_guides.specs.Legends.{IsLegendOf, IsSpelledLegend, PrintsLegend, StopsLegend};
+ghost use Rattle.program_io.specs.Fronts.{WritesFront};
 
 use compile407::{Compiled, compile};
 use faults::{Ending, Fault, tell};
@@ -48,10 +49,11 @@ pub fn legend_of<'a>(alloc: Global, chart: &[u8]) -> Result<Vec<u8>, Fault<'a>>
 /// # Errors
 ///
 /// The fault of the chart, and nothing is printed; `Memory` where a growth was refused and `Write` where the output can't be written, and
-/// then a part of the legend may have been printed.
+/// then the front of the legend may have been printed.
 pub fn print_legend<'a, W: Write>(alloc: Global, chart: &[u8], out: &mut W) -> Result<(), Fault<'a>>
     ensures printed { OnOk result (PrintsLegend chart.now (W.contents out.old) (W.contents out.new)) }
     ensures stopped { IfErr result (λ told. StopsLegend chart.now told (out.new ≡ out.old)) }
+    ensures front { (out.new ≡ out.old) ⊎ WritesFront (PrintsLegend chart.now) (W.contents out.old) (W.contents out.new) }
 {
     let answer = legend_of(alloc, chart)?;
     put(out, answer.as_slice())
@@ -60,7 +62,7 @@ pub fn print_legend<'a, W: Write>(alloc: Global, chart: &[u8], out: &mut W) -> R
 /// Prints the legend of a planning chart, and tells on one line of `faults` why there is none.
 ///
 /// The statuses are 0 done, and then nothing is told, 3 where the chart is refused, 4 where the output can't be written, 5 memory.
-/// Nothing is printed by status 3. Where the output can't be written or memory runs out, a part of the legend may have been.
+/// Nothing is printed by status 3. Where the output can't be written or memory runs out, the front of the legend may have been.
 pub fn legend_to_end<W: Write, V: Write>(
     alloc: Global,
     chart: &[u8],
@@ -73,6 +75,7 @@ pub fn legend_to_end<W: Write, V: Write>(
         × IsTold told result.is_told (V.contents faults.old) (V.contents faults.new) }
     ensures output { result.status ≡ 4 → IsTold Fault.Write result.is_told (V.contents faults.old) (V.contents faults.new) }
     ensures memory { result.status ≡ 5 → IsTold Fault.Memory result.is_told (V.contents faults.old) (V.contents faults.new) }
+    ensures front { (out.new ≡ out.old) ⊎ WritesFront (PrintsLegend chart.now) (W.contents out.old) (W.contents out.new) }
     ensures statuses { (result.status ≡ 0) ⊎ (3 ≤ result.status × result.status ≤ 5) }
 {
     match print_legend(alloc, chart, out) {

@@ -7,6 +7,8 @@ use Rattle.faults.specs.Lines.{IsTold}
 use Rattle.faults.specs.declared.fault.Fault.{Fault}
 use Rattle.faults.specs.declared.fault.Fault.TheVariants as fault
 use Rattle.commands.proofs.RunEnds.{run_ends_status, run_memory}
+use Rattle.program_io.proofs.Fronting.{none_or_front_again}
+use Rattle.program_io.specs.Fronts.{WritesFront}
 use Rattle.panel_guides.specs.Unexplained.{IsToldUnexplained, unexplained_status}
 use Rattle.panel_guides.specs.declared.unexplained.Unexplained.{Unexplained}
 use Rattle.panel_guides.specs.declared.unexplained.Unexplained.TheVariants as why
@@ -15,11 +17,11 @@ use Rattle.whole_runs.specs.Whole.{HasPrintedChosen, HasReport, PrintsPages, Sto
 use Rattle.whole_runs.specs.declared.pages.PageRange.{PageRange}
 
 -- a run that was told of one thing that stays is told of another
-pub ends_again : {Unprinted Again : Type 0} (text : List ℕ) (reader old new : Option (List ℕ)) (told : Fault) → (Unprinted → Again)
-    → EndsRun text reader old new told Unprinted → EndsRun text reader old new told Again
-ends_again text reader old new told again (chart_refused refuses is) = chart_refused refuses (again is)
-ends_again text reader old new told again (chart_unread memory is) = chart_unread memory (again is)
-ends_again text reader old new told again (stopped_in_run stops) = stopped_in_run stops
+pub ends_again : {Unprinted Again : Type 0} (text : List ℕ) (reader left old new : Option (List ℕ)) (told : Fault) → (Unprinted → Again)
+    → EndsRun text reader left old new told Unprinted → EndsRun text reader left old new told Again
+ends_again text reader left old new told again (chart_refused refuses is) = chart_refused refuses (again is)
+ends_again text reader left old new told again (chart_unread memory is) = chart_unread memory (again is)
+ends_again text reader left old new told again (stopped_in_run stops) = stopped_in_run stops
 
 same_known : (reader : Option (List ℕ)) (read known : List ℕ) → reader ≡ Some known → IfSome reader (λ all. read ≡ all) → read ≡ known
 same_known reader read known is all = subst (λ (of : Option (List ℕ)). IfSome of (λ bytes. read ≡ bytes)) is all
@@ -50,18 +52,24 @@ module _ {X : Type 0} (result : Result X Unexplained) (text items bytes : List �
       by (Ok _) prints = of_report text items bytes reader (λ report. PrintsPages report pages old new) run same prints
       by (Err _) prints = tt
 
+  -- or the front of them
+  pub chosen_front : {Nothing : Type 0} (old new : Option (List ℕ)) → Nothing ⊎ WritesFront (PrintsPages bytes pages) old new
+      → Nothing ⊎ WritesFront (HasPrintedChosen text reader pages) old new
+  chosen_front old new =
+      none_or_front_again (λ after. of_report text items bytes reader (λ report. PrintsPages report pages old after) run same)
+
   -- it lacks the first of them, or the output can't be written
-  pub pages_stop : (Unprinted : Type 0) → IfErr result (λ told. StopsPages bytes pages told Unprinted)
-      → IfErr result (λ told. StopsWhole text reader pages told Unprinted)
-  pages_stop Unprinted = by result
+  pub pages_stop : (left : Option (List ℕ)) (Unprinted : Type 0) → IfErr result (λ told. StopsPages bytes pages told Unprinted)
+      → IfErr result (λ told. StopsWhole text reader left pages told Unprinted)
+  pages_stop left Unprinted = by result
     where
-      of : (told : Unexplained) → StopsPages bytes pages told Unprinted → StopsWhole text reader pages told Unprinted
+      of : (told : Unexplained) → StopsPages bytes pages told Unprinted → StopsWhole text reader left pages told Unprinted
       of told (lacking lacks named unprinted) = no_such_page
           (of_report text items bytes reader (λ report. has_page pages.first report ≡ false) run same lacks) named unprinted
       of told (unwritten is) = output_unwritten is
 
       by : (any : Result X Unexplained) → IfErr any (λ told. StopsPages bytes pages told Unprinted)
-          → IfErr any (λ told. StopsWhole text reader pages told Unprinted)
+          → IfErr any (λ told. StopsWhole text reader left pages told Unprinted)
       by (Ok _) stops = tt
       by (Err told) stops = of told stops
 
@@ -72,33 +80,33 @@ pages_unwritten text pages met told Unprinted (inl is) named = unwritten (inl (n
 pages_unwritten text pages met told Unprinted (inr is) named = unwritten (inr (named ∙ ap why.Failed is))
 
 -- by refused input nothing is printed
-pub whole_unprinted : (text : List ℕ) (reader : Option (List ℕ)) (pages : PageRange) (told : Unexplained) (Unprinted : Type 0)
-    → StopsWhole text reader pages told Unprinted → unexplained_status told ≡ 3 → Unprinted
-whole_unprinted text reader pages told Unprinted (run_stopped met held ends named is) three = is
-whole_unprinted text reader pages told Unprinted (no_such_page lacks named is) three = is
-whole_unprinted text reader pages told Unprinted (output_unwritten (inl is)) three =
+pub whole_unprinted : (text : List ℕ) (reader left : Option (List ℕ)) (pages : PageRange) (told : Unexplained) (Unprinted : Type 0)
+    → StopsWhole text reader left pages told Unprinted → unexplained_status told ≡ 3 → Unprinted
+whole_unprinted text reader left pages told Unprinted (run_stopped met held ends named is) three = is
+whole_unprinted text reader left pages told Unprinted (no_such_page lacks named is) three = is
+whole_unprinted text reader left pages told Unprinted (output_unwritten (inl is)) three =
     absurd (omega (arith, ap unexplained_status is, three))
-whole_unprinted text reader pages told Unprinted (output_unwritten (inr is)) three =
+whole_unprinted text reader left pages told Unprinted (output_unwritten (inr is)) three =
     absurd (omega (arith, ap unexplained_status is, three))
 
 -- which line is told by the status of what stopped it
-module _ (text : List ℕ) (reader : Option (List ℕ)) (pages : PageRange) (told : Unexplained) (Unprinted : Type 0) (status : ℕ) (is_told : Bool)
+module _ (text : List ℕ) (reader left : Option (List ℕ)) (pages : PageRange) (told : Unexplained) (Unprinted : Type 0) (status : ℕ) (is_told : Bool)
     (before after : Option (List ℕ)) (is_status : status ≡ unexplained_status told) (line : IsToldUnexplained told is_told before after) where
   -- the line of a fault that is told
   line_of : (met : Fault) → told ≡ why.Failed met → IsTold met is_told before after
   line_of met is = subst (λ (of : Unexplained). IsToldUnexplained of is_told before after) is line
 
-  pub whole_memory : StopsWhole text reader pages told Unprinted → status ≡ 5 → IsTold fault.Memory is_told before after
+  pub whole_memory : StopsWhole text reader left pages told Unprinted → status ≡ 5 → IsTold fault.Memory is_told before after
   whole_memory (run_stopped met held ends named is) five =
-      run_memory text reader (Some []) (Some held) met (held ≡ []) status is_told before after (is_status ∙ ap unexplained_status named)
+      run_memory met status is_told before after (is_status ∙ ap unexplained_status named)
       (line_of met named) ends five
   whole_memory (no_such_page lacks named is) five = absurd (omega (arith, is_status, ap unexplained_status named, five))
   whole_memory (output_unwritten (inl is)) five = line_of fault.Memory is
   whole_memory (output_unwritten (inr is)) five = absurd (omega (arith, is_status, ap unexplained_status is, five))
 
-  pub whole_status : StopsWhole text reader pages told Unprinted → 3 ≤ status × status ≤ 5
+  pub whole_status : StopsWhole text reader left pages told Unprinted → 3 ≤ status × status ≤ 5
   whole_status (run_stopped met held ends named is) =
-      run_ends_status text reader (Some []) (Some held) met (held ≡ []) status is_told before after (is_status ∙ ap unexplained_status named)
+      run_ends_status met status is_told before after (is_status ∙ ap unexplained_status named)
       (line_of met named) ends
   whole_status (no_such_page lacks named is) =
       (omega (arith, is_status, ap unexplained_status named), omega (arith, is_status, ap unexplained_status named))

@@ -36,17 +36,17 @@ abbrev pub LacksPage : (text : List ℕ) (deck : Option (List ℕ)) (number : �
 LacksPage text deck number = HasReport text deck (λ report. has_page number report ≡ false)
 
 -- why no pages in a range were printed, or not all: the text hasn't the first of them, and nothing was printed; or the output can't be
--- written, or memory ran out, and a part of them may have been printed
+-- written, or memory ran out
 pub data StopsPages (text : List ℕ) (pages : PageRange) (told : Unexplained) (Unprinted : Type 0) : Type 0 where
   lacking : has_page pages.first text ≡ false → told ≡ no_page pages.first → Unprinted → StopsPages text pages told Unprinted
   unwritten : (told ≡ why.Failed fault.Memory) ⊎ (told ≡ why.Failed fault.Write) → StopsPages text pages told Unprinted
 
--- Why it was not done. The run was not, for a cause that a run of the deck would tell; or it was, and the report has no such page: nothing was
--- printed. Or the output can't be written, or memory ran out, and a part of the pages may have been printed.
-pub data StopsWhole (text : List ℕ) (deck : Option (List ℕ)) (pages : PageRange) (told : Unexplained) (Unprinted : Type 0) : Type 0 where
+-- Why it was not done. The run was not, with so much of the deck left to the reader, for the cause that a run of the deck tells that holds the
+-- pages in memory; or it was, and the report has no such page: nothing was printed. Or the output can't be written, or memory ran out.
+pub data StopsWhole (text : List ℕ) (deck left : Option (List ℕ)) (pages : PageRange) (told : Unexplained) (Unprinted : Type 0) : Type 0 where
   run_stopped :
-      (met : Fault) (held : List ℕ) → EndsRun text deck (Some []) (Some held) met (held ≡ []) → told ≡ why.Failed met → Unprinted
-      → StopsWhole text deck pages told Unprinted
-  no_such_page : LacksPage text deck pages.first → told ≡ no_page pages.first → Unprinted → StopsWhole text deck pages told Unprinted
+      (met : Fault) (held : List ℕ) → EndsRun text deck left (Some []) (Some held) met (held ≡ []) → told ≡ why.Failed met → Unprinted
+      → StopsWhole text deck left pages told Unprinted
+  no_such_page : LacksPage text deck pages.first → told ≡ no_page pages.first → Unprinted → StopsWhole text deck left pages told Unprinted
   output_unwritten :
-      (told ≡ why.Failed fault.Memory) ⊎ (told ≡ why.Failed fault.Write) → StopsWhole text deck pages told Unprinted
+      (told ≡ why.Failed fault.Memory) ⊎ (told ≡ why.Failed fault.Write) → StopsWhole text deck left pages told Unprinted

@@ -4,6 +4,7 @@ ghost use Rattle.std.specs.Prelude.{OnOk, ◌≡◌, ◌≢◌, ◌≤◌, ◌�
 ghost use Rattle.std.specs.Io.KnownBytes.{Appends};
 ghost use Rattle.faults.specs.Lines.{IsTold};
 ghost use Rattle.faults.specs.Status.{status_of};
+ghost use Rattle.program_io.specs.Fronts.{WritesFront};
 ghost use Rattle.program_io.specs.Stops.{Stops};
 ghost use Rattle.commands.specs.ServedReplays.Answers.{HasOrders};
 ghost use Rattle.commands.specs.ServedReplays.Counted.{counts_line};
@@ -31,6 +32,8 @@ fn print_pages<'a, W: Write>(
     ensures pages { IfOk result (λ counts. PrintsServed wiring.now orders.now deck.now counts (W.contents out.old) (W.contents out.new)) }
     ensures refused { IfErr result (λ told. status_of told ≡ 3 → RefusesByOrders wiring.now orders.now deck.now told × (out.new ≡ out.old)) }
     ensures stopped { IfErr result (λ told. (unreadable : Fault) → Stops told unreadable (out.new ≡ out.old)) }
+    ensures front { (out.new ≡ out.old) ⊎ ((counts : Counts)
+        × WritesFront (PrintsServed wiring.now orders.now deck.now counts) (W.contents out.old) (W.contents out.new)) }
 {
     let ServedPages { pages, counts } = replayed_by_orders(alloc, wiring, orders, deck)?;
     put(out, pages.as_slice())?;
@@ -69,6 +72,8 @@ pub fn print_replay_by_orders<'a, R: Read + Drop, W: Write>(
         → IsRefusedByOrders wiring.now orders.now (R.remaining deck) told × (out.new ≡ out.old)) }
     ensures unread { IfErr result (λ told. told ≡ Fault.File path.entry → HasOrders wiring.now orders.now) }
     ensures stopped { IfErr result (λ told. Stops told (Fault.File path.entry) (out.new ≡ out.old)) }
+    ensures front { (out.new ≡ out.old) ⊎ ((counts : Counts)
+        × WritesFront (PrintsByOrders wiring.now orders.now (R.remaining deck) counts) (W.contents out.old) (W.contents out.new)) }
 {
     match read_whole(alloc, deck, path) {
         Ok(bytes) => print_pages(alloc, wiring, orders, bytes.as_slice(), out),
@@ -84,7 +89,7 @@ pub fn print_replay_by_orders<'a, R: Read + Drop, W: Write>(
 ///
 /// `path` names the deck in what is told of one that can't be read, after a fault of the wiring chart or of the orders. The statuses are
 /// 0 done, 3 refused input, 4 file fault, 5 memory. Nothing is printed by status 3, nor where the deck can't be read. Where the output
-/// can't be written or memory runs out, a part of the pages may have been; where what was counted can't be told, all of them are.
+/// can't be written or memory runs out, the front of the pages may have been; where what was counted can't be told, all of them are.
 pub fn replay_by_orders_to_end<R: Read + Drop, W: Write, V: Write>(
     alloc: Global,
     wiring: &[u8],
@@ -105,6 +110,8 @@ pub fn replay_by_orders_to_end<R: Read + Drop, W: Write, V: Write>(
         × IsTold (Fault.File path.entry) result.is_told (V.contents faults.old) (V.contents faults.new))
         ⊎ IsTold Fault.Write result.is_told (V.contents faults.old) (V.contents faults.new) }
     ensures memory { result.status ≡ 5 → IsTold Fault.Memory result.is_told (V.contents faults.old) (V.contents faults.new) }
+    ensures front { (out.new ≡ out.old) ⊎ ((counts : Counts)
+        × WritesFront (PrintsByOrders wiring.now orders.now (R.remaining deck) counts) (W.contents out.old) (W.contents out.new)) }
     ensures statuses { (result.status ≡ 0) ⊎ (3 ≤ result.status × result.status ≤ 5) }
 {
     match print_replay_by_orders(alloc, wiring, orders, path, deck, out) {
@@ -128,6 +135,8 @@ pub fn replay_by_orders<R: Read + Drop, W: Write, V: Write>(
         × Appends (V.contents faults.old) (V.contents faults.new) (counts_line counts) }
     ensures refused { result ≡ 3 → (told : Fault)
         × IsRefusedByOrders wiring.now orders.now (R.remaining deck) told × (out.new ≡ out.old) }
+    ensures front { (out.new ≡ out.old) ⊎ ((counts : Counts)
+        × WritesFront (PrintsByOrders wiring.now orders.now (R.remaining deck) counts) (W.contents out.old) (W.contents out.new)) }
     ensures statuses { (result ≡ 0) ⊎ (3 ≤ result × result ≤ 5) }
 {
     replay_by_orders_to_end(alloc, wiring, orders, path, deck, out, faults).status

@@ -69,7 +69,7 @@ pub data LeavesUnread (wiring : List ℕ) (told : Unmatched) (old new : Option (
   refused : (fault : Fault) → told ≡ why.Failed fault → RefusesWiring wiring fault → Unprinted
       → LeavesUnread wiring told old new Unprinted
 
--- Why the command does not end well: that; or the output can't be written, or memory ran out, and a part of the chart may have been printed.
+-- Why the command does not end well: that; or the output can't be written, or memory ran out.
 pub data StopsChart (wiring : List ℕ) (told : Unmatched) (old new : Option (List ℕ)) (Unprinted : Type 0) : Type 0 where
   unread : unmatched_status told ≡ 3 → LeavesUnread wiring told old new Unprinted → StopsChart wiring told old new Unprinted
   unwritten : told ≡ why.Failed fault.Write → StopsChart wiring told old new Unprinted

@@ -1,9 +1,11 @@
 //! The command that reads a panel back, over any writers.
 
-ghost use Rattle.std.specs.Prelude.{◌≡◌, ◌≤◌, ◌⊎◌, IfErr, None, OnOk};
+ghost use Rattle.std.specs.Prelude.{◌≡◌, ◌≤◌, ◌⊎◌, IfErr, None, OnOk, Option};
 ghost use Rattle.match_calls.specs.ChartCalls.ReadBack.{LeavesUnread, PrintsChart, StopsChart};
 ghost use Rattle.faults.specs.Lines.{IsTold};
 ghost use Rattle.match_calls.specs.Unmatched.{IsToldUnmatched};
+ghost use Rattle.match_calls.specs.declared.match_texts.counts.Counts.{Counts};
+ghost use Rattle.program_io.specs.Fronts.{WritesFront};
 
 use crate::chart_calls::found::found_of;
 use crate::{Unmatched, tell_unmatched};
@@ -18,7 +20,7 @@ use std::io::Write;
 ///
 /// The fault of the wiring chart, and nothing is printed; else `Unwired` where the panel is wired for the
 /// chart by no plan, and the chart is printed all the same. `Memory` where a growth was refused and `Write` where the output can't be
-/// written, and then a part may have been printed.
+/// written, and then the front of the chart may have been printed.
 pub fn print_chart<'a, W: Write>(
     alloc: Global,
     wiring: &[u8],
@@ -27,6 +29,8 @@ pub fn print_chart<'a, W: Write>(
     ensures printed { OnOk result (PrintsChart wiring.now None (W.contents out.old) (W.contents out.new)) }
     ensures stopped { IfErr result (λ told.
         StopsChart wiring.now told (W.contents out.old) (W.contents out.new) (out.new ≡ out.old)) }
+    ensures front { (out.new ≡ out.old)
+        ⊎ ((counts : Option Counts) × WritesFront (PrintsChart wiring.now counts) (W.contents out.old) (W.contents out.new)) }
 {
     let found = found_of(alloc, wiring)?;
     put(out, found.text.as_bytes())?;
@@ -40,7 +44,8 @@ pub fn print_chart<'a, W: Write>(
 ///
 /// The statuses are 0 exactly if the panel is wired for the chart that was printed by some plan, and then nothing is told, and the machine
 /// prints the chart's report on it of every deck that can be run; 3 where it is not, and `fault 94 missing A extra B` is told, or where the
-/// wiring chart is refused, and nothing is printed; 4 where the output can't be written, 5 memory, and then a part may have been printed.
+/// wiring chart is refused, and nothing is printed; 4 where the output can't be written, 5 memory, and then the front of the chart
+/// may have been printed.
 pub fn chart_to_end<W: Write, V: Write>(
     alloc: Global,
     wiring: &[u8],
@@ -54,6 +59,8 @@ pub fn chart_to_end<W: Write, V: Write>(
         × IsToldUnmatched told result.is_told (V.contents faults.old) (V.contents faults.new) }
     ensures output { result.status ≡ 4 → IsTold Fault.Write result.is_told (V.contents faults.old) (V.contents faults.new) }
     ensures memory { result.status ≡ 5 → IsTold Fault.Memory result.is_told (V.contents faults.old) (V.contents faults.new) }
+    ensures front { (out.new ≡ out.old)
+        ⊎ ((counts : Option Counts) × WritesFront (PrintsChart wiring.now counts) (W.contents out.old) (W.contents out.new)) }
     ensures statuses { (result.status ≡ 0) ⊎ (3 ≤ result.status × result.status ≤ 5) }
 {
     match print_chart(alloc, wiring, out) {

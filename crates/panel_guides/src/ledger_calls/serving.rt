@@ -6,6 +6,7 @@ ghost use Rattle.panel_guides.specs.LedgerCalls.LedgerEnds.{PrintsTelling};
 ghost use Rattle.panel_guides.specs.Panels.{HasPanel};
 ghost use Rattle.panel_guides.specs.ExplainEnds.{LeavesUnexplained, StopsExplanation};
 ghost use Rattle.panel_guides.specs.Unexplained.{IsToldUnexplained};
+ghost use Rattle.program_io.specs.Fronts.{WritesFront};
 
 use crate::ledger_calls::telling::{Question, told_wheel};
 use crate::{Place, Unexplained, check_panel, tell_unexplained};
@@ -26,6 +27,8 @@ fn print_told<'a, W: Write>(
     ensures printed { OnOk result (PrintsTelling text.now (Some deck.now) question place (W.contents out.old) (W.contents out.new)) }
     ensures stopped { IfErr result (λ told. (unreadable : Fault)
         → StopsExplanation text.now (Some deck.now) place told unreadable (out.new ≡ out.old)) }
+    ensures front { (out.new ≡ out.old)
+        ⊎ WritesFront (PrintsTelling text.now (Some deck.now) question place) (W.contents out.old) (W.contents out.new) }
 {
     let answer = told_wheel(alloc, text, deck, place, question)?;
     put(out, answer.as_slice())?;
@@ -37,7 +40,7 @@ fn print_told<'a, W: Write>(
 /// # Errors
 ///
 /// As [`told_wheel`] tells, and nothing is printed; of a deck that can't be read a fault of the text comes before. `Memory` if a growth
-/// was refused and `Write` if the output can't be written, and then a part of the text may have been printed.
+/// was refused and `Write` if the output can't be written, and then the front of the text may have been printed.
 pub fn print_telling<'a, R: Read + Drop, W: Write>(
     alloc: Global,
     text: &[u8],
@@ -51,6 +54,8 @@ pub fn print_telling<'a, R: Read + Drop, W: Write>(
         (PrintsTelling text.now (R.remaining deck) question place (W.contents out.old) (W.contents out.new)) }
     ensures stopped { IfErr result (λ told.
         StopsExplanation text.now (R.remaining deck) place told (Fault.File path.entry) (out.new ≡ out.old)) }
+    ensures front { (out.new ≡ out.old)
+        ⊎ WritesFront (PrintsTelling text.now (R.remaining deck) question place) (W.contents out.old) (W.contents out.new) }
 {
     match read_whole(alloc, deck, path) {
         Ok(bytes) => print_told(alloc, text, bytes.as_slice(), place, question, out),
@@ -66,7 +71,7 @@ pub fn print_telling<'a, R: Read + Drop, W: Write>(
 /// The text is a planning chart, of whose report of the deck the line is one, or a wiring chart, of whose pages of the deck it is one.
 /// `path` names the deck in what is told of one that can't be read, after a fault of the text. The statuses are 0 done, and then nothing
 /// is told, 3 refused input, a line or a wheel that there isn't among it, 4 file fault, 5 memory. Nothing is printed by status 3, nor
-/// if the deck can't be read. If the output can't be written or memory runs out, a part of the text may have been.
+/// if the deck can't be read. If the output can't be written or memory runs out, the front of the text may have been.
 pub fn tell_to_end<R: Read + Drop, W: Write, V: Write>(
     alloc: Global,
     text: &[u8],
@@ -86,6 +91,8 @@ pub fn tell_to_end<R: Read + Drop, W: Write, V: Write>(
         × IsTold (Fault.File path.entry) result.is_told (V.contents faults.old) (V.contents faults.new))
         ⊎ IsTold Fault.Write result.is_told (V.contents faults.old) (V.contents faults.new) }
     ensures memory { result.status ≡ 5 → IsTold Fault.Memory result.is_told (V.contents faults.old) (V.contents faults.new) }
+    ensures front { (out.new ≡ out.old)
+        ⊎ WritesFront (PrintsTelling text.now (R.remaining deck) question place) (W.contents out.old) (W.contents out.new) }
     ensures statuses { (result.status ≡ 0) ⊎ (3 ≤ result.status × result.status ≤ 5) }
 {
     match print_telling(alloc, text, path, deck, place, question, out) {

@@ -113,7 +113,7 @@ pub record LacksCard (deck : List ℕ) (number : ℕ) (told : Fault) : Type 0 wh
   pub named : told ≡ fault.Card 96 number
 
 -- Why no sheet was printed: the chart is refused; or it isn't, and the deck can't be read or has no such card; and nothing was printed.
--- Or the output can't be written, or memory ran out, and a part of the sheet may have been printed.
+-- Or the output can't be written, or memory ran out.
 pub data StopsFields (text : List ℕ) (deck : Option (List ℕ)) (number : ℕ) (told unreadable : Fault) (Unprinted : Type 0) : Type 0 where
   refused : RefusesLines text told → Unprinted → StopsFields text deck number told unreadable Unprinted
   unread : HasLawful text → told ≡ unreadable → Unprinted → StopsFields text deck number told unreadable Unprinted

@@ -19,8 +19,7 @@ pub record PrintsLayout (text : List ℕ) (old new : Option (List ℕ)) : Type 0
   pub is_layout : IsLayoutOf text answer
   pub written : Appends old new answer
 
--- Why no layout was printed: the chart is refused, and nothing was printed; or the output can't be written, or memory ran out, and a part
--- of the layout may have been printed.
+-- Why no layout was printed: the chart is refused, and nothing was printed; or the output can't be written, or memory ran out.
 pub data StopsLayout (text : List ℕ) (told : Fault) (Unprinted : Type 0) : Type 0 where
   refused : RefusesLines text told → Unprinted → StopsLayout text told Unprinted
   unwritten : told ≡ fault.Write → StopsLayout text told Unprinted

@@ -6,6 +6,7 @@ ghost use Rattle.chart_rules.specs.Below.line_rules.FieldRules.Fields.{fields_of
 ghost use Rattle.faults.specs.Lines.{IsTold, fault_line};
 ghost use Rattle.faults.specs.Status.{status_of};
 ghost use Rattle.faults.specs.ToldFaults.{deck_told, of_card, run_told};
+ghost use Rattle.program_io.specs.Fronts.{WritesFront};
 ghost use Rattle.sheets.specs.SheetCalls.CardSheets as sheet;
 
 use crate::marks::write_column_mark;
@@ -228,7 +229,7 @@ fn sheet_of<'a>(
 ///
 /// The fault of the chart; else that of a deck that can't be read; else `Card` with number 96 where the deck has no such card. Then nothing
 /// is printed. `Memory` where a growth was refused and `Write` where the output can't be
-/// written, and then a part of the sheet may have been printed.
+/// written, and then the front of the sheet may have been printed.
 pub fn print_fields<'a, R: Read + Drop, W: Write>(
     alloc: Global,
     chart: &[u8],
@@ -240,6 +241,8 @@ pub fn print_fields<'a, R: Read + Drop, W: Write>(
     ensures printed { OnOk result (sheet.PrintsFields chart.now (R.remaining deck) number (W.contents out.old) (W.contents out.new)) }
     ensures stopped { IfErr result (λ told.
         sheet.StopsFields chart.now (R.remaining deck) number told (Fault.File path.entry) (out.new ≡ out.old)) }
+    ensures front { (out.new ≡ out.old)
+        ⊎ WritesFront (sheet.PrintsFields chart.now (R.remaining deck) number) (W.contents out.old) (W.contents out.new) }
 {
     let planned = lawful_chart(alloc, chart)?;
     let bytes = read_whole(alloc, deck, path)?;
@@ -251,7 +254,7 @@ pub fn print_fields<'a, R: Read + Drop, W: Write>(
 ///
 /// The statuses are 0 done, and then nothing is told, 3 where the chart is refused, or the deck has no such card, 4 where the deck can't be
 /// read or the output can't be written, 5 memory. Nothing is printed by status 3, nor where the deck can't be read. Where the output can't
-/// be written or memory runs out, a part of the sheet may have been.
+/// be written or memory runs out, the front of the sheet may have been.
 pub fn fields_to_end<R: Read + Drop, W: Write, V: Write>(
     alloc: Global,
     chart: &[u8],
@@ -266,6 +269,8 @@ pub fn fields_to_end<R: Read + Drop, W: Write, V: Write>(
     ensures stopped { (result.status ≡ 0) ⊎ ((told : Fault) × (result.status ≡ status_of told)
         × sheet.StopsFields chart.now (R.remaining deck) number told (Fault.File path.entry) (out.new ≡ out.old)
         × IsTold told result.is_told (V.contents faults.old) (V.contents faults.new)) }
+    ensures front { (out.new ≡ out.old)
+        ⊎ WritesFront (sheet.PrintsFields chart.now (R.remaining deck) number) (W.contents out.old) (W.contents out.new) }
     ensures statuses { (result.status ≢ 1) × (result.status ≤ 5) }
 {
     match print_fields(alloc, chart, path, deck, number, out) {

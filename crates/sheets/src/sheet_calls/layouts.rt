@@ -3,6 +3,7 @@
 ghost use Rattle.std.specs.Prelude.{◌≡◌, ◌≢◌, ◌≤◌, ◌⊎◌, IfErr, IfOk, OnOk};
 ghost use Rattle.faults.specs.Lines.{IsTold};
 ghost use Rattle.faults.specs.Status.{status_of};
+ghost use Rattle.program_io.specs.Fronts.{WritesFront};
 ghost use Rattle.sheets.specs.Layout.{layout};
 ghost use Rattle.sheets.specs.SheetCalls.Layouts.{PrintsLayout, StopsLayout};
 
@@ -31,10 +32,11 @@ fn layout_of<'a>(alloc: Global, chart: &Chart) -> Result<Vec<u8>, Fault<'a>>
 /// # Errors
 ///
 /// The fault of the chart, and nothing is printed; `Memory` where a growth was refused and `Write` where the output can't be written, and
-/// then a part of the layout may have been printed.
+/// then the front of the layout may have been printed.
 pub fn print_layout<'a, W: Write>(alloc: Global, chart: &[u8], out: &mut W) -> Result<(), Fault<'a>>
     ensures printed { OnOk result (PrintsLayout chart.now (W.contents out.old) (W.contents out.new)) }
     ensures stopped { IfErr result (λ told. StopsLayout chart.now told (out.new ≡ out.old)) }
+    ensures front { (out.new ≡ out.old) ⊎ WritesFront (PrintsLayout chart.now) (W.contents out.old) (W.contents out.new) }
 {
     let planned = lawful_chart(alloc, chart)?;
     let answer = layout_of(alloc, &planned)?;
@@ -44,7 +46,7 @@ pub fn print_layout<'a, W: Write>(alloc: Global, chart: &[u8], out: &mut W) -> R
 /// Prints the layout of a planning chart, and tells on one line of `faults` why there is none.
 ///
 /// The statuses are 0 done, and then nothing is told, 3 where the chart is refused, 4 where the output can't be written, 5 memory.
-/// Nothing is printed by status 3. Where the output can't be written or memory runs out, a part of the layout may have been.
+/// Nothing is printed by status 3. Where the output can't be written or memory runs out, the front of the layout may have been.
 pub fn layout_to_end<W: Write, V: Write>(
     alloc: Global,
     chart: &[u8],
@@ -56,6 +58,7 @@ pub fn layout_to_end<W: Write, V: Write>(
     ensures stopped { (result.status ≡ 0) ⊎ ((told : Fault) × (result.status ≡ status_of told)
         × StopsLayout chart.now told (out.new ≡ out.old)
         × IsTold told result.is_told (V.contents faults.old) (V.contents faults.new)) }
+    ensures front { (out.new ≡ out.old) ⊎ WritesFront (PrintsLayout chart.now) (W.contents out.old) (W.contents out.new) }
     ensures statuses { (result.status ≢ 1) × (result.status ≤ 5) }
 {
     match print_layout(alloc, chart, out) {

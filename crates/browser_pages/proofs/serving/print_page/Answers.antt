@@ -1,7 +1,8 @@
 use Rattle.std.proofs.Common.{refl}
 use Rattle.std.proofs.lemmas.Result.{err_from_is_err_and}
-use Rattle.browser_pages.proofs.Stopping.{refused_unread, stops_for}
+use Rattle.browser_pages.proofs.Stopping.{page_of_read, refused_unread, stops_for}
 use Rattle.program_io.proofs.StoppingWith.{deck_stops_with}
+use Rattle.program_io.proofs.Fronting.{none_or_front_again}
 use Rattle.browser_pages.proofs.serving.print_page.Goals as goal
 
 pub returns-in-Ok-clause-stopped : goal.returns-in-Ok-clause-stopped
@@ -18,3 +19,9 @@ returns-in_err-check_panel-in-Err-clause-stopped g c =
 pub returns-in_ok-check_panel-in-Err-clause-stopped : goal.returns-in_ok-check_panel-in-Err-clause-stopped
 returns-in_ok-check_panel-in-Err-clause-stopped g c =
     deck_stops_with c.in-Err.unread c.in-Err.ensures.told refl c.in_ok-check_panel-in-Err.ensures.good refl
+
+pub returns-in-Ok-clause-front : goal.returns-in-Ok-clause-front
+returns-in-Ok-clause-front g c =
+    none_or_front_again (λ after.
+    page_of_read c.args.text.now c.as_slice.result.now c.in-Ok.bytes.items (g.R.Read.remaining c.args.deck) c.args.around _ after
+    c.as_slice.ensures.value c.in-Ok.ensures.whole) c.print_shown.ensures.front

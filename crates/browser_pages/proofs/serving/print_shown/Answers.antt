@@ -1,8 +1,9 @@
-use Rattle.std.proofs.Common.{Some, refl}
+use Rattle.std.proofs.Common.{Some, inr, refl}
 use Rattle.std.proofs.lemmas.Result.{err_from_is_err_and}
 use Rattle.std.specs.Prelude.{string_bytes}
-use Rattle.browser_pages.proofs.Stopping.{nothing_shown}
+use Rattle.browser_pages.proofs.Stopping.{nothing_shown, page_written}
 use Rattle.program_io.proofs.StoppingWith.{output_stops_with}
+use Rattle.program_io.proofs.Fronting.{front_of_bytes}
 use Rattle.browser_pages.proofs.serving.print_shown.Goals as goal
 
 pub returns-in_err-page-clause-stopped : goal.returns-in_err-page-clause-stopped
@@ -17,8 +18,18 @@ returns-in_err-put-clause-stopped g c =
     rw exit.1 (λ unreadable. output_stops_with c.in_err-put.field-0.0 c.in_err-put.ensures.told exit.2)
 
 pub returns-clause-printed : goal.returns-clause-printed
-returns-clause-printed g c = record {
-  page = string_bytes c.in_ok-page.page;
-  shown = c.in_ok-page.ensures.shown;
-  written = rw (← c.as_bytes.ensures.value) c.in_ok-put.ensures.written;
-}
+returns-clause-printed g c =
+    page_written c.args.text.now c.args.deck.now c.args.around (string_bytes c.in_ok-page.page) c.as_bytes.result.now _ _
+    c.in_ok-page.ensures.shown c.as_bytes.ensures.value c.in_ok-put.ensures.written
+
+pub returns-in_err-put-clause-front : goal.returns-in_err-put-clause-front
+returns-in_err-put-clause-front g c =
+    inr (front_of_bytes c.as_bytes.result.now (λ after.
+    page_written c.args.text.now c.args.deck.now c.args.around (string_bytes c.in_ok-page.page) c.as_bytes.result.now _ after
+    c.in_ok-page.ensures.shown c.as_bytes.ensures.value) c.in_err-put.ensures.front)
+
+pub returns-clause-front : goal.returns-clause-front
+returns-clause-front g c =
+    inr (front_of_bytes c.as_bytes.result.now (λ after.
+    page_written c.args.text.now c.args.deck.now c.args.around (string_bytes c.in_ok-page.page) c.as_bytes.result.now _ after
+    c.in_ok-page.ensures.shown c.as_bytes.ensures.value) c.in_ok-put.ensures.front)

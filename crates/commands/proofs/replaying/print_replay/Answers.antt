@@ -33,4 +33,4 @@ returns-clause-pages g c =
 pub returns-clause-front : goal.returns-clause-front
 returns-clause-front g c =
     printed_front c.args.wiring.now c.args.deck.now c.in_ok-setup.setup c.in_ok-setup.ensures.read c.print_deck.result _ _ _
-    c.print_deck.ensures.front
+    c.print_deck.ensures.pages c.print_deck.ensures.front

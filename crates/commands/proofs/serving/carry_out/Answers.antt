@@ -1,9 +1,9 @@
 use Rattle.std.proofs.Common.{refl}
 use Rattle.program_io.specs.declared.command.Command.TheVariants as command
-use Rattle.commands.proofs.Outcomes.{done_for_deck, refused_for_deck}
+use Rattle.commands.proofs.Outcomes.{done_for_deck, front_by, front_for_deck, refused_for_deck}
 use Rattle.program_io.proofs.Stopping.{stops_for_deck}
 use Rattle.commands.proofs.Stopping.{with_wiring}
-use Rattle.commands.proofs.Streaming.{failed_by, refused_by, run_refused, served_by}
+use Rattle.commands.proofs.Streaming.{failed_by, refused_by, run_failed, run_refused, served_by}
 use Rattle.commands.proofs.serving.carry_out.Goals as goal
 
 pub returns-in-Check-clause-done : goal.returns-in-Check-clause-done
@@ -65,12 +65,12 @@ returns-in-Run-clause-done g c =
 pub returns-in-Run-clause-refused : goal.returns-in-Run-clause-refused
 returns-in-Run-clause-refused g c =
     refused_by c.print_run.result c.args.command command.Run c.args.text.now (g.R.Read.remaining c.args.deck) _ _ _ c.in-Run.is
-    (run_refused c.print_run.result c.args.text.now (g.R.Read.remaining c.args.deck) _ _ _ c.print_run.ensures.ends)
+    (run_refused c.args.text.now (g.R.Read.remaining c.args.deck) _ _ _ _ c.print_run.result c.print_run.ensures.ends)
 
 pub returns-in-Run-clause-failed : goal.returns-in-Run-clause-failed
 returns-in-Run-clause-failed g c =
     failed_by c.print_run.result c.args.command command.Run c.args.text.now (g.R.Read.remaining c.args.deck) _ _ _ _ c.in-Run.is
-    c.print_run.ensures.ends
+    (run_failed c.args.text.now (g.R.Read.remaining c.args.deck) _ _ _ _ _ c.print_run.result c.print_run.ensures.ends)
 
 pub returns-in-Replay-clause-done : goal.returns-in-Replay-clause-done
 returns-in-Replay-clause-done g c =
@@ -86,3 +86,22 @@ pub returns-in-Replay-clause-failed : goal.returns-in-Replay-clause-failed
 returns-in-Replay-clause-failed g c =
     failed_by c.serve_replay.result c.args.command command.Replay c.args.text.now (g.R.Read.remaining c.args.deck) _ _ _ _ c.in-Replay.is
     (with_wiring c.serve_replay.result _ _ _ c.serve_replay.ensures.stopped c.serve_replay.ensures.unread)
+
+pub returns-in-Check-clause-front : goal.returns-in-Check-clause-front
+returns-in-Check-clause-front g c = λ other.
+    front_for_deck c.args.command command.Check c.args.text.now (g.R.Read.remaining c.args.deck) _ _ _ c.in-Check.is c.serve_check.ensures.front
+
+pub returns-in-Wire-clause-front : goal.returns-in-Wire-clause-front
+returns-in-Wire-clause-front g c = λ other.
+    front_for_deck c.args.command command.Wire c.args.text.now (g.R.Read.remaining c.args.deck) _ _ _ c.in-Wire.is c.serve_wire.ensures.front
+
+pub returns-in-Upgrade-clause-front : goal.returns-in-Upgrade-clause-front
+returns-in-Upgrade-clause-front g c = λ other.
+    front_for_deck c.args.command command.Upgrade c.args.text.now (g.R.Read.remaining c.args.deck) _ _ _ c.in-Upgrade.is c.serve_upgrade.ensures.front
+
+pub returns-in-Replay-clause-front : goal.returns-in-Replay-clause-front
+returns-in-Replay-clause-front g c = λ other.
+    front_by c.args.command command.Replay c.args.text.now (g.R.Read.remaining c.args.deck) _ _ _ c.in-Replay.is c.serve_replay.ensures.front
+
+pub returns-in-Run-clause-front : goal.returns-in-Run-clause-front
+returns-in-Run-clause-front g c = λ other. absurd (other c.in-Run.is)

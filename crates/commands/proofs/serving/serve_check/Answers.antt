@@ -1,9 +1,10 @@
-use Rattle.std.proofs.Common.{refl, []}
+use Rattle.std.proofs.Common.{inr, refl, [], Ok}
 use Rattle.std.proofs.lemmas.Result.{err_from_is_err_and}
 use Rattle.program_io.specs.declared.command.Command.TheVariants as command
 use Rattle.commands.proofs.Outcomes.{check_done, refused_for_any}
 use Rattle.commands.proofs.Stopping.{texts_stop}
 use Rattle.program_io.proofs.Stopping.{output_stops_any}
+use Rattle.program_io.proofs.Fronting.{front_of_bytes}
 use Rattle.commands.proofs.serving.serve_check.Goals as goal
 
 pub returns-in_err-check-clause-refused : goal.returns-in_err-check-clause-refused
@@ -25,3 +26,8 @@ returns-in_err-check-clause-stopped g c =
 
 pub returns-clause-stopped : goal.returns-clause-stopped
 returns-clause-stopped g c = output_stops_any c.put.result _ c.put.ensures.told
+
+pub returns-clause-front : goal.returns-clause-front
+returns-clause-front g c =
+    inr (λ deck. front_of_bytes _ (λ after written. check_done (Ok tt) c.args.text.now _ after c.in_ok-check.ensures.compiles written deck)
+    c.put.ensures.front)

@@ -1,4 +1,4 @@
-use Rattle.std.proofs.Common.{refl}
+use Rattle.std.proofs.Common.{inr, refl}
 use Rattle.std.proofs.lemmas.Result.{err_from_is_err_and}
 use Rattle.std.specs.String.{string_bytes}
 use Rattle.match_calls.proofs.Answering.{otherwise_over, unwired_over, wired_over}
@@ -6,6 +6,8 @@ use Rattle.match_calls.proofs.TellingOver.{all_stop, deck_stops, output_stops_ov
 use Rattle.match_calls.specs.Decked.{alike, otherwise, unmatched}
 use Rattle.match_calls.specs.Panels.{of_deck}
 use Rattle.program_io.proofs.Refusing.{read_is_known}
+use Rattle.match_calls.proofs.Written.{over_written}
+use Rattle.program_io.proofs.Fronting.{front_of_bytes}
 use Rattle.match_calls.proofs.over_decks.print_deck_match.Goals as goal
 
 pub returns-in_err-panels-clause-stopped : goal.returns-in_err-panels-clause-stopped
@@ -88,4 +90,60 @@ returns-clause-stopped g c =
                 (string_bytes c.in_ok-answer.answer.text) c.in_ok-answer.ensures.answer c.in-PrintsOtherwise.place c.in-PrintsOtherwise.is;
             written = rw (← c.as_bytes.ensures.value) c.in_ok-put.ensures.written;
           });
+    })
+
+pub returns-in_err-put-clause-front : goal.returns-in_err-put-clause-front
+returns-in_err-put-clause-front g c =
+    inr (record {
+      read = c.as_slice.result.now;
+      is_deck = read_is_known (g.R.Read.remaining c.args.deck) c.as_slice.result.now c.in_ok-bytes.bytes.items c.as_slice.ensures.value
+          c.in_ok-bytes.ensures.whole;
+      found = c.in_ok-answer.answer.outcome;
+      front = front_of_bytes c.as_bytes.result.now (λ after written.
+          over_written c.args.chart.now c.args.wiring.now c.in_ok-panels.panels.version c.in_ok-panels.panels.compiled
+          c.in_ok-panels.panels.setup c.in_ok-panels.ensures.are (string_bytes c.in_ok-answer.answer.text) c.as_bytes.result.now
+          c.as_bytes.ensures.value _ after written c.as_slice.result.now c.in_ok-answer.answer.outcome c.in_ok-answer.ensures.answer)
+          c.in_err-put.ensures.front;
+    })
+
+pub returns-in-Wired-clause-front : goal.returns-in-Wired-clause-front
+returns-in-Wired-clause-front g c =
+    inr (record {
+      read = c.as_slice.result.now;
+      is_deck = read_is_known (g.R.Read.remaining c.args.deck) c.as_slice.result.now c.in_ok-bytes.bytes.items c.as_slice.ensures.value
+          c.in_ok-bytes.ensures.whole;
+      found = c.in_ok-answer.answer.outcome;
+      front = front_of_bytes c.as_bytes.result.now (λ after written.
+          over_written c.args.chart.now c.args.wiring.now c.in_ok-panels.panels.version c.in_ok-panels.panels.compiled
+          c.in_ok-panels.panels.setup c.in_ok-panels.ensures.are (string_bytes c.in_ok-answer.answer.text) c.as_bytes.result.now
+          c.as_bytes.ensures.value _ after written c.as_slice.result.now c.in_ok-answer.answer.outcome c.in_ok-answer.ensures.answer)
+          c.in_ok-put.ensures.front;
+    })
+
+pub returns-in-Unwired-clause-front : goal.returns-in-Unwired-clause-front
+returns-in-Unwired-clause-front g c =
+    inr (record {
+      read = c.as_slice.result.now;
+      is_deck = read_is_known (g.R.Read.remaining c.args.deck) c.as_slice.result.now c.in_ok-bytes.bytes.items c.as_slice.ensures.value
+          c.in_ok-bytes.ensures.whole;
+      found = c.in_ok-answer.answer.outcome;
+      front = front_of_bytes c.as_bytes.result.now (λ after written.
+          over_written c.args.chart.now c.args.wiring.now c.in_ok-panels.panels.version c.in_ok-panels.panels.compiled
+          c.in_ok-panels.panels.setup c.in_ok-panels.ensures.are (string_bytes c.in_ok-answer.answer.text) c.as_bytes.result.now
+          c.as_bytes.ensures.value _ after written c.as_slice.result.now c.in_ok-answer.answer.outcome c.in_ok-answer.ensures.answer)
+          c.in_ok-put.ensures.front;
+    })
+
+pub returns-clause-front : goal.returns-clause-front
+returns-clause-front g c =
+    inr (record {
+      read = c.as_slice.result.now;
+      is_deck = read_is_known (g.R.Read.remaining c.args.deck) c.as_slice.result.now c.in_ok-bytes.bytes.items c.as_slice.ensures.value
+          c.in_ok-bytes.ensures.whole;
+      found = c.in_ok-answer.answer.outcome;
+      front = front_of_bytes c.as_bytes.result.now (λ after written.
+          over_written c.args.chart.now c.args.wiring.now c.in_ok-panels.panels.version c.in_ok-panels.panels.compiled
+          c.in_ok-panels.panels.setup c.in_ok-panels.ensures.are (string_bytes c.in_ok-answer.answer.text) c.as_bytes.result.now
+          c.as_bytes.ensures.value _ after written c.as_slice.result.now c.in_ok-answer.answer.outcome c.in_ok-answer.ensures.answer)
+          c.in_ok-put.ensures.front;
     })

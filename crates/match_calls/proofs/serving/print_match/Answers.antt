@@ -1,9 +1,11 @@
-use Rattle.std.proofs.Common.{refl}
+use Rattle.std.proofs.Common.{inr, refl}
 use Rattle.std.proofs.lemmas.Result.{err_from_is_err_and}
 use Rattle.std.specs.Prelude.{string_bytes}
 use Rattle.match_calls.proofs.Finding.{unwired_found, wired_found}
 use Rattle.match_calls.proofs.Telling.{memory_stops, output_stops, texts_stop}
 use Rattle.match_calls.specs.Matched.{unmatched, unwired}
+use Rattle.match_calls.proofs.Written.{found_written}
+use Rattle.program_io.proofs.Fronting.{front_of_bytes}
 use Rattle.match_calls.proofs.serving.print_match.Goals as goal
 
 pub returns-in_err-panels-clause-stopped : goal.returns-in_err-panels-clause-stopped
@@ -46,3 +48,24 @@ returns-clause-stopped g c =
           c.in-Some.is c.in_ok-found.ensures.found;
       written = rw (← c.as_bytes.ensures.value) c.in_ok-put.ensures.written;
     }))
+
+pub returns-in_err-put-clause-front : goal.returns-in_err-put-clause-front
+returns-in_err-put-clause-front g c =
+    inr (c.in_ok-found.found.counts, front_of_bytes c.as_bytes.result.now (λ after written.
+    found_written c.args.chart.now c.args.wiring.now c.in_ok-panels.panels.version c.in_ok-panels.panels.compiled c.in_ok-panels.panels.setup
+    c.in_ok-panels.ensures.are (string_bytes c.in_ok-found.found.text) c.as_bytes.result.now c.as_bytes.ensures.value _ after written
+    c.args.telling c.in_ok-found.found.counts c.in_ok-found.ensures.found) c.in_err-put.ensures.front)
+
+pub returns-in-None-clause-front : goal.returns-in-None-clause-front
+returns-in-None-clause-front g c =
+    inr (c.in_ok-found.found.counts, front_of_bytes c.as_bytes.result.now (λ after written.
+    found_written c.args.chart.now c.args.wiring.now c.in_ok-panels.panels.version c.in_ok-panels.panels.compiled c.in_ok-panels.panels.setup
+    c.in_ok-panels.ensures.are (string_bytes c.in_ok-found.found.text) c.as_bytes.result.now c.as_bytes.ensures.value _ after written
+    c.args.telling c.in_ok-found.found.counts c.in_ok-found.ensures.found) c.in_ok-put.ensures.front)
+
+pub returns-clause-front : goal.returns-clause-front
+returns-clause-front g c =
+    inr (c.in_ok-found.found.counts, front_of_bytes c.as_bytes.result.now (λ after written.
+    found_written c.args.chart.now c.args.wiring.now c.in_ok-panels.panels.version c.in_ok-panels.panels.compiled c.in_ok-panels.panels.setup
+    c.in_ok-panels.ensures.are (string_bytes c.in_ok-found.found.text) c.as_bytes.result.now c.as_bytes.ensures.value _ after written
+    c.args.telling c.in_ok-found.found.counts c.in_ok-found.ensures.found) c.in_ok-put.ensures.front)

@@ -1,6 +1,7 @@
-use Rattle.std.proofs.Common.{refl}
+use Rattle.std.proofs.Common.{inr, refl, Ok}
 use Rattle.std.proofs.lemmas.Result.{err_from_is_err_and}
 use Rattle.panel_guides.proofs.Legending.{chart_stops, output_stops_legend, printed}
+use Rattle.program_io.proofs.Fronting.{front_of_bytes}
 use Rattle.panel_guides.proofs.legends.print_legend.Goals as goal
 
 pub returns-in_err-answer-clause-stopped : goal.returns-in_err-answer-clause-stopped
@@ -15,3 +16,9 @@ returns-clause-printed g c =
 
 pub returns-clause-stopped : goal.returns-clause-stopped
 returns-clause-stopped g c = output_stops_legend c.put.result c.args.chart.now _ c.put.ensures.told
+
+pub returns-clause-front : goal.returns-clause-front
+returns-clause-front g c =
+    inr (front_of_bytes c.as_slice.result.now (λ after.
+    printed (Ok tt) c.args.chart.now c.in_ok-answer.answer.items c.as_slice.result.now _ after c.in_ok-answer.ensures.legend
+    c.as_slice.ensures.value) c.put.ensures.front)

@@ -1,6 +1,8 @@
-use Rattle.std.proofs.Common.{◌∙◌, refl, sym}
+use Rattle.std.proofs.Common.{◌∙◌, inr, refl, subst, sym}
+use Rattle.std.specs.Io.KnownBytes.{Appends}
 use Rattle.std.proofs.lemmas.Result.{err_from_is_err_and}
 use Rattle.whole_runs.proofs.Printing.{pages_unwritten}
+use Rattle.program_io.proofs.Fronting.{front_of_bytes}
 use Rattle.whole_runs.specs.Whole.{lacking}
 use Rattle.whole_runs.proofs.serving.print_chosen.Goals as goal
 
@@ -11,3 +13,17 @@ pub returns-in_err-put-clause-stopped : goal.returns-in_err-put-clause-stopped
 returns-in_err-put-clause-stopped g c =
     let exit = err_from_is_err_and c.from_residual.result c.from_residual.ensures.1 in
     rw exit.1 (pages_unwritten c.args.text.now c.args.pages c.in_err-put.field-0.0 exit.0 _ c.in_err-put.ensures.told exit.2)
+
+pub returns-in_err-put-clause-front : goal.returns-in_err-put-clause-front
+returns-in_err-put-clause-front g c =
+    inr (front_of_bytes c.chosen_pages.result.now (λ after written. record {
+      there = sym c.has_page.ensures ∙ c.if-not-has_page.false;
+      written = subst (Appends (g.W.Write.contents c.args.out.now) after) c.chosen_pages.ensures written;
+    }) c.in_err-put.ensures.front)
+
+pub returns-clause-front : goal.returns-clause-front
+returns-clause-front g c =
+    inr (front_of_bytes c.chosen_pages.result.now (λ after written. record {
+      there = sym c.has_page.ensures ∙ c.if-not-has_page.false;
+      written = subst (Appends (g.W.Write.contents c.args.out.now) after) c.chosen_pages.ensures written;
+    }) c.in_ok-put.ensures.front)

@@ -1,8 +1,10 @@
-use Rattle.std.proofs.Common.{refl}
+use Rattle.std.proofs.Common.{inr, refl}
 use Rattle.std.proofs.lemmas.Result.{err_from_is_err_and}
+use Rattle.commands.proofs.ServedReplays.Printing.{served_in_memory}
 use Rattle.commands.proofs.ServedReplays.Refusing.{refusal_status}
 use Rattle.commands.specs.ServedReplays.Refusals.{RefusesByOrders}
 use Rattle.program_io.proofs.Stopping.{refused_on}
+use Rattle.program_io.proofs.Fronting.{front_of_bytes}
 use Rattle.commands.proofs.served_replays.serving.print_pages.Goals as goal
 
 pub returns-in_err-pages-clause-refused : goal.returns-in_err-pages-clause-refused
@@ -14,3 +16,15 @@ returns-in_err-pages-clause-refused g c =
           three,
       refl,
     ))
+
+pub returns-in_err-put-clause-front : goal.returns-in_err-put-clause-front
+returns-in_err-put-clause-front g c =
+    inr (c.in_ok-pages.counts, front_of_bytes c.as_slice.result.now (λ after.
+    served_in_memory c.args.wiring.now c.args.orders.now c.args.deck.now c.in_ok-pages.pages.items c.as_slice.result.now c.in_ok-pages.counts _
+    after c.as_slice.ensures.value c.in_ok-pages.ensures.served) c.in_err-put.ensures.front)
+
+pub returns-clause-front : goal.returns-clause-front
+returns-clause-front g c =
+    inr (c.in_ok-pages.counts, front_of_bytes c.as_slice.result.now (λ after.
+    served_in_memory c.args.wiring.now c.args.orders.now c.args.deck.now c.in_ok-pages.pages.items c.as_slice.result.now c.in_ok-pages.counts _
+    after c.as_slice.ensures.value c.in_ok-pages.ensures.served) c.in_ok-put.ensures.front)

@@ -1,7 +1,7 @@
 use Rattle.std.proofs.Common.{◌≡◌, refl, []}
 use Rattle.std.proofs.lemmas.Result.{err_from_is_err_and}
 use Rattle.program_io.proofs.Stopping.{no_file, no_file_stops, refusal_stops, stops_for_deck}
-use Rattle.commands.proofs.ServedReplays.Printing.{refused_for_any}
+use Rattle.commands.proofs.ServedReplays.Printing.{front_of_read, refused_for_any}
 use Rattle.commands.proofs.ServedReplays.Refusing.{refusal_status}
 use Rattle.commands.specs.ServedReplays.Refusals.{RefusesByOrders}
 use Rattle.commands.proofs.served_replays.serving.print_replay_by_orders.Goals as goal
@@ -36,3 +36,8 @@ returns-in_err-check_orders-in-Err-clause-unread g c =
 
 pub returns-in-Ok-clause-unread : goal.returns-in-Ok-clause-unread
 returns-in-Ok-clause-unread g c = no_file c.print_pages.result _ _ _ c.print_pages.ensures.stopped
+
+pub returns-in-Ok-clause-front : goal.returns-in-Ok-clause-front
+returns-in-Ok-clause-front g c =
+    front_of_read c.args.wiring.now c.args.orders.now c.as_slice.result.now c.in-Ok.bytes.items (g.R.Read.remaining c.args.deck)
+    c.as_slice.ensures.value c.in-Ok.ensures.whole c.print_pages.ensures.front

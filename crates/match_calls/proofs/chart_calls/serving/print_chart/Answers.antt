@@ -1,9 +1,11 @@
-use Rattle.std.proofs.Common.{None, Some, refl}
+use Rattle.std.proofs.Common.{None, Some, inr, refl}
 use Rattle.std.proofs.lemmas.Result.{err_from_is_err_and}
 use Rattle.std.specs.Prelude.{string_bytes}
 use Rattle.match_calls.proofs.ChartCalls.Finding.{counts_known}
 use Rattle.match_calls.proofs.ChartCalls.Telling.{output_stops, panels_stop}
 use Rattle.match_calls.specs.ChartCalls.ReadBack.{unread, unwired}
+use Rattle.match_calls.proofs.Written.{chart_written}
+use Rattle.program_io.proofs.Fronting.{front_of_bytes}
 use Rattle.match_calls.proofs.chart_calls.serving.print_chart.Goals as goal
 
 pub returns-in_err-found-clause-stopped : goal.returns-in_err-found-clause-stopped
@@ -31,3 +33,21 @@ returns-clause-stopped g c =
       right = counts_known c.args.wiring.now _ c.in_ok-found.found.counts (Some c.in-Some.counts) c.in-Some.is c.in_ok-found.ensures.found;
       written = rw (← c.as_bytes.ensures.value) c.in_ok-put.ensures.written;
     }))
+
+pub returns-in_err-put-clause-front : goal.returns-in_err-put-clause-front
+returns-in_err-put-clause-front g c =
+    inr (c.in_ok-found.found.counts, front_of_bytes c.as_bytes.result.now (λ after.
+    chart_written c.args.wiring.now c.in_ok-found.found.counts (string_bytes c.in_ok-found.found.text) c.as_bytes.result.now _ after
+    c.in_ok-found.ensures.found c.as_bytes.ensures.value) c.in_err-put.ensures.front)
+
+pub returns-in-None-clause-front : goal.returns-in-None-clause-front
+returns-in-None-clause-front g c =
+    inr (c.in_ok-found.found.counts, front_of_bytes c.as_bytes.result.now (λ after.
+    chart_written c.args.wiring.now c.in_ok-found.found.counts (string_bytes c.in_ok-found.found.text) c.as_bytes.result.now _ after
+    c.in_ok-found.ensures.found c.as_bytes.ensures.value) c.in_ok-put.ensures.front)
+
+pub returns-clause-front : goal.returns-clause-front
+returns-clause-front g c =
+    inr (c.in_ok-found.found.counts, front_of_bytes c.as_bytes.result.now (λ after.
+    chart_written c.args.wiring.now c.in_ok-found.found.counts (string_bytes c.in_ok-found.found.text) c.as_bytes.result.now _ after
+    c.in_ok-found.ensures.found c.as_bytes.ensures.value) c.in_ok-put.ensures.front)

@@ -1,7 +1,9 @@
-use Rattle.std.proofs.Common.{Some, refl}
+use Rattle.std.proofs.Common.{Some, inr, refl}
 use Rattle.std.proofs.lemmas.Result.{err_from_is_err_and}
 use Rattle.panel_guides.proofs.Stopping.{nothing_explained}
 use Rattle.program_io.proofs.StoppingWith.{output_stops_with}
+use Rattle.program_io.proofs.Fronting.{front_of_bytes}
+use Rattle.panel_guides.proofs.Written.{telling_written}
 use Rattle.panel_guides.proofs.ledger_calls.serving.print_told.Goals as goal
 
 pub returns-in_err-answer-clause-stopped : goal.returns-in_err-answer-clause-stopped
@@ -16,10 +18,18 @@ returns-in_err-put-clause-stopped g c =
     rw exit.1 (λ unreadable. output_stops_with c.in_err-put.field-0.0 c.in_err-put.ensures.told exit.2)
 
 pub returns-clause-printed : goal.returns-clause-printed
-returns-clause-printed g c = record {
-  read = c.args.deck.now;
-  is_deck = refl;
-  answer = c.in_ok-answer.answer.items;
-  told = c.in_ok-answer.ensures.told;
-  written = rw (← c.as_slice.ensures.value) c.in_ok-put.ensures.written;
-}
+returns-clause-printed g c =
+    telling_written c.args.text.now c.args.deck.now c.args.question c.args.place c.in_ok-answer.answer.items c.as_slice.result.now _ _
+    c.in_ok-answer.ensures.told c.as_slice.ensures.value c.in_ok-put.ensures.written
+
+pub returns-in_err-put-clause-front : goal.returns-in_err-put-clause-front
+returns-in_err-put-clause-front g c =
+    inr (front_of_bytes c.as_slice.result.now (λ after.
+    telling_written c.args.text.now c.args.deck.now c.args.question c.args.place c.in_ok-answer.answer.items c.as_slice.result.now _ after
+    c.in_ok-answer.ensures.told c.as_slice.ensures.value) c.in_err-put.ensures.front)
+
+pub returns-clause-front : goal.returns-clause-front
+returns-clause-front g c =
+    inr (front_of_bytes c.as_slice.result.now (λ after.
+    telling_written c.args.text.now c.args.deck.now c.args.question c.args.place c.in_ok-answer.answer.items c.as_slice.result.now _ after
+    c.in_ok-answer.ensures.told c.as_slice.ensures.value) c.in_ok-put.ensures.front)

@@ -1,6 +1,7 @@
-use Rattle.std.proofs.Common.{refl}
+use Rattle.std.proofs.Common.{inr, refl, Ok}
 use Rattle.std.proofs.lemmas.Result.{err_from_is_err_and}
 use Rattle.sheets.proofs.SheetCalls.Stopping.{card-stops-fields, chart-stops-fields, fields-printed, output-stops-fields, reading-stops-fields, whole-deck}
+use Rattle.program_io.proofs.Fronting.{front_of_bytes}
 use Rattle.sheets.proofs.sheet_calls.fields.print_fields.Goals as goal
 
 pub returns-in_err-planned-clause-stopped : goal.returns-in_err-planned-clause-stopped
@@ -38,3 +39,12 @@ returns-clause-printed g c =
 pub returns-clause-stopped : goal.returns-clause-stopped
 returns-clause-stopped g c =
     output-stops-fields c.args.chart.now (g.R.Read.remaining c.args.deck) c.args.number _ _ c.put.result c.put.ensures.told
+
+pub returns-clause-front : goal.returns-clause-front
+returns-clause-front g c =
+    inr (front_of_bytes c.as_slice-2.result.now (λ after.
+    fields-printed (Ok tt) c.args.chart.now (g.R.Read.remaining c.args.deck) c.args.number c.as_slice.result.now
+    c.in_ok-answer.answer.items c.as_slice-2.result.now c.in_ok-planned.planned _ after c.in_ok-planned.ensures.read
+    (whole-deck (g.R.Read.remaining c.args.deck) c.as_slice.result.now c.in_ok-bytes.bytes.items c.as_slice.ensures.value
+    c.in_ok-bytes.ensures.whole)
+    c.in_ok-answer.ensures.sheet c.as_slice-2.ensures.value) c.put.ensures.front)

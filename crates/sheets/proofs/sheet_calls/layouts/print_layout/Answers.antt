@@ -1,6 +1,7 @@
-use Rattle.std.proofs.Common.{refl}
+use Rattle.std.proofs.Common.{inr, refl, Ok}
 use Rattle.std.proofs.lemmas.Result.{err_from_is_err_and}
 use Rattle.sheets.proofs.SheetCalls.Stopping.{chart-stops-layout, device-stops-layout, layout-printed, output-stops-layout}
+use Rattle.program_io.proofs.Fronting.{front_of_bytes}
 use Rattle.sheets.proofs.sheet_calls.layouts.print_layout.Goals as goal
 
 pub returns-in_err-planned-clause-stopped : goal.returns-in_err-planned-clause-stopped
@@ -21,3 +22,9 @@ returns-clause-printed g c =
 
 pub returns-clause-stopped : goal.returns-clause-stopped
 returns-clause-stopped g c = output-stops-layout c.args.chart.now _ c.put.result c.put.ensures.told
+
+pub returns-clause-front : goal.returns-clause-front
+returns-clause-front g c =
+    inr (front_of_bytes c.as_slice.result.now (λ after.
+    layout-printed (Ok tt) c.args.chart.now c.in_ok-answer.answer.items c.as_slice.result.now c.in_ok-planned.planned _ after
+    c.in_ok-planned.ensures.read c.in_ok-answer.ensures.layout c.as_slice.ensures.value) c.put.ensures.front)
