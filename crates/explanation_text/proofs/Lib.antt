@@ -5,3 +5,4 @@ mod NoNotes
 mod OnlyWays
 mod Places
 mod Rows
+mod ReadOuts

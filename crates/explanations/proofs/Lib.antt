@@ -4,7 +4,7 @@ mod PageFeeding
 pub mod PageLines
 pub mod PointsTold
 mod Printed
-mod ReadyRuns
+pub mod ReadyRuns
 mod RowLists
 mod Says
 mod SeenRows

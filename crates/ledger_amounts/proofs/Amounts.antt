@@ -253,7 +253,7 @@ ledgers-amounts chart plan wiring deck name field level counter account along be
     printed-tells total deck along entries behind (places total deck valid fits ledger) level refl goes goes.due
 
 -- the text of a line that was placed
-placed-text : (place : Option (ℕ × ℕ)) (text : List ℕ) (line : PlacedLine) → line_at place text ≡ line ∷ [] → line.text ≡ text
+pub placed-text : (place : Option (ℕ × ℕ)) (text : List ℕ) (line : PlacedLine) → line_at place text ≡ line ∷ [] → line.text ≡ text
 placed-text None text line same = cc
 placed-text (Some place) text line same =
     let one : record { page = place.0; line = place.1; text = text } ≡ line = cc in

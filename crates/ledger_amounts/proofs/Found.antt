@@ -78,7 +78,7 @@ either true b on = inl refl
 either false b on = inr on
 
 -- a place of an account is that of a group of its counter
-group-at : (counter : TotalCounter) (account : Account) (place : ℕ) → account_of counter ≡ Some account → has_place account place ≡ true
+pub group-at : (counter : TotalCounter) (account : Account) (place : ℕ) → account_of counter ≡ Some account → has_place account place ≡ true
     → (group : Group) × HasPanelGroup counter group × (place_of group ≡ Some place)
 group-at (of.Single own) account place told has =
     let (at, placed, is) = one-place (place_of (panel_group own)) account told in

@@ -19,3 +19,8 @@ mod CoupledSums
 mod DigitWays
 mod RowLines
 mod OneLedger
+mod FigureEnds
+mod EditedTexts
+mod TotalPieces
+mod OwnWheels
+mod TotalFigures

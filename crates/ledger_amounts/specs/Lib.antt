@@ -3,6 +3,7 @@ pub mod Amounts
 pub mod Changes
 pub mod CoupledSums
 pub mod Found
+pub mod Figures
 pub mod DigitWays
 pub mod OneLedger
 pub mod Examples

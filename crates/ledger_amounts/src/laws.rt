@@ -5,6 +5,7 @@ ghost use Rattle.ledger_amounts.specs.Changes.{LedgersHoldAllChanges, LedgersHol
 ghost use Rattle.ledger_amounts.specs.CoupledSums.{CoupledEntriesAreSums, CoupledLedgersAreSums};
 ghost use Rattle.ledger_amounts.specs.DigitWays.{DigitsHaveWays, EntriesTellRows};
 ghost use Rattle.ledger_amounts.specs.Examples.{AddUp, TellDigits};
+ghost use Rattle.ledger_amounts.specs.Figures.{FiguresAreTotals};
 ghost use Rattle.ledger_amounts.specs.Found.{TotalsAreFound};
 ghost use Rattle.ledger_amounts.specs.OneLedger.{KeptLedgersAreOne, LedgersAreOne, PlacesHaveLedgers};
 
@@ -18,6 +19,12 @@ use cycle_ways::laws::ways_tell_digits;
 pub fn ledgers_are_amounts()
     ensures all { LedgersAreAmounts }
     ensures kept { KeptLedgersAreAmounts }
+{}
+
+/// The figure that is told of a printed total, of each of its counter groups and on each of its wheels that isn't blank, is the total of the
+/// report: the edited amount of the group whose total line it is, without the blanks around it.
+pub fn figures_are_totals()
+    ensures { FiguresAreTotals }
 {}
 
 /// On every panel the entries of a ledger are those of all cycles in which something came to its number and behind which it wasn't cleared,

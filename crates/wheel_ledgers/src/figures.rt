@@ -2,7 +2,7 @@
 
 ghost use Rattle.std.specs.Prelude.{◌≡◌, ◌≤◌, ◌<◌, ◌+◌, ◌++◌, OnOk};
 ghost use Rattle.ledgers.specs.Accounts.{IsAccount};
-ghost use Rattle.wheel_ledgers.specs.Figures.{begin_of, column_to, digit_to, end_of, figure_on, group_to, emitter_to, is_beside, is_of_literal, is_other, is_own, number_to, row_to, printed_text, text_to};
+ghost use Rattle.wheel_ledgers.specs.Figures.{balance_to, begin_of, begins_behind, digit_of, digit_to, end_of, ends_before, figure_on, has_digit, has_mark, is_joined, is_own, mark_of, mark_to, printed_text};
 
 use counters::group_of_unit;
 use hubs::{Group, Hub, Jack};
@@ -25,130 +25,125 @@ fn digit_to(setup: &Setup, group: Group, wheel: u8, positions: u8) -> bool
         || digit_to(setup, group, wheel, positions - 1)
 }
 
-// Whether one leads there from the group of a place.
-fn group_to(setup: &Setup, place: usize, wheel: u8) -> bool
+// Whether one leads there from the contact of a balance position of a group.
+fn balance_to(setup: &Setup, group: Group, wheel: u8, position: u8) -> bool
+    ensures { result ≡ balance_to setup.now group wheel position }
+{
+    is_wired(setup, Hub::BAT(group, position), Hub::W(wheel))
+        || is_wired(setup, Hub::BAN(group, position), Hub::W(wheel))
+}
+
+// Whether one leads there from one of its four balance positions.
+fn mark_to(setup: &Setup, group: Group, wheel: u8) -> bool
+    ensures { result ≡ mark_to setup.now group wheel }
+{
+    balance_to(setup, group, wheel, 1)
+        || balance_to(setup, group, wheel, 2)
+        || balance_to(setup, group, wheel, 3)
+        || balance_to(setup, group, wheel, 4)
+}
+
+// Whether a digit of the group of a place is wired to a wheel.
+fn digit_of(setup: &Setup, place: usize, wheel: u8) -> bool
     requires { place < 32 }
-    ensures { result ≡ group_to setup.now place wheel }
+    ensures { result ≡ digit_of setup.now place wheel }
 {
     let group = group_of_unit(3 + place as u8);
     digit_to(setup, group, wheel, group.width)
 }
 
-// Whether one leads there from a group of an account.
-fn is_own(setup: &Setup, account: Account, wheel: u8) -> bool
+// Whether its mark is.
+fn mark_of(setup: &Setup, place: usize, wheel: u8) -> bool
+    requires { place < 32 }
+    ensures { result ≡ mark_of setup.now place wheel }
+{
+    mark_to(setup, group_of_unit(3 + place as u8), wheel)
+}
+
+// Whether a digit of an account is wired to a wheel.
+fn has_digit(setup: &Setup, account: Account, wheel: u8) -> bool
     requires { IsAccount account }
-    ensures { result ≡ is_own setup.now account wheel }
+    ensures { result ≡ has_digit setup.now account wheel }
 {
     match account {
-        Account::One { place } => group_to(setup, place, wheel),
+        Account::One { place } => digit_of(setup, place, wheel),
         Account::Coupled { upper, lower } => {
-            group_to(setup, upper, wheel) || group_to(setup, lower, wheel)
+            digit_of(setup, upper, wheel) || digit_of(setup, lower, wheel)
         }
     }
 }
 
-// Whether one leads there from one of so many groups.
-#[tactic(auto, unfolding(crate::specs::Figures::number_to))]
-fn number_to(setup: &Setup, wheel: u8, groups: usize) -> bool
-    requires { groups ≤ 32 }
-    ensures { result ≡ number_to setup.now wheel groups }
-{
-    if groups == 0 {
-        return false;
-    }
-    group_to(setup, groups - 1, wheel) || number_to(setup, wheel, groups - 1)
-}
-
-// Whether one leads there from one of so many columns of a storage unit.
-#[tactic(auto, unfolding(crate::specs::Figures::column_to))]
-fn column_to(setup: &Setup, unit: u8, wheel: u8, columns: u8) -> bool
-    ensures { result ≡ column_to setup.now unit wheel columns }
-{
-    if columns == 0 {
-        return false;
-    }
-    is_wired(setup, Hub::SX(unit, columns), Hub::W(wheel))
-        || column_to(setup, unit, wheel, columns - 1)
-}
-
-// Whether one leads there from one of so many storage units.
-#[tactic(auto, unfolding(crate::specs::Figures::text_to))]
-fn text_to(setup: &Setup, wheel: u8, units: u8) -> bool
-    ensures { result ≡ text_to setup.now wheel units }
-{
-    if units == 0 {
-        return false;
-    }
-    column_to(setup, units, wheel, 16) || text_to(setup, wheel, units - 1)
-}
-
-// Whether one leads there from one of so many rows of an emitter.
-#[tactic(auto, unfolding(crate::specs::Figures::row_to))]
-fn row_to(setup: &Setup, emitter: u8, wheel: u8, rows: u8) -> bool
-    ensures { result ≡ row_to setup.now emitter wheel rows }
-{
-    if rows == 0 {
-        return false;
-    }
-    is_wired(setup, Hub::EM(emitter, rows - 1), Hub::W(wheel))
-        || row_to(setup, emitter, wheel, rows - 1)
-}
-
-// Whether one leads there from one of so many emitters.
-#[tactic(auto, unfolding(crate::specs::Figures::emitter_to))]
-fn emitter_to(setup: &Setup, wheel: u8, emitters: u8) -> bool
-    ensures { result ≡ emitter_to setup.now wheel emitters }
-{
-    if emitters == 0 {
-        return false;
-    }
-    row_to(setup, emitters, wheel, 13) || emitter_to(setup, wheel, emitters - 1)
-}
-
-// Whether a character of a literal stands on a wheel: one from an emitter that is no part of an amount.
-#[tactic(auto, unfolding(crate::specs::Figures::is_of_literal))]
-fn is_of_literal(setup: &Setup, wheel: u8, character: u8) -> bool
-    ensures { result ≡ is_of_literal setup.now wheel character }
-{
-    emitter_to(setup, wheel, 8) && !(character == b'.' || setup.has_jack(Jack::Link(wheel)))
-}
-
-// Whether the number of another group, a text or a literal is wired to a wheel, and the number of the account is not.
-#[tactic(auto, unfolding(crate::specs::Figures::is_other))]
-fn is_other(setup: &Setup, account: Account, wheel: u8, character: u8) -> bool
+// Whether its mark is.
+fn has_mark(setup: &Setup, account: Account, wheel: u8) -> bool
     requires { IsAccount account }
-    ensures { result ≡ is_other setup.now account wheel character }
+    ensures { result ≡ has_mark setup.now account wheel }
 {
-    !is_own(setup, account, wheel)
-        && (number_to(setup, wheel, 32)
-            || text_to(setup, wheel, 4)
-            || is_of_literal(setup, wheel, character))
+    match account {
+        Account::One { place } => mark_of(setup, place, wheel),
+        Account::Coupled { upper, lower } => {
+            mark_of(setup, upper, wheel) || mark_of(setup, lower, wheel)
+        }
+    }
 }
 
-// Whether the figure has no character at a place of a line: a blank stands there, or one of another figure.
-fn is_beside(setup: &Setup, account: Account, text: &[u8; LINE_WHEELS], place: usize) -> bool
+// Whether a wheel is one of an account's own: a digit or the mark of the account is wired to it, or it stands between two digits.
+fn is_own(setup: &Setup, account: Account, wheel: u8) -> bool
     requires account { IsAccount account }
-    requires place { place < 120 }
-    ensures { result ≡ is_beside setup.now account text.now place }
+    requires from { 1 ≤ wheel }
+    requires to { wheel ≤ 120 }
+    ensures { result ≡ is_own setup.now account wheel }
 {
-    text[place] == b' ' || is_other(setup, account, place as u8 + 1, text[place])
+    has_digit(setup, account, wheel)
+        || has_mark(setup, account, wheel)
+        || (has_digit(setup, account, wheel - 1) && has_digit(setup, account, wheel + 1))
 }
 
-// Where the figure begins among the characters before a place.
+// Whether a wheel is joined to the one before it: LINK is plugged on it, or both are the account's own.
+#[tactic(auto, unfolding(crate::specs::Figures::is_joined))]
+fn is_joined(setup: &Setup, account: Account, wheel: u8) -> bool
+    requires account { IsAccount account }
+    requires from { 2 ≤ wheel }
+    requires to { wheel ≤ 120 }
+    ensures { result ≡ is_joined setup.now account wheel }
+{
+    setup.has_jack(Jack::Link(wheel))
+        || (is_own(setup, account, wheel - 1) && is_own(setup, account, wheel))
+}
+
+// Whether a figure that goes on behind a place of a line begins there: the place is blank, or the wheel behind it isn't joined to it.
+fn begins_behind(setup: &Setup, account: Account, text: &[u8; LINE_WHEELS], place: usize) -> bool
+    requires account { IsAccount account }
+    requires place { place < 119 }
+    ensures { result ≡ begins_behind setup.now account text.now place }
+{
+    text[place] == b' ' || !is_joined(setup, account, place as u8 + 2)
+}
+
+// Whether one that goes on before a place ends there: the place is blank, or its wheel isn't joined to the one before it.
+fn ends_before(setup: &Setup, account: Account, text: &[u8; LINE_WHEELS], place: usize) -> bool
+    requires account { IsAccount account }
+    requires some { 1 ≤ place }
+    requires place { place < 120 }
+    ensures { result ≡ ends_before setup.now account text.now place }
+{
+    text[place] == b' ' || !is_joined(setup, account, place as u8 + 1)
+}
+
+// Where a figure begins, if a character of it stands behind so many others of the line.
 #[tactic(auto, unfolding(crate::specs::Figures::begin_of))]
 fn begin_of(setup: &Setup, account: Account, text: &[u8; LINE_WHEELS], place: usize) -> usize
     requires account { IsAccount account }
-    requires place { place ≤ 120 }
+    requires place { place < 120 }
     ensures value { result ≡ begin_of setup.now account text.now place }
     ensures range { result ≤ place }
 {
-    if place == 0 || is_beside(setup, account, text, place - 1) {
+    if place == 0 || begins_behind(setup, account, text, place - 1) {
         return place;
     }
     begin_of(setup, account, text, place - 1)
 }
 
-// Where it ends among so many characters from a place on.
+// Where it ends, if it goes on before a place, from which the line has so many characters.
 #[tactic(auto, unfolding(crate::specs::Figures::end_of))]
 fn end_of(
     setup: &Setup,
@@ -158,19 +153,21 @@ fn end_of(
     others: usize,
 ) -> usize
     requires account { IsAccount account }
+    requires some { 1 ≤ place }
     requires all { place + others ≤ 120 }
     ensures value { result ≡ end_of setup.now account text.now place others }
     ensures from { place ≤ result }
     ensures to { result ≤ 120 }
 {
-    if others == 0 || is_beside(setup, account, text, place) {
+    if others == 0 || ends_before(setup, account, text, place) {
         return place;
     }
     end_of(setup, account, text, place + 1, others - 1)
 }
 
-/// The figure of an account on a wheel, 1 to 120, of a line that a setup of the panel printed: the characters on the wheel and beside it, up
-/// to a blank, or to a wheel to which the number of another group, a text from storage or a literal is wired.
+/// The figure of an account on a wheel, 1 to 120, of a line that a setup of the panel printed: the characters on the wheel and on those that
+/// are joined with it, up to a blank. A wheel is joined to the one before it by LINK, or if both are wired to digits or to the mark of the
+/// account, or stand between two digits.
 pub fn figure_on<'a>(
     setup: &Setup,
     account: Account,
