@@ -1,16 +1,15 @@
 -- The page for a browser of a text and a deck, from the bytes of both; or why there is none.
-use Rattle.std.specs.Prelude.{◌≡◌, ◌↔◌, ℕ, true, false, List, Option}
+use Rattle.std.specs.Prelude.{◌≡◌, ◌↔◌, ℕ, true, false, List, Option, None, Some}
 use Rattle.card_code.specs.Deck.{Deck}
 use Rattle.commands.specs.Answers.{CompilesAs}
 use Rattle.compile407.specs.Compilation.{Compilation}
 use Rattle.compile407.specs.Runnable.{IsRunnable}
 use Rattle.faults.specs.declared.fault.Fault.{Fault}
-use Rattle.panel_charts.specs.PanelChart.{IsWiredChart}
+use Rattle.panel_charts.specs.KnownCharts.{IsReadOff, KnownChart}
 use Rattle.panel_guides.specs.Explained.{RefusesTexts}
 use Rattle.panel_guides.specs.Panels.{IsRunOf, is_wiring_text}
 use Rattle.panel_guides.specs.declared.unexplained.Unexplained.{Unexplained}
 use Rattle.panel_guides.specs.declared.unexplained.Unexplained.TheVariants as why
-use Rattle.plans.specs.Plans.{Lists}
 use Rattle.setups.specs.Wiring.{Wiring}
 use Rattle.show_page.specs.Page.{ShowsChart, ShowsPanel}
 use Rattle.show_page.specs.ReadPanel.{ShowsRead}
@@ -28,20 +27,23 @@ pub record ShowsCompiled (compiled : Compilation) (text : List ℕ) (cards : Lis
   pub second : (version ≡ Second) ↔ JoinsGroups compiled.setup
   pub shows : ShowsChart version compiled.chart.lines compiled.plan compiled.setup text cards around page
 
--- The page of a panel by a chart for which it is wired by this plan; its legend is in the version of the wiring chart whose text this is.
-pub record ShowsReadOff (wiring : Wiring) (text : List ℕ) (cards : List (List ℕ)) (around : Option ℕ) (page : List ℕ) : Type 0 where
-  pub chart : List ℕ
-  pub compiled : Compilation
-  pub plan : Lists
-  pub wired : IsWiredChart wiring chart compiled plan
+-- The page of a panel by a chart that is known of it; its legend is in the version of the wiring chart whose text this is.
+pub record ShowsReadOff (wiring : Wiring) (chart : KnownChart) (text : List ℕ) (cards : List (List ℕ)) (around : Option ℕ)
+    (page : List ℕ) : Type 0 where
   pub version : Version
   pub spelled : (reads : ReadsAs text wiring) → version ≡ reads.chart.reads.version
-  pub shows : ShowsRead version compiled.chart.lines plan wiring chart text cards around page
+  pub shows : ShowsRead version chart.compiled.chart.lines chart.plan wiring chart.text text cards around page
 
--- the page of a panel that is wired as a wiring chart says, and of cards: by the chart that is read off it, or else by its wires alone
-pub data ShowsWired (wiring : Wiring) (text : List ℕ) (cards : List (List ℕ)) (around : Option ℕ) (page : List ℕ) : Type 0 where
-  as_read : ShowsReadOff wiring text cards around page → ShowsWired wiring text cards around page
-  unread : ShowsPanel wiring text cards around page → ShowsWired wiring text cards around page
+-- the page of a panel by the chart that is known of it, or by its wires alone if none is
+abbrev pub ShowsKnown : Wiring → Option KnownChart → (text : List ℕ) → List (List ℕ) → (around : Option ℕ) → (page : List ℕ) → Type 0
+ShowsKnown wiring None text cards around page = ShowsPanel wiring text cards around page
+ShowsKnown wiring (Some chart) text cards around page = ShowsReadOff wiring chart text cards around page
+
+-- the page of a panel that is wired as a wiring chart says, and of cards: by the chart that is read off it, if the panel is wired for that one
+pub record ShowsWired (wiring : Wiring) (text : List ℕ) (cards : List (List ℕ)) (around : Option ℕ) (page : List ℕ) : Type 0 where
+  pub known : Option KnownChart
+  pub read : IsReadOff wiring known
+  pub shows : ShowsKnown wiring known text cards around page
 
 -- A wiring chart is shown with the pages of the deck on its panel, whatever is on the cards; a planning chart, by its own plan and setup,
 -- with its report of the deck, whose cards it can be run with. Either is shown around a page of the report, which is there, or around none.

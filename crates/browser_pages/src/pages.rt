@@ -4,16 +4,18 @@ ghost use Rattle.std.specs.Prelude.{◌≡◌, ◌≢◌, ◌≤◌, false, leng
 ghost use Rattle.std.specs.String.{string_bytes};
 ghost use Rattle.card_code.specs.MostCards.{most_cards};
 ghost use Rattle.faults.specs.declared.fault.Fault.TheVariants.{Memory};
+ghost use Rattle.panel_charts.specs.KnownCharts.{known_by, known_in};
+ghost use Rattle.panel_guides.specs.Known.{IsServed};
 ghost use Rattle.panel_guides.specs.Panels.{is_wiring_text};
 ghost use Rattle.panel_guides.specs.declared.unexplained.Unexplained.TheVariants.{Failed};
 ghost use Rattle.show_page.specs.Page.{ShowsPanel};
-ghost use Rattle.browser_pages.specs.Shown.{IsShown, IsUnshown, ShowsCompiled, ShowsWired};
+ghost use Rattle.browser_pages.specs.Shown.{IsShown, IsUnshown, ShowsCompiled, ShowsKnown, ShowsReadOff, ShowsWired};
 
 use crate::asked::check_asked;
 use card_code::Card;
 use compile407::Compiled;
 use faults::Fault;
-use panel_charts::wired_chart;
+use panel_charts::{PanelChart, wired_chart};
 use panel_guides::{Unexplained, is_wiring_text, planned_run, wired_run};
 use setups::Setup;
 use show_page::{show_chart, show_panel, show_read};
@@ -35,8 +37,58 @@ fn panel_page<'a>(
     Ok(show_panel(alloc, setup, wiring, cards, around)?)
 }
 
-// The page of a panel that is wired as a wiring chart says, and of cards: by the chart that is read off it, if the panel is wired for that
-// one. The legend is in the version of the wiring chart.
+// The page of a panel that is wired as a wiring chart says, and of cards, by a chart for which the panel is wired. The legend is in the version
+// of the wiring chart.
+fn read_page<'a>(
+    alloc: Global,
+    setup: &Setup,
+    chart: &PanelChart,
+    wiring: &[u8],
+    cards: &[Card],
+    around: Option<u32>,
+) -> Result<String, Fault<'a>>
+    requires few { length cards.now ≤ most_cards }
+    requires served { IsServed (Some (known_by chart.now)) }
+    ensures shows { IfOk result (λ text.
+        ShowsReadOff setup.now (known_by chart.now) wiring.now cards.now around (string_bytes text)) }
+    ensures memory { IfErr result (λ told. told ≡ Fault.Memory) }
+{
+    let page = show_read(
+        alloc,
+        version_of_text(wiring),
+        chart.compiled.chart(),
+        chart.plan(),
+        setup,
+        chart.text.as_bytes(),
+        wiring,
+        cards,
+        around,
+    )?;
+    Ok(page)
+}
+
+// The page of a panel that is wired as a wiring chart says, and of cards: by the chart that was read off it, or by its wires alone if none was.
+fn known_page<'a>(
+    alloc: Global,
+    setup: &Setup,
+    read: &Option<PanelChart>,
+    wiring: &[u8],
+    cards: &[Card],
+    around: Option<u32>,
+) -> Result<String, Fault<'a>>
+    requires few { length cards.now ≤ most_cards }
+    requires served { IsServed (known_in read.now) }
+    ensures shows { IfOk result (λ text.
+        ShowsKnown setup.now (known_in read.now) wiring.now cards.now around (string_bytes text)) }
+    ensures memory { IfErr result (λ told. told ≡ Fault.Memory) }
+{
+    match read {
+        Some(chart) => read_page(alloc, setup, chart, wiring, cards, around),
+        None => panel_page(alloc, setup, wiring, cards, around),
+    }
+}
+
+// The page of a panel that is wired as a wiring chart says, and of cards: the chart is read off the panel once.
 fn wired_page<'a>(
     alloc: Global,
     setup: &Setup,
@@ -48,21 +100,8 @@ fn wired_page<'a>(
     ensures shows { IfOk result (λ text. ShowsWired setup.now wiring.now cards.now around (string_bytes text)) }
     ensures memory { IfErr result (λ told. told ≡ Fault.Memory) }
 {
-    let Some(read) = wired_chart(alloc, setup)? else {
-        return panel_page(alloc, setup, wiring, cards, around);
-    };
-    let page = show_read(
-        alloc,
-        version_of_text(wiring),
-        read.compiled.chart(),
-        read.plan(),
-        setup,
-        read.text.as_bytes(),
-        wiring,
-        cards,
-        around,
-    )?;
-    Ok(page)
+    let read = wired_chart(alloc, setup)?;
+    known_page(alloc, setup, &read, wiring, cards, around)
 }
 
 // The page of a compiled chart and of cards; its legend is in the version in which the wiring chart of its panel is printed.

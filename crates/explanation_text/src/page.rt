@@ -7,7 +7,7 @@ ghost use Rattle.explanations.specs.PlacedInRun.{PrintsNoneAt};
 ghost use Rattle.explanations.specs.declared.refusal.Refusal.TheVariants.{NoSuchLine, NoSuchWheel};
 ghost use Rattle.explanation_text.specs.ExplanationTexts.{Explains};
 
-use crate::text::told_text;
+use crate::text::told_wheel;
 use explanations::{PageWays, Refusal};
 use setups::Setup;
 use std::alloc::Global;
@@ -39,5 +39,5 @@ pub fn page_wheel_text(
     let Some(ways) = page.line(line) else {
         return Err(Refusal::NoSuchLine);
     };
-    Ok(told_text(alloc, setup, asked, ways, wheel)?)
+    Ok(told_wheel(alloc, setup, asked, ways, wheel)?.into_text())
 }

@@ -6,7 +6,7 @@ ghost use Rattle.card_code.specs.MostCards.{most_cards};
 ghost use Rattle.explanations.specs.Pages.{HasWays};
 ghost use Rattle.explanations.specs.PlacedInRun.{IsFound, PrintsNoneAt};
 ghost use Rattle.explanations.specs.declared.refusal.Refusal.TheVariants.{NoSuchLine, NoSuchWheel};
-ghost use Rattle.explanation_text.specs.ExplanationTexts.{Explains, all_lines, lines_at, text_of};
+ghost use Rattle.explanation_text.specs.ExplanationTexts.{Explains, IsTextOf, all_lines, lines_at, text_of};
 
 use crate::asked::write_asked;
 use crate::closing::write_closing;
@@ -18,12 +18,59 @@ use machine::KeptPoint;
 use setups::Setup;
 use std::alloc::{AllocError, Global};
 
-/// The text that tells why a wheel of a line that a setup of the panel prints of a deck, of at most 999,999 cards, printed its
-/// character. `asked` has words for each who asks for wires, say for each line of a planning chart, and a setup with the wires that it asks
+/// What is told of a wheel, and the text of it.
+#[derive(Drop)]
+pub struct ToldWheel {
+    /// What is told.
+    pub told: Explanation,
+    /// The text.
+    pub text: String,
+}
+
+impl ToldWheel {
+    ghost use Rattle.std.specs.Prelude.{◌≡◌};
+
+    /// The text alone.
+    pub fn into_text(self) -> String
+        ensures { result ≡ self.text }
+    {
+        let ToldWheel { told: _told, text } = self;
+        text
+    }
+}
+
+/// Why a wheel of a line that a setup of the panel prints of a deck, of at most 999,999 cards, printed its character, and the text that
+/// tells it. `asked` has words for each who asks for wires, say for each line of a planning chart, and a setup with the wires that it asks
 /// for: behind each way a line names those who ask for a wire of it. It is empty where nobody is known.
 ///
 /// Refused with `NoSuchWheel` where the wheel isn't one of 1 to 120, else with `NoSuchLine` where no line stands at this page and this
 /// line of it, and with `Memory` where no memory is left.
+pub fn explain_wheel(
+    alloc: Global,
+    setup: &Setup,
+    asked: &[(String, Setup)],
+    cards: &[Card],
+    page: u64,
+    line: u32,
+    wheel: u8,
+) -> Result<ToldWheel, Refusal>
+    requires { length cards.now ≤ most_cards }
+    ensures told { IfOk result (λ why. IsTextOf setup.now asked.now cards.now page line wheel why.told (string_bytes why.text)) }
+    ensures no_wheel { (wheel < 1) ⊎ (120 < wheel) → result ≡ Err NoSuchWheel }
+    ensures wheel { result ≡ Err NoSuchWheel → (wheel < 1) ⊎ (120 < wheel) }
+    ensures no_line { result ≡ Err NoSuchLine → PrintsNoneAt setup.now cards.now page line }
+{
+    if wheel < 1 || 120 < wheel {
+        return Err(Refusal::NoSuchWheel);
+    }
+    let Some(found) = find_line(alloc, setup, cards, page, line)? else {
+        return Err(Refusal::NoSuchLine);
+    };
+    let ways = LineWays::of(alloc, setup, found)?;
+    Ok(told_wheel(alloc, setup, asked, &ways, wheel)?)
+}
+
+/// The text alone of what [`explain_wheel`] tells, which is refused as there.
 pub fn explain_text(
     alloc: Global,
     setup: &Setup,
@@ -39,32 +86,29 @@ pub fn explain_text(
     ensures wheel { result ≡ Err NoSuchWheel → (wheel < 1) ⊎ (120 < wheel) }
     ensures no_line { result ≡ Err NoSuchLine → PrintsNoneAt setup.now cards.now page line }
 {
-    if wheel < 1 || 120 < wheel {
-        return Err(Refusal::NoSuchWheel);
+    match explain_wheel(alloc, setup, asked, cards, page, line, wheel) {
+        Ok(why) => Ok(why.into_text()),
+        Err(refusal) => Err(refusal),
     }
-    let Some(found) = find_line(alloc, setup, cards, page, line)? else {
-        return Err(Refusal::NoSuchLine);
-    };
-    let ways = LineWays::of(alloc, setup, found)?;
-    Ok(told_text(alloc, setup, asked, &ways, wheel)?)
 }
 
-// The text of what is told of a wheel, 1 to 120, of a line that was found on this setup.
-pub(crate) fn told_text(
+// What is told of a wheel, 1 to 120, of a line that was found on this setup.
+pub(crate) fn told_wheel(
     alloc: Global,
     setup: &Setup,
     asked: &[(String, Setup)],
     line: &LineWays,
     wheel: u8,
-) -> Result<String, AllocError>
+) -> Result<ToldWheel, AllocError>
     requires found { (deck : List (List ℕ)) × IsFound setup.now deck line.now.found }
     requires ways { HasWays setup.now line.now }
     requires wheel { (1 ≤ wheel) × (wheel ≤ 120) }
-    ensures { (deck : List (List ℕ)) → IsFound setup.now deck line.now.found → IfOk result (λ text.
-        Explains setup.now asked.now deck line.now.found.kept.line.page line.now.found.kept.line.line wheel (string_bytes text)) }
+    ensures { (deck : List (List ℕ)) → IsFound setup.now deck line.now.found → IfOk result (λ why.
+        IsTextOf setup.now asked.now deck line.now.found.kept.line.page line.now.found.kept.line.line wheel why.told (string_bytes why.text)) }
 {
     let told = line.wheel(alloc, setup, wheel)?;
-    wheel_text(alloc, setup, asked, line, &told)
+    let text = wheel_text(alloc, setup, asked, line, &told)?;
+    Ok(ToldWheel { told, text })
 }
 
 /// The text of what was told of a wheel of a line. The setup is that by which the line was found, and `asked` names who asks for wires,

@@ -1,2 +1,3 @@
 pub mod PanelChart
+pub mod KnownCharts
 pub mod PanelSlips

@@ -14,6 +14,10 @@ pub record IsChart (text : List ℕ) (compiled : Compilation) : Type 0 where
   pub read : Reads text compiled.chart
   pub compiled_so : IsCompiled compiled
 
+-- the text is one of a chart that compiles
+abbrev pub HasChart : List ℕ → Type 0
+HasChart text = (compiled : Compilation) × IsChart text compiled
+
 -- What is found of a panel beside a chart is told, and it is found to be wired for the chart if it is so by any plan. If the panel shows the
 -- parts of another one that is wired for the chart, that one is wired for it by the plan that is told.
 pub record IsFound (setup : Wiring) (compiled : Compilation) (matching : Matching) : Type 0 where

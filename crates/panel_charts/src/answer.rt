@@ -2,9 +2,9 @@
 
 ghost use Rattle.std.specs.Prelude.{◌≡◌, IfErr, IfOk, IfSome, string_bytes};
 ghost use Rattle.faults.specs.declared.chart.ChartFault.TheVariants as chart;
-ghost use Rattle.panel_charts.specs.PanelChart.{IsFound, IsReadBack};
+ghost use Rattle.panel_charts.specs.PanelChart.{IsChart, IsFound, IsReadBack};
 
-use crate::lawful::{chart_text_of, whole_text};
+use crate::lawful::{ChartText, chart_text_of, whole_text};
 use compile407::{ChartFault, Compiled};
 use matching::{Matching, match_setup};
 use plans::Plan;
@@ -33,12 +33,13 @@ impl Drop for PanelChart {
 }
 
 impl PanelChart {
-    ghost use Rattle.std.specs.Prelude.{◌≡◌, true};
+    ghost use Rattle.std.specs.Prelude.{◌≡◌, false, true};
     ghost use Rattle.matching.specs.Answers.{IsMatched, plan_told};
 
     /// Whether the panel is wired for the chart.
     pub(crate) fn is_wired(&self) -> bool
-        ensures { result ≡ true → IsMatched self.now.matching }
+        ensures wired { result ≡ true → IsMatched self.now.matching }
+        ensures unwired { result ≡ false → ¬ IsMatched self.now.matching }
     {
         match &self.matching {
             Matching::Matched { .. } => true,
@@ -75,6 +76,25 @@ fn found_of(alloc: Global, compiled: &Compiled, setup: &Setup) -> Result<Matchin
     match_setup(alloc, compiled.chart(), compiled.plan(), setup)
 }
 
+/// A chart, and what is found of a panel beside it. Its only refusal is memory.
+pub(crate) fn chart_beside(
+    alloc: Global,
+    chart: ChartText,
+    setup: &Setup,
+) -> Result<PanelChart, AllocError>
+    requires { IsChart (string_bytes chart.text) chart.compiled }
+    ensures read { IfOk result (λ panel. IsReadBack setup.now (string_bytes panel.text) panel.compiled panel.matching) }
+    ensures text { IfOk result (λ panel. panel.text ≡ chart.text) }
+{
+    let (text, compiled) = chart.into_parts();
+    let matching = found_of(alloc, &compiled, setup)?;
+    Ok(PanelChart {
+        text,
+        compiled,
+        matching,
+    })
+}
+
 /// The chart that a panel is read back as: a text that compiles, and what is found of the panel beside it. If that is `Matched`, the panel
 /// is wired for the chart by the plan that is told, and so the machine prints the chart's reports on it. If it `Differs`, the panel is wired
 /// for this chart by no plan, and exactly what is missing and what is extra by the plan that is told is told too.
@@ -88,13 +108,7 @@ pub fn read_back(alloc: Global, setup: &Setup) -> Result<PanelChart, ChartFault>
     ensures refused { IfErr result (λ fault. fault ≡ chart.Memory) }
 {
     let chart = chart_text_of(alloc, setup)?;
-    let (text, compiled) = chart.into_parts();
-    let matching = found_of(alloc, &compiled, setup)?;
-    Ok(PanelChart {
-        text,
-        compiled,
-        matching,
-    })
+    Ok(chart_beside(alloc, chart, setup)?)
 }
 
 /// The chart of a panel at once, no line left out, and what is found of another panel beside it; none where it doesn't compile, or has the
@@ -110,11 +124,5 @@ pub fn read_beside(
     let Some(chart) = whole_text(alloc, read, known)? else {
         return Ok(None);
     };
-    let (text, compiled) = chart.into_parts();
-    let beside = found_of(alloc, &compiled, setup)?;
-    Ok(Some(PanelChart {
-        text,
-        compiled,
-        matching: beside,
-    }))
+    Ok(Some(chart_beside(alloc, chart, setup)?))
 }

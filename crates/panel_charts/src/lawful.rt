@@ -1,13 +1,14 @@
 //! A chart that compiles, by the draft that is read off a panel: lines that break a rule or take too much of the machine are left out.
 
-ghost use Rattle.std.specs.Prelude.{◌≡◌, ◌≢◌, IfErr, IfOk, IfSome, string_bytes};
+ghost use Rattle.std.specs.Prelude.{◌≡◌, ◌≢◌, IfErr, IfNone, IfOk, IfSome, string_bytes};
 ghost use Rattle.compile407.specs.ChartFaults.{HasChartFault};
 ghost use Rattle.faults.specs.declared.chart.ChartFault.TheVariants as chart;
-ghost use Rattle.panel_charts.specs.PanelChart.{IsChart};
+ghost use Rattle.panel_charts.specs.PanelChart.{HasChart, IsChart};
+ghost use Rattle.panel_reader.specs.Lines.{IsFramed};
 
 use allocate::CapacityFault;
 use charts::{BodyLine, ControlLevel};
-use compile407::{ChartFault, Compiled, compile};
+use compile407::{ChartFault, Compiled, compile, compiled_texts_have_no_fault};
 use panel_reader::{DraftLine, Item, PrintedLine, Reading, Said, read_panel, write_draft};
 use setups::Setup;
 use std::alloc::{AllocError, Global};
@@ -46,10 +47,39 @@ impl ChartText {
 // A text, compiled.
 fn compiled_text(alloc: Global, text: String) -> Result<ChartText, ChartFault>
     ensures compiles { IfOk result (λ chart. IsChart (string_bytes chart.text) chart.compiled) }
+    ensures text { IfOk result (λ chart. chart.text ≡ text) }
     ensures refused { IfErr result (λ fault. fault ≢ chart.Memory → HasChartFault (string_bytes text) fault) }
 {
     let compiled = compile(alloc, text.as_bytes())?;
     Ok(ChartText { text, compiled })
+}
+
+/// The text that is read off a panel, no line left out. Its only refusal is memory.
+pub(crate) fn text_read(alloc: Global, setup: &Setup) -> Result<String, AllocError>
+    ensures { IfOk result (λ text. IsFramed (string_bytes text)) }
+{
+    let reading = read_panel(alloc, setup)?;
+    write_draft(
+        alloc,
+        &reading.draft,
+        setup.tape(),
+        reading.lines.as_slice(),
+    )
+}
+
+#[tactic(auto, using(crate::proofs::MatchedCharts::no_chart))]
+/// The chart of a text; none exactly if the text doesn't compile. Its only refusal is memory.
+pub(crate) fn chart_in(alloc: Global, text: String) -> Result<Option<ChartText>, AllocError>
+    ensures compiles { IfOk result (λ found. IfSome found (λ chart. IsChart (string_bytes chart.text) chart.compiled)) }
+    ensures text { IfOk result (λ found. IfSome found (λ chart. chart.text ≡ text)) }
+    ensures none { IfOk result (λ found. IfNone found (¬ HasChart (string_bytes text))) }
+{
+    compiled_texts_have_no_fault();
+    match compiled_text(alloc, text) {
+        Ok(chart) => Ok(Some(chart)),
+        Err(ChartFault::Memory) => Err(AllocError),
+        Err(_) => Ok(None),
+    }
 }
 
 /// The chart that is read off a panel, no line left out; none where it doesn't compile, or has the text that is known.
@@ -60,21 +90,11 @@ pub(crate) fn whole_text(
 ) -> Result<Option<ChartText>, AllocError>
     ensures compiles { IfOk result (λ found. IfSome found (λ chart. IsChart (string_bytes chart.text) chart.compiled)) }
 {
-    let reading = read_panel(alloc, setup)?;
-    let text = write_draft(
-        alloc,
-        &reading.draft,
-        setup.tape(),
-        reading.lines.as_slice(),
-    )?;
+    let text = text_read(alloc, setup)?;
     if text.as_str() == known {
         return Ok(None);
     }
-    match compiled_text(alloc, text) {
-        Ok(chart) => Ok(Some(chart)),
-        Err(ChartFault::Memory) => Err(AllocError),
-        Err(_) => Ok(None),
-    }
+    chart_in(alloc, text)
 }
 
 // Whether an item is an amount with a mark.

@@ -1,25 +1,28 @@
-//! A chart for which a panel is wired.
+//! The chart that is read off a panel, where the panel is wired for it.
 
 ghost use Rattle.std.specs.Prelude.{IfOk, IfSome, string_bytes};
-ghost use Rattle.matching.specs.Answers.{plan_told};
-ghost use Rattle.panel_charts.specs.PanelChart.{IsWiredChart};
+ghost use Rattle.panel_charts.specs.KnownCharts.{IsReadOff, known_in};
+ghost use Rattle.panel_charts.specs.PanelChart.{IsReadBack};
 
-use crate::answer::{PanelChart, read_beside};
+use crate::answer::{PanelChart, chart_beside};
+use crate::lawful::{chart_in, text_read};
 use setups::Setup;
 use std::alloc::{AllocError, Global};
 
-/// A chart for which a panel is wired by the plan that is told, if one is answered. It tries what is read off the panel at once, no line left
-/// out, and no other chart: so `None` doesn't say that there is none. Its only refusal is memory.
+/// The chart that is known of a panel: a text is read off it, no line left out, and this is its chart, if it is one and the panel is wired
+/// for it by any plan; else none is known. No other text is tried, so `None` doesn't say that there is no chart for which the panel is wired.
+/// Its only refusal is memory.
 pub fn wired_chart(alloc: Global, setup: &Setup) -> Result<Option<PanelChart>, AllocError>
-    ensures { IfOk result (λ found. IfSome found (λ chart.
-        IsWiredChart setup.now (string_bytes chart.text) chart.compiled (plan_told chart.matching))) }
+    ensures known { IfOk result (λ found. IsReadOff setup.now (known_in found)) }
+    ensures read { IfOk result (λ found. IfSome found (λ panel. IsReadBack setup.now (string_bytes panel.text) panel.compiled panel.matching)) }
 {
-    // No text is known of the panel beforehand.
-    let Some(chart) = read_beside(alloc, setup, setup, "")? else {
+    let text = text_read(alloc, setup)?;
+    let Some(chart) = chart_in(alloc, text)? else {
         return Ok(None);
     };
-    if chart.is_wired() {
-        Ok(Some(chart))
+    let panel = chart_beside(alloc, chart, setup)?;
+    if panel.is_wired() {
+        Ok(Some(panel))
     } else {
         Ok(None)
     }

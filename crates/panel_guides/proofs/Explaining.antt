@@ -1,16 +1,20 @@
 -- What is explained, and why something isn't.
-use Rattle.std.proofs.Common.{◌≡◌, ◌≢◌, ◌∙◌, ap, sym, subst, refl, ℕ, Bool, true, false, List, Result, Ok, Err, IfOk}
+use Rattle.std.proofs.Common.{◌≡◌, ◌≢◌, ◌∙◌, ap, sym, subst, refl, ℕ, Bool, true, false, List, Option, None, Some, Result, Ok, Err}
 use Rattle.std.proofs.lemmas.Bool.{false≢true}
-use Rattle.std.specs.Prelude.{IfErr, String}
+use Rattle.std.specs.Prelude.{String}
 use Rattle.std.specs.declared.alloc.Global.{Global}
 use Rattle.explanations.specs.PlacedInRun.{PrintsNoneAt}
+use Rattle.explanations.specs.declared.explanation.Explanation.{Explanation}
 use Rattle.explanations.specs.declared.refusal.Refusal.{Refusal}
 use Rattle.explanations.specs.declared.refusal.Refusal.TheVariants as refusal
 use Rattle.faults.specs.declared.fault.Fault.{Fault}
 use Rattle.faults.specs.declared.fault.Fault.TheVariants as fault
+use Rattle.panel_charts.specs.KnownCharts.{IsReadOff, KnownChart}
+use Rattle.panel_guides.specs.Known.{IsServed}
+use Rattle.panel_guides.specs.TextRuns.{IsTextRun, cards_of, setup_of}
+use Rattle.panel_guides.specs.declared.text_runs.TextRun.{TextRun}
 use Rattle.setups.specs.Wiring.{Wiring}
-use Rattle.panel_guides.specs.Explained.{AreAsked, ExplainsPlace, IsExplained, IsNoWheel, IsUnexplained, LacksPlace, RefusesTexts, no_line, no_wheel, nowhere, texts}
-use Rattle.panel_guides.specs.Panels.{IsRunOf}
+use Rattle.panel_guides.specs.Explained.{ExplainsBy, IsNoWheel, IsUnexplained, LacksPlace, RefusesTexts, no_line, no_wheel, nowhere, texts}
 use Rattle.panel_guides.specs.declared.place.Place.{Place}
 use Rattle.panel_guides.specs.declared.unexplained.Unexplained.{Unexplained}
 use Rattle.panel_guides.specs.declared.unexplained.Unexplained.TheVariants as why
@@ -18,6 +22,10 @@ use Rattle.panel_guides.specs.declared.unexplained.Unexplained.TheVariants as wh
 -- a refusal, as what a call answers
 abbrev refused_by : (X : Type 0) → Refusal → Result X Refusal
 refused_by X met = Err met
+
+-- what is told, as what a call answers
+abbrev answered : (X : Type 0) → X → Result X Refusal
+answered X told = Ok told
 
 -- whether there is no such wheel, by what is refused
 abbrev says_no_wheel : {X : Type 0} → Result X Refusal → Bool
@@ -40,6 +48,12 @@ lacks_place refusal.NoSuchWheel wiring cards place told wheel same denies denied
 lacks_place refusal.Memory wiring cards place told wheel same denies denied none of_wheel of_line of_memory not_memory =
     absurd (not_memory (of_memory refl))
 
+-- there is a wheel of which something is told
+pub is_wheel : {X : Type 0} (told : X) (wheel its : ℕ) → wheel ≡ its → (IsNoWheel wheel → answered X told ≡ refused_by X refusal.NoSuchWheel)
+    → ¬ IsNoWheel its
+is_wheel told wheel its same denies no_such =
+    false≢true (ap says_no_wheel (denies (subst IsNoWheel (sym same) no_such)))
+
 -- what is told of the texts
 pub texts_refused : (text deck : List ℕ) (place : Place) (met : Fault) (told : Unexplained)
     → (met ≢ fault.Memory → RefusesTexts text deck met) → told ≡ why.Failed met → told ≢ why.Failed fault.Memory
@@ -47,32 +61,26 @@ pub texts_refused : (text deck : List ℕ) (place : Place) (met : Fault) (told :
 texts_refused text deck place met told refuses same not_memory =
     texts met (refuses (λ is. not_memory (same ∙ ap why.Failed is))) same
 
--- what is explained on a panel, or lacks there, is of the texts that give it
-module _ {X : Type 0} (result : Result X Unexplained) (text deck : List ℕ) (place : Place) (wiring : Wiring)
-    (slice cards : List (List ℕ)) (same : slice ≡ cards) (run : IsRunOf text deck cards wiring) where
-  pub explained_of_texts : (asked : List (String Global × Wiring)) → AreAsked text wiring asked → (items : X → List ℕ)
-      → IfOk result (λ answer. ExplainsPlace wiring asked slice place (items answer))
-      → IfOk result (λ answer. IsExplained text deck place (items answer))
-  explained_of_texts asked are items = by result
-    where
-      by : (any : Result X Unexplained) → IfOk any (λ answer. ExplainsPlace wiring asked slice place (items answer))
-          → IfOk any (λ answer. IsExplained text deck place (items answer))
-      by (Ok answer) is = record {
-        wiring = wiring;
-        cards = cards;
-        run = run;
-        asked = asked;
-        are_asked = are;
-        explains = subst (λ (of : List (List ℕ)). ExplainsPlace wiring asked of place (items answer)) same is;
-      }
-      by (Err _) is = tt
+-- what a chart that is read off a panel says of the panel is served
+pub read_serves : (setup : Wiring) (known : Option KnownChart) → IsReadOff setup known → IsServed known
+read_serves setup None read = tt
+read_serves setup (Some chart) read = read.wired.wired.wired.planned
 
-  pub lacking_of_texts : IfErr result (λ told. told ≢ why.Failed fault.Memory → LacksPlace wiring slice place told)
-      → IfErr result (λ told. told ≢ why.Failed fault.Memory → IsUnexplained text deck place told)
-  lacking_of_texts = by result
-    where
-      by : (any : Result X Unexplained) → IfErr any (λ told. told ≢ why.Failed fault.Memory → LacksPlace wiring slice place told)
-          → IfErr any (λ told. told ≢ why.Failed fault.Memory → IsUnexplained text deck place told)
-      by (Ok _) lacks = tt
-      by (Err told) lacks = λ not_memory. nowhere wiring cards run
-          (subst (λ (of : List (List ℕ)). LacksPlace wiring of place told) same (lacks not_memory))
+-- what lacks on the panel of a run is told of the texts that give it
+pub lacking_in_run : (text deck : List ℕ) (place : Place) (run : TextRun) (setup : Wiring) (cards : List (List ℕ)) (told : Unexplained)
+    → IsTextRun text deck run → setup ≡ setup_of run → cards ≡ cards_of run
+    → (told ≢ why.Failed fault.Memory → LacksPlace setup cards place told) → told ≢ why.Failed fault.Memory
+    → IsUnexplained text deck place told
+lacking_in_run text deck place run setup cards told is same_setup same_cards lacks not_memory =
+    nowhere (setup_of run) (cards_of run) is.is.run
+    (subst (λ (of : Wiring). LacksPlace of (cards_of run) place told) same_setup
+    (subst (λ (of : List (List ℕ)). LacksPlace setup of place told) same_cards (lacks not_memory)))
+
+-- what is explained on its panel is explained on the panel of the run
+pub explains_in_run : (run : TextRun) (setup : Wiring) (cards : List (List ℕ)) (given asked : List (String Global × Wiring)) (place : Place)
+    (told : Explanation) (answer : List ℕ) → setup ≡ setup_of run → cards ≡ cards_of run → given ≡ asked
+    → ExplainsBy setup given cards place told answer → ExplainsBy (setup_of run) asked (cards_of run) place told answer
+explains_in_run run setup cards given asked place told answer same_setup same_cards same_asked explains =
+    subst (λ (of : Wiring). ExplainsBy of asked (cards_of run) place told answer) same_setup
+    (subst (λ (of : List (List ℕ)). ExplainsBy setup asked of place told answer) same_cards
+    (subst (λ (of : List (String Global × Wiring)). ExplainsBy setup of cards place told answer) same_asked explains))

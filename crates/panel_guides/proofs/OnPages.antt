@@ -42,6 +42,5 @@ of_run reports text deck cards (reported is_chart compiled compiles punched runn
 
 pub on_pages : WiredSetupsPrintReports → PlacedLinesArePrinted → ExplainedLinesAreOnPages
 on_pages reports placed text deck place answer is =
-    let told = is.explains.told in
-    of_run reports text deck is.cards is.run told.line
-    (placed is.wiring is.cards told.cards told.cycle told.line is.explains.is.right.run)
+    of_run reports text deck is.cards is.run.run is.told.line
+    (placed is.wiring is.cards is.told.cards is.told.cycle is.told.line is.explains.right.run)

@@ -27,4 +27,4 @@ pub record IsOnPages (text deck : List ℕ) (wiring : Wiring) (cards : List (Lis
 abbrev pub ExplainedLinesAreOnPages : Type 0
 ExplainedLinesAreOnPages =
     (text deck : List ℕ) (place : Place) (answer : List ℕ) (is : IsExplained text deck place answer)
-    → IsOnPages text deck is.wiring is.cards is.explains.told.line
+    → IsOnPages text deck is.wiring is.cards is.told.line

@@ -2,7 +2,9 @@ pub mod Entries
 pub mod Explained
 pub mod Laws
 pub mod Legends
+pub mod Known
 pub mod Panels
+pub mod TextRuns
 pub mod ExplainEnds
 pub mod Unexplained
 pub mod TraceCalls

@@ -3,13 +3,14 @@
 ghost use Rattle.std.specs.Prelude.{◌≡◌, length, IfErr, IfOk};
 ghost use Rattle.faults.specs.declared.fault.Fault.TheVariants.{Memory};
 ghost use Rattle.legend.specs.LineSetups.{AreLineSetups};
-ghost use Rattle.panel_guides.specs.Explained.{AreAskedOn};
+ghost use Rattle.panel_charts.specs.KnownCharts.{known_in};
+ghost use Rattle.panel_guides.specs.Known.{AreAsked, IsServed};
 ghost use Rattle.plans.specs.Plans.{ServesChart};
 
 use compile407::Compiled;
 use faults::Fault;
 use legend::line_setups;
-use panel_charts::wired_chart;
+use panel_charts::PanelChart;
 use plans::Plan;
 use setups::Setup;
 use std::alloc::{AllocError, Global};
@@ -41,16 +42,22 @@ pub(crate) fn asked_by_lines<'a>(
     Ok(lines_asking(alloc, compiled, plan, source)?)
 }
 
-/// Words for each line of the chart that is read off a panel, and what the line asks for; nothing if the panel isn't wired for what is read.
+/// Words for each line of the chart that was read off a panel, and what the line asks for; nothing if none was.
 pub(crate) fn asked_on_panel<'a>(
     alloc: Global,
-    setup: &Setup,
+    read: &Option<PanelChart>,
 ) -> Result<Vec<(String, Setup)>, Fault<'a>>
-    ensures asked { IfOk result (λ all. AreAskedOn setup.now all.items) }
+    requires { IsServed (known_in read.now) }
+    ensures asked { IfOk result (λ all. AreAsked (known_in read.now) all.items) }
     ensures memory { IfErr result (λ told. told ≡ Memory) }
 {
-    let Some(read) = wired_chart(alloc, setup)? else {
-        return Ok(Vec::new(alloc));
-    };
-    Ok(lines_asking(alloc, &read.compiled, read.plan(), read.text.as_bytes())?)
+    match read {
+        Some(chart) => Ok(lines_asking(
+            alloc,
+            &chart.compiled,
+            chart.plan(),
+            chart.text.as_bytes(),
+        )?),
+        None => Ok(Vec::new(alloc)),
+    }
 }

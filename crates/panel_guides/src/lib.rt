@@ -18,6 +18,8 @@ pub mod ledger_calls;
 mod legends;
 mod panels;
 mod place;
+mod text_runs;
+mod totals;
 pub mod trace_calls;
 mod unexplained;
 

@@ -2,7 +2,6 @@
 use Rattle.std.proofs.Common.{◌≡◌, ◌+◌, sym, subst, ℕ, true, List, ◌++◌, Option}
 use Rattle.std.specs.Prelude.{Vec}
 use Rattle.std.specs.declared.alloc.Global.{Global}
-use Rattle.explanations.specs.Explanations.{IsExplanation}
 use Rattle.explanations.specs.declared.explanation.Explanation.{Explanation}
 use Rattle.hubs.specs.declared.hub.Hub.{Hub}
 use Rattle.ledgers.specs.Running.{PlacesLine}
@@ -22,14 +21,12 @@ pub one_more : (wiring : Wiring) (cards : List (List ℕ)) (totals : List Titled
 one_more wiring cards totals ends found ways place old text new are printed is put =
     subst (λ (all : List ℕ). ArePlaceTexts wiring cards totals ends found ways (place + 1) all) (sym put) (more place old text are printed is)
 
--- all of them, for a wheel that is explained, of the line that was found
-pub tells_basis : (wiring : Wiring) (cards : List (List ℕ)) (totals : List TitledAccount) (ends page line wheel : ℕ) (told : Explanation)
-    (found : FoundCycle) (ways : List (Option (Vec Hub Global))) (answer : List ℕ) → IsExplanation wiring cards page line wheel told
-    → PlacesLine wiring cards found → found.line.page ≡ page → found.line.line ≡ line → ways ≡ told.rows.items
-    → IsBasisText wiring cards totals ends found ways answer → TellsBasis wiring cards totals ends page line wheel answer
-tells_basis wiring cards totals ends page line wheel told found ways answer explains places at_page at_line are texts = record {
-  explanation = told;
-  explains = explains;
+-- all of them, by the explanation of a wheel of the line that was found
+pub tells_basis : (wiring : Wiring) (cards : List (List ℕ)) (totals : List TitledAccount) (ends page line : ℕ) (told : Explanation)
+    (found : FoundCycle) (ways : List (Option (Vec Hub Global))) (answer : List ℕ) → PlacesLine wiring cards found
+    → found.line.page ≡ page → found.line.line ≡ line → ways ≡ told.rows.items
+    → IsBasisText wiring cards totals ends found ways answer → TellsBasis wiring cards totals ends page line told answer
+tells_basis wiring cards totals ends page line told found ways answer places at_page at_line are texts = record {
   found = found;
   places = places;
   at_page = at_page;

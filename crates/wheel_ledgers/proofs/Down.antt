@@ -5,7 +5,6 @@ use Rattle.std.proofs.lemmas.List.Elements.{All-append, All-cons, All-head, All-
 use Rattle.std.specs.List.{All}
 use Rattle.std.specs.Prelude.{Vec}
 use Rattle.std.specs.declared.alloc.Global.{Global}
-use Rattle.explanations.specs.Explanations.{IsExplanation}
 use Rattle.explanations.specs.declared.explanation.Explanation.{Explanation}
 use Rattle.hubs.specs.declared.hub.Hub.{Hub}
 use Rattle.wheel_ledgers.specs.LedgerHoles.Down.{IsLedgerDown}
@@ -217,14 +216,12 @@ module _ (wiring : Wiring) (cards : List (List ℕ)) (totals : List TitledAccoun
         subst (AreDown wiring cards totals read_outs ends first) (append-nil text)
         (down.rest [] (all_told asked told (drop_all told asked all)))
 
--- all of it, for a wheel that is explained, of the line that was found
-pub tells-whole : (wiring : Wiring) (cards : List (List ℕ)) (totals : List TitledAccount) (ends page line wheel : ℕ) (told : Explanation)
-    (found : FoundCycle) (ways : List (Option (Vec Hub Global))) (answer : List ℕ) → IsExplanation wiring cards page line wheel told
-    → PlacesLine wiring cards found → found.line.page ≡ page → found.line.line ≡ line → ways ≡ told.rows.items
-    → IsWholeText wiring cards totals ends found ways answer → TellsWhole wiring cards totals ends page line wheel answer
-tells-whole wiring cards totals ends page line wheel told found ways answer explains places at_page at_line are texts = record {
-  explanation = told;
-  explains = explains;
+-- all of it, by the explanation of a wheel of the line that was found
+pub tells-whole : (wiring : Wiring) (cards : List (List ℕ)) (totals : List TitledAccount) (ends page line : ℕ) (told : Explanation)
+    (found : FoundCycle) (ways : List (Option (Vec Hub Global))) (answer : List ℕ) → PlacesLine wiring cards found
+    → found.line.page ≡ page → found.line.line ≡ line → ways ≡ told.rows.items
+    → IsWholeText wiring cards totals ends found ways answer → TellsWhole wiring cards totals ends page line told answer
+tells-whole wiring cards totals ends page line told found ways answer places at_page at_line are texts = record {
   found = found;
   places = places;
   at_page = at_page;

@@ -1,7 +1,6 @@
 -- What a wheel is printed of: the ledgers of counter groups, and the origins of all else.
 use Rattle.std.specs.Prelude.{◌≡◌, ℕ, ◌+◌, ◌==◌, ◌||◌, Bool, false, true, List, [], ◌∷◌, ◌++◌, Option, Some, None, Vec, option_and_then}
 use Rattle.std.specs.declared.alloc.Global.{Global}
-use Rattle.explanations.specs.Explanations.{IsExplanation}
 use Rattle.explanations.specs.declared.explanation.Explanation.{Explanation}
 use Rattle.hubs.specs.declared.hub.Hub.{Hub}
 use Rattle.ledgers.specs.Running.{PlacesLine}
@@ -50,12 +49,10 @@ pub record IsBasisText (wiring : Wiring) (cards : List (List ℕ)) (totals : Lis
   pub are : AreOrigins wiring cards found ways origins
   pub whole : answer ≡ ledgers ++ origins
 
--- On a panel, over cards, by the totals of a chart: the text tells what the wheel of the line at this page and line of it is printed of, as
--- the explanation of the wheel has it, before a cycle that placed the line there.
-pub record TellsBasis (wiring : Wiring) (cards : List (List ℕ)) (totals : List TitledAccount) (ends page line wheel : ℕ)
-    (answer : List ℕ) : Type 0 where
-  pub explanation : Explanation
-  pub explains : IsExplanation wiring cards page line wheel explanation
+-- On a panel, over cards, by the totals of a chart: the text tells what the wheel of the line at this page and line of it is printed of, by
+-- the ways of its explanation, before a cycle that placed the line there.
+pub record TellsBasis (wiring : Wiring) (cards : List (List ℕ)) (totals : List TitledAccount) (ends page line : ℕ)
+    (explanation : Explanation) (answer : List ℕ) : Type 0 where
   pub found : FoundCycle
   pub places : PlacesLine wiring cards found
   pub at_page : found.line.page ≡ page

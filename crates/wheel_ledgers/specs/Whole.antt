@@ -2,7 +2,6 @@
 use Rattle.std.specs.Prelude.{◌≡◌, ℕ, ◌==◌, ◌&&◌, ◌||◌, Bool, false, List, [], ◌∷◌, ◌++◌, Option, Vec, drop, length, if◌then◌else◌}
 use Rattle.std.specs.List.{flat_map, range_with_len}
 use Rattle.std.specs.declared.alloc.Global.{Global}
-use Rattle.explanations.specs.Explanations.{IsExplanation}
 use Rattle.explanations.specs.declared.explanation.Explanation.{Explanation}
 use Rattle.hubs.specs.declared.hub.Hub.{Hub}
 use Rattle.wheel_ledgers.specs.LedgerHoles.Down.{IsLedgerDown}
@@ -120,11 +119,9 @@ pub record IsWholeText (wiring : Wiring) (cards : List (List ℕ)) (totals : Lis
   pub whole : answer ≡ ledgers ++ origins
 
 -- On a panel, over cards, by the totals of a chart: the text tells down to the holes what the wheel of the line at this page and line of it is
--- printed of, as the explanation of the wheel has it, before a cycle that placed the line there.
-pub record TellsWhole (wiring : Wiring) (cards : List (List ℕ)) (totals : List TitledAccount) (ends page line wheel : ℕ)
-    (answer : List ℕ) : Type 0 where
-  pub explanation : Explanation
-  pub explains : IsExplanation wiring cards page line wheel explanation
+-- printed of, by the ways of its explanation, before a cycle that placed the line there.
+pub record TellsWhole (wiring : Wiring) (cards : List (List ℕ)) (totals : List TitledAccount) (ends page line : ℕ)
+    (explanation : Explanation) (answer : List ℕ) : Type 0 where
   pub found : FoundCycle
   pub places : PlacesLine wiring cards found
   pub at_page : found.line.page ≡ page

@@ -2,8 +2,8 @@
 //!
 //! [`tell_ledger`] finds the counter group that the wheel is printed of, by the ways to it, and the total of a chart that this group serves,
 //! and tells the ledger of the total, or else that of the group, before the cycle that placed the line. [`tell_basis`] does so for each
-//! group that the wheel is printed of, and tells where all else comes from; [`tell_whole`] goes on down to the holes. [`totals_of`] answers the totals of a
-//! chart as its plan has them served.
+//! group at which a way of the wheel's explanation begins, and tells where all else comes from; [`tell_whole`] goes on down to the holes.
+//! [`totals_of`] answers the totals of a chart as its plan has them served.
 //!
 //! - `ledger_holes`: ledgers down to the holes
 #![tactic(auto)]

@@ -1,6 +1,6 @@
 //! What a wheel is printed of.
 
-ghost use Rattle.std.specs.Prelude.{◌≡◌, ◌≤◌, ◌<◌, ◌+◌, ◌⊎◌, length, Err, IfOk, OnOk};
+ghost use Rattle.std.specs.Prelude.{◌≡◌, ◌≤◌, ◌<◌, ◌+◌, ℕ, length, Err, IfOk, OnOk};
 ghost use Rattle.card_code.specs.MostCards.{most_cards};
 ghost use Rattle.explanations.specs.Explanations.{IsExplanation};
 ghost use Rattle.explanations.specs.PlacedInRun.{PrintsNoneAt};
@@ -14,7 +14,7 @@ use crate::places::{GROUPS, place_of};
 use crate::printed::group_of_way;
 use crate::telling::{cycle_at, place_text};
 use card_code::Card;
-use explanations::{Explanation, Refusal, explain};
+use explanations::{Explanation, Refusal};
 use hubs::Hub;
 use ledgers::FoundCycle;
 use origins::origins_of;
@@ -118,40 +118,11 @@ fn basis_text(
     Ok(text)
 }
 
-// What a wheel, which is explained, of a line is printed of, by the totals that are known.
-fn basis_of(
-    alloc: Global,
-    setup: &Setup,
-    totals: &[TitledAccount],
-    cards: &[Card],
-    page: u64,
-    line: u32,
-    wheel: u8,
-    told: &Explanation,
-    ends: usize,
-) -> Result<Vec<u8>, Refusal>
-    requires few { length cards.now ≤ most_cards }
-    requires accounts { AreAccounts totals.now }
-    requires wheel { (1 ≤ wheel) × (wheel ≤ 120) }
-    requires explained { IsExplanation setup.now cards.now page line wheel told.now }
-    ensures told { IfOk result (λ text. TellsBasis setup.now cards.now totals.now ends page line wheel text.items) }
-    ensures there { result ≡ Err NoSuchWheel → ⊥ }
-    ensures no_line { result ≡ Err NoSuchLine → PrintsNoneAt setup.now cards.now page line }
-{
-    let found = cycle_at(alloc, setup, cards, page, line)?;
-    let ways = told.rows.as_slice();
-    match basis_text(alloc, setup, totals, cards, found, ways, ends) {
-        Ok(text) => Ok(text),
-        Err(_) => Err(Refusal::Memory),
-    }
-}
-
-/// The text of all that a wheel of a line is printed of. First come the ledgers of all counter groups at one of whose exits a way to the
-/// wheel begins, in the order of the groups on the panel, as [`tell_ledger`] tells them, without the figure that was printed; then the
-/// origins, as [`origins_of`] tells them.
+/// The text of all that a wheel of a line, which is explained so, is printed of. First come the ledgers of all counter groups at one of whose
+/// exits a way of the explanation begins, in the order of the groups on the panel, as [`tell_ledger`] tells them, without the figure that was
+/// printed; then the origins, as [`origins_of`] tells them.
 ///
-/// Refused with `NoSuchWheel` if the wheel isn't one of 1 to 120, else with `NoSuchLine` if no line stands there, and with `Memory` if
-/// no memory is left.
+/// Refused with `NoSuchLine` if no line stands there, and with `Memory` if no memory is left.
 ///
 /// [`tell_ledger`]: crate::tell_ledger
 /// [`origins_of`]: origins::origins_of
@@ -162,19 +133,20 @@ pub fn tell_basis(
     cards: &[Card],
     page: u64,
     line: u32,
-    wheel: u8,
+    told: &Explanation,
     ends: usize,
 ) -> Result<Vec<u8>, Refusal>
     requires few { length cards.now ≤ most_cards }
     requires accounts { AreAccounts totals.now }
-    ensures told { IfOk result (λ text. TellsBasis setup.now cards.now totals.now ends page line wheel text.items) }
-    ensures no_wheel { (wheel < 1) ⊎ (120 < wheel) → result ≡ Err NoSuchWheel }
-    ensures wheel { result ≡ Err NoSuchWheel → (wheel < 1) ⊎ (120 < wheel) }
+    requires explained { (wheel : ℕ) × IsExplanation setup.now cards.now page line wheel told.now }
+    ensures told { IfOk result (λ text. TellsBasis setup.now cards.now totals.now ends page line told.now text.items) }
+    ensures there { result ≡ Err NoSuchWheel → ⊥ }
     ensures no_line { result ≡ Err NoSuchLine → PrintsNoneAt setup.now cards.now page line }
 {
-    if wheel < 1 || 120 < wheel {
-        return Err(Refusal::NoSuchWheel);
+    let found = cycle_at(alloc, setup, cards, page, line)?;
+    let ways = told.rows.as_slice();
+    match basis_text(alloc, setup, totals, cards, found, ways, ends) {
+        Ok(text) => Ok(text),
+        Err(_) => Err(Refusal::Memory),
     }
-    let told = explain(alloc, setup, cards, page, line, wheel)?;
-    basis_of(alloc, setup, totals, cards, page, line, wheel, &told, ends)
 }

@@ -1,6 +1,6 @@
 //! What a wheel is printed of, down to the holes.
 
-ghost use Rattle.std.specs.Prelude.{◌≡◌, ◌≤◌, ◌<◌, ◌⊎◌, ◌++◌, All, Err, IfOk, OnOk, length, map};
+ghost use Rattle.std.specs.Prelude.{◌≡◌, ◌≤◌, ◌<◌, ◌++◌, ℕ, All, Err, IfOk, OnOk, length, map};
 ghost use Rattle.card_code.specs.MostCards.{most_cards};
 ghost use Rattle.explanations.specs.Explanations.{IsExplanation};
 ghost use Rattle.explanations.specs.PlacedInRun.{PrintsNoneAt};
@@ -21,7 +21,7 @@ use crate::resting::is_printed_of;
 use crate::telling::{account_told, cycle_at, title_told};
 use crate::texts::put_together;
 use card_code::Card;
-use explanations::{Explanation, Refusal, explain};
+use explanations::{Explanation, Refusal};
 use hubs::Hub;
 use ledgers::{AskedLedger, FoundCycle, Ledger, ReadOuts, ledgers_before, read_outs_before};
 use origins::{PassedCycle, origins_of};
@@ -274,39 +274,11 @@ fn whole_text(
     Ok(text)
 }
 
-// What a wheel, which is explained, of a line is printed of, down to the holes.
-fn whole_of(
-    alloc: Global,
-    setup: &Setup,
-    totals: &[TitledAccount],
-    cards: &[Card],
-    page: u64,
-    line: u32,
-    wheel: u8,
-    told: &Explanation,
-    ends: usize,
-) -> Result<Vec<u8>, Refusal>
-    requires few { length cards.now ≤ most_cards }
-    requires accounts { AreAccounts totals.now }
-    requires explained { IsExplanation setup.now cards.now page line wheel told.now }
-    ensures told { IfOk result (λ text. TellsWhole setup.now cards.now totals.now ends page line wheel text.items) }
-    ensures there { result ≡ Err NoSuchWheel → ⊥ }
-    ensures no_line { result ≡ Err NoSuchLine → PrintsNoneAt setup.now cards.now page line }
-{
-    let found = cycle_at(alloc, setup, cards, page, line)?;
-    let ways = told.rows.as_slice();
-    match whole_text(alloc, setup, totals, cards, found, ways, ends) {
-        Ok(text) => Ok(text),
-        Err(_) => Err(Refusal::Memory),
-    }
-}
-
-/// The text of all that a wheel of a line is printed of, down to the holes. First come the ledgers of all counter groups at one of whose
-/// exits a way to the wheel begins, then those of the groups whose numbers came to these, and so on, each once; below each entry of a card cycle
-/// stands by which hole each digit came in. Then come the origins, as [`origins_of`] tells them.
+/// The text of all that a wheel of a line, which is explained so, is printed of, down to the holes. First come the ledgers of all counter groups
+/// at one of whose exits a way of the explanation begins, then those of the groups whose numbers came to these, and so on, each once; below each
+/// entry of a card cycle stands by which hole each digit came in. Then come the origins, as [`origins_of`] tells them.
 ///
-/// Refused with `NoSuchWheel` if the wheel isn't one of 1 to 120, else with `NoSuchLine` if no line stands there, and with `Memory` if
-/// no memory is left.
+/// Refused with `NoSuchLine` if no line stands there, and with `Memory` if no memory is left.
 ///
 /// [`origins_of`]: origins::origins_of
 pub fn tell_whole(
@@ -316,19 +288,20 @@ pub fn tell_whole(
     cards: &[Card],
     page: u64,
     line: u32,
-    wheel: u8,
+    told: &Explanation,
     ends: usize,
 ) -> Result<Vec<u8>, Refusal>
     requires few { length cards.now ≤ most_cards }
     requires accounts { AreAccounts totals.now }
-    ensures told { IfOk result (λ text. TellsWhole setup.now cards.now totals.now ends page line wheel text.items) }
-    ensures no_wheel { (wheel < 1) ⊎ (120 < wheel) → result ≡ Err NoSuchWheel }
-    ensures wheel { result ≡ Err NoSuchWheel → (wheel < 1) ⊎ (120 < wheel) }
+    requires explained { (wheel : ℕ) × IsExplanation setup.now cards.now page line wheel told.now }
+    ensures told { IfOk result (λ text. TellsWhole setup.now cards.now totals.now ends page line told.now text.items) }
+    ensures there { result ≡ Err NoSuchWheel → ⊥ }
     ensures no_line { result ≡ Err NoSuchLine → PrintsNoneAt setup.now cards.now page line }
 {
-    if wheel < 1 || 120 < wheel {
-        return Err(Refusal::NoSuchWheel);
+    let found = cycle_at(alloc, setup, cards, page, line)?;
+    let ways = told.rows.as_slice();
+    match whole_text(alloc, setup, totals, cards, found, ways, ends) {
+        Ok(text) => Ok(text),
+        Err(_) => Err(Refusal::Memory),
     }
-    let told = explain(alloc, setup, cards, page, line, wheel)?;
-    whole_of(alloc, setup, totals, cards, page, line, wheel, &told, ends)
 }

@@ -8,6 +8,7 @@ use Rattle.match_calls.specs.declared.match_texts.counts.Counts.{Counts}
 use Rattle.matching.specs.Answers.{IsMatched, IsMatchingOf, plan_told}
 use Rattle.matching.specs.declared.answer.Matching.{Matching}
 use Rattle.matching.specs.declared.answer.Matching.TheVariants.{Differs, Matched}
+use Rattle.panel_charts.specs.KnownCharts.{IsReadFirst}
 use Rattle.panel_charts.specs.PanelChart.{IsReadBack}
 use Rattle.panel_plans.specs.NamingWires.{ShowsPartsOf}
 use Rattle.panel_plans.specs.Wired.{IsWiredBy}
@@ -35,10 +36,12 @@ module _ (prints : WiredSetupsPrintReports) (begins : WiredSetupsBeginReports) w
 
   -- the chart of a wiring chart, by that of its panel
   pub found_chart : (wiring text : List ℕ) (setup : Wiring) (compiled : Compilation) (matching : Matching) (counts : Option Counts)
-      → ReadsAs wiring setup → IsReadBack setup text compiled matching → TellsCounts matching counts → IsChartOf wiring counts text
-  found_chart wiring text setup compiled matching counts reads its counted = record {
+      → ReadsAs wiring setup → IsReadBack setup text compiled matching → IsReadFirst setup text → TellsCounts matching counts
+      → IsChartOf wiring counts text
+  found_chart wiring text setup compiled matching counts reads its first counted = record {
     setup = setup;
     reads = reads;
+    first = first;
     compiled = compiled;
     compiles = record { read = its.chart.read; wired = its.chart.compiled_so };
     beside = found_beside compiled setup matching counts its.chart.compiled_so its.beside.told its.beside.found its.beside.shown counted;

@@ -11,6 +11,7 @@ use Rattle.match_calls.specs.declared.match_texts.counts.Counts.{Counts}
 use Rattle.match_calls.specs.declared.unmatched.Unmatched.{Unmatched}
 use Rattle.match_calls.specs.declared.unmatched.Unmatched.TheVariants as why
 use Rattle.matching.specs.Answers.{DiffersBy}
+use Rattle.panel_charts.specs.KnownCharts.{IsReadFirst}
 use Rattle.panel_plans.specs.NamingWires.{ShowsPartsOf}
 use Rattle.panel_plans.specs.Wired.{IsWiredBy}
 use Rattle.plans.specs.Plans.{Lists}
@@ -44,10 +45,12 @@ abbrev pub IsBeside : Option Counts → Compilation → Wiring → Type 0
 IsBeside None compiled setup = IsWiredFor compiled setup
 IsBeside (Some counts) compiled setup = IsUnwiredFor counts compiled setup
 
--- the text of a chart, and how the panel of a wiring chart stands beside it
+-- The text of a chart, and how the panel of a wiring chart stands beside it. If the panel is wired for what is read off it at once, it is that
+-- text, by which a wheel is explained too.
 pub record IsChartOf (wiring : List ℕ) (counts : Option Counts) (text : List ℕ) : Type 0 where
   pub setup : Wiring
   pub reads : ReadsAs wiring setup
+  pub first : IsReadFirst setup text
   pub compiled : Compilation
   pub compiles : CompilesAs text compiled
   pub beside : IsBeside counts compiled setup

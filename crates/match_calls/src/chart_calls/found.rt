@@ -2,6 +2,7 @@
 
 ghost use Rattle.std.specs.Prelude.{◌≡◌, ◌≢◌, IfErr, IfOk, string_bytes};
 ghost use Rattle.match_calls.specs.ChartCalls.ReadBack.{IsChartOf};
+ghost use Rattle.panel_charts.specs.KnownCharts.{IsReadFirst};
 ghost use Rattle.panel_charts.specs.PanelChart.{IsReadBack};
 ghost use Rattle.program_io.specs.Refusals.{RefusesWiring};
 ghost use Rattle.wire_chart.specs.Below.wiring_text.WiringText.{ReadsAs};
@@ -35,6 +36,7 @@ fn setup_of<'a>(alloc: Global, wiring: &[u8]) -> Result<Setup, Fault<'a>>
 // The chart of a panel.
 fn chart_of<'a>(alloc: Global, setup: &Setup) -> Result<PanelChart, Fault<'a>>
     ensures read { IfOk result (λ panel. IsReadBack setup.now (string_bytes panel.text) panel.compiled panel.matching) }
+    ensures first { IfOk result (λ panel. IsReadFirst setup.now (string_bytes panel.text)) }
     ensures memory { IfErr result (λ told. told ≡ Fault.Memory) }
 {
     Ok(nearest_chart(alloc, setup)?)

@@ -2,11 +2,12 @@
 
 ghost use Rattle.std.specs.Prelude.{◌≡◌, All, IfErr, IfOk, string_bytes};
 ghost use Rattle.faults.specs.declared.chart.ChartFault.TheVariants as chart;
+ghost use Rattle.panel_charts.specs.KnownCharts.{IsReadFirst};
 ghost use Rattle.panel_charts.specs.PanelChart.{IsReadBack};
 ghost use Rattle.panel_charts.specs.PanelSlips.Slips.{IsWire};
 
 use crate::panel_slips::{Toggle, Wire, is_moved, moves_near, toggled, toggles_of, wires_of};
-use crate::{PanelChart, read_back, read_beside};
+use crate::{PanelChart, read_back, read_beside, wired_chart};
 use compile407::ChartFault;
 use differences::size;
 use matching::Matching;
@@ -204,16 +205,9 @@ fn nearest_of(alloc: Global, setup: &Setup, first: Near) -> Result<Near, AllocEr
     )
 }
 
-/// The chart that is nearest to a panel, of those that are tried: the panel is read back, and if it isn't wired for what is read, and
-/// there are fewer than 1,024 slips, so are panels with one thing changed. A wire that was put into the hub beside counts as one
-/// slip; of two charts that are as near the one with fewer lines is taken, and else the one with more such wires. What is answered of the
-/// panel is as of `read_back`: the chart compiles, `Matched` tells a plan by which the panel itself is wired for it, and `Differs` exactly
-/// what is missing and what is extra on it.
-///
-/// # Errors
-///
-/// As `read_back`.
-pub fn nearest_chart(alloc: Global, setup: &Setup) -> Result<PanelChart, ChartFault>
+// The chart that is nearest to a panel, of those that are tried. A panel that is wired for what is read back needs no search, and one with too
+// many slips gets none.
+fn nearest_tried(alloc: Global, setup: &Setup) -> Result<PanelChart, ChartFault>
     ensures read { IfOk result (λ panel. IsReadBack setup.now (string_bytes panel.text) panel.compiled panel.matching) }
     ensures refused { IfErr result (λ fault. fault ≡ chart.Memory) }
 {
@@ -223,5 +217,26 @@ pub fn nearest_chart(alloc: Global, setup: &Setup) -> Result<PanelChart, ChartFa
         Ok(first.into_panel())
     } else {
         Ok(nearest_of(alloc, setup, first)?.into_panel())
+    }
+}
+
+/// The chart that is nearest to a panel, of those that are tried: first what is read off the panel at once, as [`wired_chart`] answers it; else
+/// the panel is read back without the lines that a chart can't have, and if it isn't wired for what is read then, and
+/// there are fewer than 1,024 slips, panels with one thing changed are. A wire that was put into the hub beside counts as one
+/// slip; of two charts that are as near the one with fewer lines is taken, and else the one with more such wires. What is answered of the
+/// panel is as of `read_back`: the chart compiles, `Matched` tells a plan by which the panel itself is wired for it, and `Differs` exactly
+/// what is missing and what is extra on it.
+///
+/// # Errors
+///
+/// As `read_back`.
+pub fn nearest_chart(alloc: Global, setup: &Setup) -> Result<PanelChart, ChartFault>
+    ensures read { IfOk result (λ panel. IsReadBack setup.now (string_bytes panel.text) panel.compiled panel.matching) }
+    ensures first { IfOk result (λ panel. IsReadFirst setup.now (string_bytes panel.text)) }
+    ensures refused { IfErr result (λ fault. fault ≡ chart.Memory) }
+{
+    match wired_chart(alloc, setup)? {
+        Some(panel) => Ok(panel),
+        None => nearest_tried(alloc, setup),
     }
 }

@@ -1,31 +1,61 @@
 -- Which ledger is told, of the texts that ask for it.
-use Rattle.std.proofs.Common.{◌≡◌, ◌∙◌, sym, subst, ℕ, List, Option, Some, Result, Ok, Err, IfOk}
-use Rattle.std.specs.Prelude.{IfSome, OnOk}
+use Rattle.std.proofs.Common.{◌≡◌, ◌≢◌, ◌∙◌, sym, subst, ℕ, List, Option, Some, Result, Ok, Err, IfOk}
+use Rattle.std.specs.Prelude.{IfErr, IfSome, OnOk}
+use Rattle.explanations.specs.declared.explanation.Explanation.{Explanation}
+use Rattle.faults.specs.declared.fault.Fault.TheVariants as fault
 use Rattle.setups.specs.Wiring.{Wiring}
-use Rattle.panel_guides.specs.Panels.{IsRunOf}
+use Rattle.panel_guides.proofs.Explaining.{lacking_in_run}
+use Rattle.panel_guides.specs.Explained.{IsUnexplained, LacksPlace}
+use Rattle.panel_guides.specs.Known.{totals_known}
+use Rattle.panel_guides.specs.TextRuns.{IsTextRun, cards_of, known_of, setup_of}
 use Rattle.panel_guides.specs.declared.place.Place.{Place}
+use Rattle.panel_guides.specs.declared.text_runs.TextRun.{TextRun}
+use Rattle.panel_guides.specs.declared.unexplained.Unexplained.{Unexplained}
+use Rattle.panel_guides.specs.declared.unexplained.Unexplained.TheVariants as why
 use Rattle.wheel_ledgers.specs.declared.scope.Scope.{Scope}
-use Rattle.panel_guides.specs.LedgerCalls.Ledgers.{AreTotals, IsLedgerText, TellsPlace}
+use Rattle.panel_guides.specs.LedgerCalls.Explained.{TellsBelow}
+use Rattle.panel_guides.specs.LedgerCalls.Ledgers.{IsLedgerText, TellsPlace}
 use Rattle.panel_guides.specs.LedgerCalls.LedgerEnds.{PrintsTelling}
 use Rattle.panel_guides.specs.declared.ledger_calls.telling.Question.{Question}
 use Rattle.wheel_ledgers.specs.declared.chart_totals.TitledAccount.{TitledAccount}
 
--- what is told on a panel is of the texts that give it
-pub told_of_texts : {X E : Type 0} (result : Result X E) (items : X → List ℕ) (text deck : List ℕ) (scope : Scope) (ends : ℕ) (place : Place) (wiring : Wiring)
-    (slice cards : List (List ℕ)) (totals known : List TitledAccount) → slice ≡ cards → totals ≡ known → IsRunOf text deck cards wiring
-    → AreTotals text wiring known → IfOk result (λ answer. TellsPlace wiring slice totals scope ends place (items answer))
-    → IfOk result (λ answer. IsLedgerText text deck scope ends place (items answer))
-told_of_texts (Ok answer) items text deck scope ends place wiring slice cards totals known same same_totals run are tells = record {
-  wiring = wiring;
-  cards = cards;
-  run = run;
-  totals = known;
-  are_totals = are;
+-- the ledger that is told on the panel of a run is of the texts that give it
+pub ledger_in_run : {X E : Type 0} (result : Result X E) (items : X → List ℕ) (text deck : List ℕ) (ends : ℕ) (place : Place) (run : TextRun)
+    (setup : Wiring) (cards : List (List ℕ)) (totals : List TitledAccount) → IsTextRun text deck run → setup ≡ setup_of run
+    → cards ≡ cards_of run → totals ≡ totals_known (known_of text run)
+    → IfOk result (λ answer. TellsPlace setup cards totals ends place (items answer))
+    → IfOk result (λ answer. IsLedgerText text deck ends place (items answer))
+ledger_in_run (Ok answer) items text deck ends place run setup cards totals is same_setup same_cards same_totals tells = record {
+  wiring = setup_of run;
+  cards = cards_of run;
+  known = known_of text run;
+  run = is.is;
   tells =
-      subst (λ (t : List TitledAccount). TellsPlace wiring cards t scope ends place (items answer)) same_totals
-      (subst (λ (of : List (List ℕ)). TellsPlace wiring of totals scope ends place (items answer)) same tells);
+      subst (λ (of : Wiring). TellsPlace of (cards_of run) (totals_known (known_of text run)) ends place (items answer)) same_setup
+      (subst (λ (of : List (List ℕ)). TellsPlace setup of (totals_known (known_of text run)) ends place (items answer)) same_cards
+      (subst (λ (of : List TitledAccount). TellsPlace setup cards of ends place (items answer)) same_totals tells));
 }
-told_of_texts (Err _) items text deck scope ends place wiring slice cards totals known same same_totals run are tells = tt
+ledger_in_run (Err _) items text deck ends place run setup cards totals is same_setup same_cards same_totals tells = tt
+
+-- a place that lacks on its panel
+pub ledger_lacking : {X : Type 0} (result : Result X Unexplained) (text deck : List ℕ) (place : Place) (run : TextRun) (setup : Wiring)
+    (cards : List (List ℕ)) → IsTextRun text deck run → setup ≡ setup_of run → cards ≡ cards_of run
+    → IfErr result (λ told. told ≢ why.Failed fault.Memory → LacksPlace setup cards place told)
+    → IfErr result (λ told. told ≢ why.Failed fault.Memory → IsUnexplained text deck place told)
+ledger_lacking (Ok _) text deck place run setup cards is same_setup same_cards lacks = tt
+ledger_lacking (Err told) text deck place run setup cards is same_setup same_cards lacks =
+    lacking_in_run text deck place run setup cards told is same_setup same_cards lacks
+
+-- what a wheel of a line of a run is printed of, by its explanation
+pub below_in_run : (text : List ℕ) (run : TextRun) (setup : Wiring) (cards : List (List ℕ)) (totals : List TitledAccount) (scope its : Scope)
+    (place : Place) (told : Explanation) (basis : List ℕ) → setup ≡ setup_of run → cards ≡ cards_of run
+    → totals ≡ totals_known (known_of text run) → scope ≡ its → TellsBelow setup cards totals scope place told basis
+    → TellsBelow (setup_of run) (cards_of run) (totals_known (known_of text run)) its place told basis
+below_in_run text run setup cards totals scope its place told basis same_setup same_cards same_totals same_scope below =
+    subst (λ (of : Scope). TellsBelow (setup_of run) (cards_of run) (totals_known (known_of text run)) of place told basis) same_scope
+    (subst (λ (of : Wiring). TellsBelow of (cards_of run) (totals_known (known_of text run)) scope place told basis) same_setup
+    (subst (λ (of : List (List ℕ)). TellsBelow setup of (totals_known (known_of text run)) scope place told basis) same_cards
+    (subst (λ (of : List TitledAccount). TellsBelow setup cards of scope place told basis) same_totals below)))
 
 -- a deck that is known is the one in memory
 pub prints_for : {X E : Type 0} (result : Result X E) (text read items : List ℕ) (deck old new : Option (List ℕ)) (question : Question)

@@ -5,9 +5,8 @@ use Rattle.panel_guides.specs.LedgerCalls.Ledgers.{IsLedgerText, ends_told}
 use Rattle.panel_guides.specs.declared.ledger_calls.telling.Question.{Question}
 use Rattle.panel_guides.specs.declared.ledger_calls.telling.Question.TheVariants.{Ledger, Explanation}
 use Rattle.panel_guides.specs.declared.place.Place.{Place}
-use Rattle.wheel_ledgers.specs.declared.scope.Scope.TheVariants.{Figure}
 
 -- the text is what is asked for: the ledger of the figure on the wheel, or its explanation with all that it is printed of
 abbrev pub TellsWheel : Question → (text deck : List ℕ) → Place → List ℕ → Type 0
-TellsWheel (Ledger all) text deck place answer = IsLedgerText text deck Figure (ends_told all) place answer
+TellsWheel (Ledger all) text deck place answer = IsLedgerText text deck (ends_told all) place answer
 TellsWheel (Explanation whole) text deck place answer = IsExplainedWithBasis text deck whole place answer

@@ -9,22 +9,25 @@ returns-clause-told c deck number is =
     let setup = c.args.setup.now in
     let asked = c.args.asked.now in
     let line = c.in-Some.ways.now in
-    let text = string_bytes c.in_ok-told_text.field-0 in
+    let text = string_bytes c.into_text.result in
     let here = line-found setup deck number c.args.page.now.lines.items line is c.in-Some.ensures.some in
     subst (λ (l : ℕ). Explains setup asked deck number l c.args.wheel text) c.in-Some.ensures.numbered
     (subst (λ (p : ℕ). Explains setup asked deck p line.found.kept.line.line c.args.wheel text) here.1
-    (c.in_ok-told_text.ensures deck here.0))
+    (record {
+      told = c.in_ok-told_wheel.field-0.told;
+      is = rw c.into_text.ensures (c.in_ok-told_wheel.ensures deck here.0);
+    }))
 
-pub told_text-requires-clause-found : goal.told_text-requires-clause-found
-told_text-requires-clause-found c =
+pub told_wheel-requires-clause-found : goal.told_wheel-requires-clause-found
+told_wheel-requires-clause-found c =
     let some = c.requires in (
       some.deck,
       (line-found c.args.setup.now some.deck some.page c.args.page.now.lines.items c.in-Some.ways.now some.is
           c.in-Some.ensures.some).0,
     )
 
-pub told_text-requires-clause-ways : goal.told_text-requires-clause-ways
-told_text-requires-clause-ways c =
+pub told_wheel-requires-clause-ways : goal.told_wheel-requires-clause-ways
+told_wheel-requires-clause-ways c =
     line-has-ways c.args.setup.now c.args.page.now.lines.items c.in-Some.ways.now c.requires c.in-Some.ensures.some
 
 pub returns-in_default-clause-no_line : goal.returns-in_default-clause-no_line

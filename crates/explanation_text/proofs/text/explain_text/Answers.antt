@@ -1,20 +1,4 @@
-use Rattle.std.proofs.Common.{◌≡◌, sym, subst, Option}
-use Rattle.std.specs.Prelude.{IfSome}
-use Rattle.std.specs.String.{string_bytes}
-use Rattle.explanations.specs.PlacedInRun.{IsFound}
-use Rattle.explanations.specs.declared.found.FoundLine.{FoundLine}
-use Rattle.explanation_text.proofs.Places.{explained_there}
 use Rattle.explanation_text.proofs.text.explain_text.Goals as goal
 
-pub returns-clause-told : goal.returns-clause-told
-returns-clause-told c =
-    let setup = c.args.setup.now in
-    let deck = c.args.cards.now in
-    let found = c.in-Some.found in
-    let clauses = c.in_ok-found.ensures in
-    let is = subst (λ (f : Option FoundLine). IfSome f (IsFound setup deck)) c.in-Some.is clauses.found in
-    let at_page = subst (λ (f : Option FoundLine). IfSome f (λ f. f.kept.line.page ≡ c.args.page)) c.in-Some.is clauses.page in
-    let at_line = subst (λ (f : Option FoundLine). IfSome f (λ f. f.kept.line.line ≡ c.args.line)) c.in-Some.is clauses.line in
-    let same = c.in_ok-ways.ensures.line in
-    explained_there setup c.args.asked.now deck c.in_ok-ways.ways.found found c.args.page c.args.line c.args.wheel
-    (string_bytes c.in_ok-told_text.field-0) same at_page at_line (c.in_ok-told_text.ensures deck (subst (IsFound setup deck) (sym same) is))
+pub returns-in-Ok-clause-told : goal.returns-in-Ok-clause-told
+returns-in-Ok-clause-told c = record { told = c.in-Ok.why.told; is = rw c.into_text.ensures c.in-Ok.ensures.told }

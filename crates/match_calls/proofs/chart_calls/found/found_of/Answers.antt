@@ -14,4 +14,5 @@ returns-clause-found c =
     rw c.into_text.ensures
     (found_chart c.wired_setups_print_reports.ensures c.wired_setups_begin_reports.ensures c.args.wiring.now
     (string_bytes c.in_ok-chart.chart.text) c.in_ok-setup.setup c.in_ok-chart.chart.compiled c.in_ok-chart.chart.matching
-    c.told_counts-counts.result c.in_ok-setup.ensures.reads c.in_ok-chart.ensures.read c.told_counts-counts.ensures)
+    c.told_counts-counts.result c.in_ok-setup.ensures.reads c.in_ok-chart.ensures.read
+    c.in_ok-chart.ensures.first c.told_counts-counts.ensures)
