@@ -11,7 +11,7 @@ ghost use Rattle.commands.specs.DeckReplays.Replays.{GainsFront, GainsPages};
 use crate::replays::{ReplayCause, Replayed, replay};
 use card_code::check_deck;
 use faults::Fault;
-use program_io::Lent;
+use program_io::LentWriter;
 use setups::Setup;
 use std::alloc::Global;
 use std::io::Write;
@@ -40,7 +40,7 @@ fn print_deck<'a, W: Write>(
     ensures front { OnErr result ((count : ℕ) × GainsFront setup.now deck.now count (W.contents out.old) (W.contents out.new)) }
     ensures told { IfErr result (λ told. (told ≡ Fault.Memory) ⊎ (told ≡ Fault.Write)) }
 {
-    let Replayed { sink, written } = replay(alloc, setup, deck, Lent::new(out));
+    let Replayed { sink, written } = replay(alloc, setup, deck, LentWriter::new(out));
     let unwritten = sink.told();
     // The lent output is handed back, so that it is known what was written: that saves a caller to give it away.
     let _out = sink.into_writer();

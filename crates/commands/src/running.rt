@@ -11,7 +11,7 @@ use card_lines::ReadFault;
 use compile407::RunFault;
 use devices::{FromRead, Sink};
 use faults::{Ending, Fault, tell};
-use program_io::Lent;
+use program_io::LentWriter;
 use std::alloc::Global;
 use std::io::{Read, Write};
 use streamed_runs::{StreamCause, Streamed, stream_deck};
@@ -70,7 +70,7 @@ pub fn print_run<'a, R: Read + Drop, W: Write>(
         compiled.chart(),
         compiled.setup(),
         FromRead::new(deck),
-        Lent::new(out),
+        LentWriter::new(out),
     );
     let unwritten = sink.told();
     match run {

@@ -1,4 +1,5 @@
 mod Division
+pub mod Fronting
 pub mod Refusing
 pub mod Stopping
 pub mod StoppingWith

@@ -1,4 +1,5 @@
 pub mod Commands
+pub mod Fronts
 pub mod Input
 pub mod Printable
 pub mod Refusals

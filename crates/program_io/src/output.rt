@@ -2,29 +2,31 @@
 
 ghost use Rattle.std.specs.Prelude.{◌≡◌, ◌⊎◌, IfErr, OnOk};
 ghost use Rattle.std.specs.Io.KnownBytes.{Appends};
+ghost use Rattle.program_io.specs.Fronts.{AppendsFront};
 
 use faults::{Fault, unprinted};
-use std::io;
 use std::io::Write;
 
-// Writes bytes, and all that the writer still holds back.
-fn write_through<W: Write>(out: &mut W, bytes: &[u8]) -> io::Result<()>
-    ensures written { OnOk result (Appends (W.contents out.old) (W.contents out.new) bytes.now) }
-{
-    out.write_all(bytes)?;
-    out.flush()
-}
-
-/// Prints bytes, and all that the writer still holds back.
+/// Prints bytes, from where a short write stopped, and all that the writer still holds back. Nothing is tried again: an interrupted write
+/// has failed, and so has one that takes none of some bytes.
 ///
 /// # Errors
 ///
-/// `Memory` or `Write` where the writer fails. A part of the bytes may then have been taken.
+/// `Memory` or `Write` where the writer fails. It has then taken the front of the bytes, which may be none or all of them.
 pub fn put<'a, W: Write>(out: &mut W, bytes: &[u8]) -> Result<(), Fault<'a>>
     ensures written { OnOk result (Appends (W.contents out.old) (W.contents out.new) bytes.now) }
+    ensures front { AppendsFront (W.contents out.old) (W.contents out.new) bytes.now }
     ensures told { IfErr result (λ told. (told ≡ Fault.Memory) ⊎ (told ≡ Fault.Write)) }
 {
-    match write_through(out, bytes) {
+    let mut done = 0;
+    while done < bytes.len() {
+        match out.write(&bytes[done..]) {
+            Ok(0) => return Err(Fault::Write),
+            Ok(count) => done += count,
+            Err(error) => return Err(unprinted(&error)),
+        }
+    }
+    match out.flush() {
         Ok(()) => Ok(()),
         Err(error) => Err(unprinted(&error)),
     }

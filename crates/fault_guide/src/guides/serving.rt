@@ -7,6 +7,7 @@ ghost use Rattle.faults.specs.Lines.{IsTold};
 ghost use Rattle.fault_guide.specs.GuideTexts.EntryText.{entry_text};
 ghost use Rattle.fault_guide.specs.GuideTexts.Printed.{PrintsEntry};
 ghost use Rattle.fault_guide.specs.GuideTexts.Unknown.{IsUnknownTold, unknown_line};
+ghost use Rattle.program_io.specs.Fronts.{AppendsFront, WritesFront};
 
 use crate::guides::entries::entry_text;
 use crate::{FaultEntry, fault_entry};
@@ -47,6 +48,7 @@ fn print_entry<'a, W: Write>(
     out: &mut W,
 ) -> Result<(), Fault<'a>>
     ensures printed { OnOk result (Appends (W.contents out.old) (W.contents out.new) (entry_text entry.now)) }
+    ensures front { (out.new ≡ out.old) ⊎ AppendsFront (W.contents out.old) (W.contents out.new) (entry_text entry.now) }
     ensures told { IfErr result (λ told. (told ≡ Fault.Memory) ⊎ (told ≡ Fault.Write)) }
 {
     let text = entry_text(alloc, entry)?;
@@ -56,7 +58,7 @@ fn print_entry<'a, W: Write>(
 /// Prints the entry of the fault with a number: its name, its cause, its cure and an example.
 ///
 /// The statuses are 0 done, and then nothing is told, 2 where no fault has the number, 4 where the output can't be written, 5 memory.
-/// Nothing is printed by status 2. Where the output can't be written or memory runs out, a part of the entry may have been.
+/// Nothing is printed by status 2. Where the output can't be written or memory runs out, the front of the entry may have been.
 pub fn fault_to_end<W: Write, V: Write>(
     alloc: Global,
     number: u8,
@@ -70,6 +72,7 @@ pub fn fault_to_end<W: Write, V: Write>(
     ensures mistaken { result.status ≡ 2 → is_numbered number ≡ false }
     ensures output { result.status ≡ 4 → IsTold Fault.Write result.is_told (V.contents faults.old) (V.contents faults.new) }
     ensures memory { result.status ≡ 5 → IsTold Fault.Memory result.is_told (V.contents faults.old) (V.contents faults.new) }
+    ensures front { (out.new ≡ out.old) ⊎ WritesFront (PrintsEntry number) (W.contents out.old) (W.contents out.new) }
     ensures statuses { (result.status ≤ 5) × (result.status ≢ 1) × (result.status ≢ 3) }
 {
     let Some(entry) = fault_entry(number) else {

@@ -22,10 +22,14 @@ pub record AreChangesIn (lines : List (List ℕ)) (changes : Changes) : Type 0 w
   pub tabs : IsTally change.Blanks lines changes.tabs
   pub others : IsTally change.Replaced lines changes.others
 
--- The text, folded, is a deck, and was written after what was there; what was changed in it was told.
-pub record WritesDeck (text : List ℕ) (fill : ℕ) (old new told_before told : Option (List ℕ)) : Type 0 where
+-- The text, folded, is a deck, and was written after what was there.
+pub record WritesFolded (text : List ℕ) (fill : ℕ) (old new : Option (List ℕ)) : Type 0 where
   pub is_deck : IsDeckText (folded_text fill (lines_of text))
   pub written : Appends old new (folded_text fill (lines_of text))
+
+-- So it was, and what was changed in it was told.
+pub record WritesDeck (text : List ℕ) (fill : ℕ) (old new told_before told : Option (List ℕ)) : Type 0 where
+  pub folded : WritesFolded text fill old new
   pub changes : Changes
   pub are_changes : AreChangesIn (lines_of text) changes
   pub tells : Appends told_before told (changes_text changes)

@@ -5,9 +5,10 @@ ghost use Rattle.std.specs.Io.KnownBytes.{Appends};
 ghost use Rattle.card_code.specs.CardCode.{rows_of};
 ghost use Rattle.card_code.specs.Deck.{HasDeckFault};
 ghost use Rattle.card_code.specs.Lines.{lines_of};
-ghost use Rattle.folding.specs.FoldCalls.FoldEnds.{IsRefused, WritesDeck, is_too_long};
+ghost use Rattle.folding.specs.FoldCalls.FoldEnds.{IsRefused, WritesDeck, WritesFolded, is_too_long};
 ghost use Rattle.folding.specs.Folded.{folded_text};
 ghost use Rattle.folding.specs.ToldChanges.{changes_text};
+ghost use Rattle.program_io.specs.Fronts.{AppendsFront, WritesFront};
 
 use crate::fold_calls::long_cards::write_long_cards;
 use crate::{Changes, Folded, fold, write_changes};
@@ -51,6 +52,7 @@ fn write_folded<W: Write, V: Write>(
 ) -> Ending
     ensures written { result.status ≡ 0 → Appends (W.contents out.old) (W.contents out.new) deck.now
         × Appends (V.contents faults.old) (V.contents faults.new) (changes_text changes.now) }
+    ensures front { AppendsFront (W.contents out.old) (W.contents out.new) deck.now }
     ensures statuses { (result.status ≡ 0) ⊎ (result.status ≡ 4) ⊎ (result.status ≡ 5) }
 {
     match put(out, deck) {
@@ -76,7 +78,8 @@ fn refuse<V: Write>(deck: &[u8], fault: DeckFault, faults: &mut V) -> Ending
 ///
 /// What was changed is told on `faults`, a line for each kind of change. The statuses are 0 done, 3 refused, 4 if one of both can't be
 /// written, 5 memory. A text is refused if a line of it has more than 80 columns once it is folded: each such line is told as fault 1 of
-/// its card; and if it has more than 999,999 lines. Then no byte is written.
+/// its card; and if it has more than 999,999 lines. Then no byte is written. Where the output can't be written or memory runs out, the front of
+/// the deck may have been.
 pub fn fold_to_end<W: Write, V: Write>(
     alloc: Global,
     text: &[u8],
@@ -89,6 +92,8 @@ pub fn fold_to_end<W: Write, V: Write>(
         (V.contents faults.old) (V.contents faults.new) }
     ensures refused { result.status ≡ 3 → (out.new ≡ out.old)
         × IsRefused (folded_text fill (lines_of text.now)) result.is_told (V.contents faults.old) (V.contents faults.new) }
+    ensures front { (out.new ≡ out.old)
+        ⊎ WritesFront (WritesFolded text.now fill) (W.contents out.old) (W.contents out.new) }
     ensures statuses { (result.status ≡ 0) ⊎ (3 ≤ result.status × result.status ≤ 5) }
 {
     let Ok(Folded { deck, changes }) = fold(alloc, text, fill) else {

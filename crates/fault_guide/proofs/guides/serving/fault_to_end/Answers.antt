@@ -1,4 +1,10 @@
-use Rattle.std.proofs.Common.{arith, refl}
+use Rattle.std.proofs.Common.{◌≡◌, ◌⊎◌, inl, inr, arith, refl, ℕ, List, Option, true}
+use Rattle.fault_guide.specs.GuideTexts.EntryText.{entry_text}
+use Rattle.fault_guide.specs.GuideTexts.Printed.{PrintsEntry}
+use Rattle.fault_guide.specs.Numbered.{is_numbered}
+use Rattle.fault_guide.specs.declared.table.FaultEntry.{FaultEntry}
+use Rattle.program_io.proofs.Fronting.{front_of_bytes}
+use Rattle.program_io.specs.Fronts.{AppendsFront, WritesFront}
 use Rattle.fault_guide.proofs.guides.serving.fault_to_end.Goals as goal
 
 pub returns-in_default-clause-done : goal.returns-in_default-clause-done
@@ -21,3 +27,19 @@ returns-in-Ok-clause-output g c = λ four. absurd (omega (arith, four))
 
 pub returns-in-Ok-clause-memory : goal.returns-in-Ok-clause-memory
 returns-in-Ok-clause-memory g c = λ five. absurd (omega (arith, five))
+
+-- what is written of an entry's text is written of the entry
+front_of_entry : {Nothing : Type 0} {old new : Option (List ℕ)} (number : ℕ) (entry : FaultEntry) → is_numbered number ≡ true
+    → entry.number ≡ number → Nothing ⊎ AppendsFront old new (entry_text entry) → Nothing ⊎ WritesFront (PrintsEntry number) old new
+front_of_entry number entry numbered its_own (inl none) = inl none
+front_of_entry number entry numbered its_own (inr front) =
+    inr (front_of_bytes (entry_text entry)
+    (λ after written. record { numbered = numbered; entry = entry; its_own = its_own; written = written }) front)
+
+pub returns-in-Ok-clause-front : goal.returns-in-Ok-clause-front
+returns-in-Ok-clause-front g c =
+    front_of_entry c.args.number c.in-Some.entry (c.in-Some.ensures.there.0 refl) c.in-Some.ensures.its_own c.in-Ok.ensures.front
+
+pub returns-in-Err-clause-front : goal.returns-in-Err-clause-front
+returns-in-Err-clause-front g c =
+    front_of_entry c.args.number c.in-Some.entry (c.in-Some.ensures.there.0 refl) c.in-Some.ensures.its_own c.in-Err.ensures.front

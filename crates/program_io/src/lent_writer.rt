@@ -9,7 +9,7 @@ use std::io::Write;
 /// A writer that is lent. It has failed where the writer did, an interrupted call among that, or took none of some bytes, and asks it no
 /// more from then on. What is then told of it is kept: want of memory is told as that.
 #[derive(Drop)]
-pub struct Lent<'a, W: Write> {
+pub struct LentWriter<'a, W: Write> {
     writer: &'a mut W,
     // For contracts alone: a writer of std doesn't tell whether it was flushed.
     is_flushed: bool,
@@ -17,13 +17,13 @@ pub struct Lent<'a, W: Write> {
     wants_memory: bool,
 }
 
-impl<'a, W: Write> Lent<'a, W> {
+impl<'a, W: Write> LentWriter<'a, W> {
     /// The writer, which has not failed yet.
-    pub fn new(writer: &'a mut W) -> Lent<'a, W>
+    pub fn new(writer: &'a mut W) -> LentWriter<'a, W>
         ensures writer { result.writer ≡ writer.entry }
         ensures well { result.has_failed ≡ false }
     {
-        Lent {
+        LentWriter {
             writer,
             is_flushed: false,
             has_failed: false,
@@ -46,7 +46,7 @@ impl<'a, W: Write> Lent<'a, W> {
     pub fn into_writer(self) -> &'a mut W
         ensures { result ≡ self.entry.writer }
     {
-        let Lent { writer, .. } = self;
+        let LentWriter { writer, .. } = self;
         writer
     }
 
@@ -61,7 +61,7 @@ impl<'a, W: Write> Lent<'a, W> {
     }
 }
 
-impl<W: Write> Sink for Lent<'_, W> {
+impl<W: Write> Sink for LentWriter<'_, W> {
     ghost held = { λ sink. W.contents sink.writer.now };
 
     ghost is_flushed = { λ sink. sink.is_flushed };
