@@ -39,14 +39,20 @@ module _ (text : List ℕ) (Unprinted : Type 0) where
   output-stops-layout (Err met) (inl is) = layouts.memory_wanting is
   output-stops-layout (Err met) (inr is) = layouts.unwritten is
 
-pub layout-printed : {X E : Type 0} (result : Result X E) (text answer bytes : List ℕ) (chart : Chart) (old new : Option (List ℕ))
-    → ReadsLawful text chart → answer ≡ layout chart.lines → bytes ≡ answer
-    → OnOk result (Appends old new bytes) → OnOk result (PrintsLayout text old new)
-layout-printed (Ok _) text answer bytes chart old new reads is put written = record {
+-- the layout of a chart is written after what was there
+pub layout-written : (text answer bytes : List ℕ) (chart : Chart) (old new : Option (List ℕ)) → ReadsLawful text chart
+    → answer ≡ layout chart.lines → bytes ≡ answer → Appends old new bytes → PrintsLayout text old new
+layout-written text answer bytes chart old new reads is put written = record {
   answer = answer;
   is_layout = record { chart = chart; reads = reads; drawn = is };
   written = subst (λ (of : List ℕ). Appends old new of) put written;
 }
+
+pub layout-printed : {X E : Type 0} (result : Result X E) (text answer bytes : List ℕ) (chart : Chart) (old new : Option (List ℕ))
+    → ReadsLawful text chart → answer ≡ layout chart.lines → bytes ≡ answer
+    → OnOk result (Appends old new bytes) → OnOk result (PrintsLayout text old new)
+layout-printed (Ok _) text answer bytes chart old new reads is put written =
+    layout-written text answer bytes chart old new reads is put written
 layout-printed (Err _) text answer bytes chart old new reads is put written = tt
 
 -- the fields of a card
@@ -75,14 +81,22 @@ module _ (text : List ℕ) (deck : Option (List ℕ)) (number : ℕ) (unreadable
   output-stops-fields (Err met) (inl is) = cards.memory_wanting is
   output-stops-fields (Err met) (inr is) = cards.unwritten is
 
-pub fields-printed : {X E : Type 0} (result : Result X E) (text : List ℕ) (deck : Option (List ℕ)) (number : ℕ) (read answer bytes : List ℕ)
-    (chart : Chart) (old new : Option (List ℕ)) → ReadsLawful text chart → IfSome deck (λ known. read ≡ known) → IsSheetIn chart read number answer → bytes ≡ answer → OnOk result (Appends old new bytes)
-    → OnOk result (PrintsFields text deck number old new)
-fields-printed (Ok _) text deck number read answer bytes chart old new reads is_deck is put written = record {
+-- the sheet of a card is written after what was there
+pub fields-written : (text : List ℕ) (deck : Option (List ℕ)) (number : ℕ) (read answer bytes : List ℕ) (chart : Chart)
+    (old new : Option (List ℕ)) → ReadsLawful text chart → IfSome deck (λ known. read ≡ known) → IsSheetIn chart read number answer
+    → bytes ≡ answer → Appends old new bytes → PrintsFields text deck number old new
+fields-written text deck number read answer bytes chart old new reads is_deck is put written = record {
   read = read;
   is_deck = is_deck;
   answer = answer;
   is_sheet = record { chart = chart; reads = reads; is_sheet = is };
   written = subst (λ (b : List ℕ). Appends old new b) put written;
 }
+
+pub fields-printed : {X E : Type 0} (result : Result X E) (text : List ℕ) (deck : Option (List ℕ)) (number : ℕ)
+    (read answer bytes : List ℕ) (chart : Chart) (old new : Option (List ℕ)) → ReadsLawful text chart
+    → IfSome deck (λ known. read ≡ known) → IsSheetIn chart read number answer → bytes ≡ answer
+    → OnOk result (Appends old new bytes) → OnOk result (PrintsFields text deck number old new)
+fields-printed (Ok _) text deck number read answer bytes chart old new reads is_deck is put written =
+    fields-written text deck number read answer bytes chart old new reads is_deck is put written
 fields-printed (Err _) text deck number read answer bytes chart old new reads is_deck is put written = tt

@@ -1,6 +1,6 @@
-use Rattle.std.proofs.Common.{inr, refl, Ok}
+use Rattle.std.proofs.Common.{inr, refl}
 use Rattle.std.proofs.lemmas.Result.{err_from_is_err_and}
-use Rattle.sheets.proofs.SheetCalls.Stopping.{card-stops-fields, chart-stops-fields, fields-printed, output-stops-fields, reading-stops-fields, whole-deck}
+use Rattle.sheets.proofs.SheetCalls.Stopping.{card-stops-fields, chart-stops-fields, fields-printed, fields-written, output-stops-fields, reading-stops-fields, whole-deck}
 use Rattle.program_io.proofs.Fronting.{front_of_bytes}
 use Rattle.sheets.proofs.sheet_calls.fields.print_fields.Goals as goal
 
@@ -43,7 +43,7 @@ returns-clause-stopped g c =
 pub returns-clause-front : goal.returns-clause-front
 returns-clause-front g c =
     inr (front_of_bytes c.as_slice-2.result.now (λ after.
-    fields-printed (Ok tt) c.args.chart.now (g.R.Read.remaining c.args.deck) c.args.number c.as_slice.result.now
+    fields-written c.args.chart.now (g.R.Read.remaining c.args.deck) c.args.number c.as_slice.result.now
     c.in_ok-answer.answer.items c.as_slice-2.result.now c.in_ok-planned.planned _ after c.in_ok-planned.ensures.read
     (whole-deck (g.R.Read.remaining c.args.deck) c.as_slice.result.now c.in_ok-bytes.bytes.items c.as_slice.ensures.value
     c.in_ok-bytes.ensures.whole)

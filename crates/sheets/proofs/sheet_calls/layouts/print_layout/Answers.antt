@@ -1,6 +1,6 @@
-use Rattle.std.proofs.Common.{inr, refl, Ok}
+use Rattle.std.proofs.Common.{inr, refl}
 use Rattle.std.proofs.lemmas.Result.{err_from_is_err_and}
-use Rattle.sheets.proofs.SheetCalls.Stopping.{chart-stops-layout, device-stops-layout, layout-printed, output-stops-layout}
+use Rattle.sheets.proofs.SheetCalls.Stopping.{chart-stops-layout, device-stops-layout, layout-printed, layout-written, output-stops-layout}
 use Rattle.program_io.proofs.Fronting.{front_of_bytes}
 use Rattle.sheets.proofs.sheet_calls.layouts.print_layout.Goals as goal
 
@@ -26,5 +26,5 @@ returns-clause-stopped g c = output-stops-layout c.args.chart.now _ c.put.result
 pub returns-clause-front : goal.returns-clause-front
 returns-clause-front g c =
     inr (front_of_bytes c.as_slice.result.now (λ after.
-    layout-printed (Ok tt) c.args.chart.now c.in_ok-answer.answer.items c.as_slice.result.now c.in_ok-planned.planned _ after
+    layout-written c.args.chart.now c.in_ok-answer.answer.items c.as_slice.result.now c.in_ok-planned.planned _ after
     c.in_ok-planned.ensures.read c.in_ok-answer.ensures.layout c.as_slice.ensures.value) c.put.ensures.front)
