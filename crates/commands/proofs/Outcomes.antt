@@ -33,16 +33,20 @@ done (Ok _) command text read items answer bytes deck old new same is_deck answe
     }
 done (Err _) command text read items answer bytes deck old new same is_deck answers is_answer written = tt
 
--- no deck is read
+-- no deck is read: whatever it is, the answer is written
+pub check_written : (text : List ℕ) (old new : Option (List ℕ)) → Compiles text → Appends old new (codes "ok\n") → (deck : Option (List ℕ))
+    → IsDone command.Check text deck old new
+check_written text old new compiles written deck =
+    record { read = unwrap_or deck []; is_deck = is_known deck; answer = codes "ok\n"; answers = (compiles, refl); written = written }
+
 pub check_done : {X E : Type 0} (result : Result X E) (text : List ℕ) (old new : Option (List ℕ)) → Compiles text
     → OnOk result (Appends old new (codes "ok\n")) → OnOk result ((deck : Option (List ℕ)) → IsDone command.Check text deck old new)
-check_done (Ok _) text old new compiles written = λ deck.
-    record { read = unwrap_or deck []; is_deck = is_known deck; answer = codes "ok\n"; answers = (compiles, refl); written = written }
+check_done (Ok _) text old new compiles written = check_written text old new compiles written
 check_done (Err _) text old new compiles written = tt
 
-pub wire_done : {X E : Type 0} (result : Result X E) (text answer bytes : List ℕ) (old new : Option (List ℕ)) → IsWiringChartOf text answer
-    → bytes ≡ answer → OnOk result (Appends old new bytes) → OnOk result ((deck : Option (List ℕ)) → IsDone command.Wire text deck old new)
-wire_done (Ok _) text answer bytes old new is is_answer written = λ deck.
+pub wire_written : (text answer bytes : List ℕ) (old new : Option (List ℕ)) → IsWiringChartOf text answer → bytes ≡ answer
+    → Appends old new bytes → (deck : Option (List ℕ)) → IsDone command.Wire text deck old new
+wire_written text answer bytes old new is is_answer written deck =
     record {
       read = unwrap_or deck [];
       is_deck = is_known deck;
@@ -50,12 +54,15 @@ wire_done (Ok _) text answer bytes old new is is_answer written = λ deck.
       answers = is;
       written = subst (λ (put : List ℕ). Appends old new put) is_answer written;
     }
+
+pub wire_done : {X E : Type 0} (result : Result X E) (text answer bytes : List ℕ) (old new : Option (List ℕ)) → IsWiringChartOf text answer
+    → bytes ≡ answer → OnOk result (Appends old new bytes) → OnOk result ((deck : Option (List ℕ)) → IsDone command.Wire text deck old new)
+wire_done (Ok _) text answer bytes old new is is_answer written = wire_written text answer bytes old new is is_answer written
 wire_done (Err _) text answer bytes old new is is_answer written = tt
 
-pub upgrade_done : {X E : Type 0} (result : Result X E) (text answer bytes : List ℕ) (old new : Option (List ℕ)) → IsUpgradeOf text answer
-    → PrintAlike text answer → bytes ≡ answer → OnOk result (Appends old new bytes)
-    → OnOk result ((deck : Option (List ℕ)) → IsDone command.Upgrade text deck old new)
-upgrade_done (Ok _) text answer bytes old new is alike is_answer written = λ deck.
+pub upgrade_written : (text answer bytes : List ℕ) (old new : Option (List ℕ)) → IsUpgradeOf text answer → PrintAlike text answer
+    → bytes ≡ answer → Appends old new bytes → (deck : Option (List ℕ)) → IsDone command.Upgrade text deck old new
+upgrade_written text answer bytes old new is alike is_answer written deck =
     record {
       read = unwrap_or deck [];
       is_deck = is_known deck;
@@ -63,6 +70,12 @@ upgrade_done (Ok _) text answer bytes old new is alike is_answer written = λ de
       answers = (is, alike);
       written = subst (λ (put : List ℕ). Appends old new put) is_answer written;
     }
+
+pub upgrade_done : {X E : Type 0} (result : Result X E) (text answer bytes : List ℕ) (old new : Option (List ℕ)) → IsUpgradeOf text answer
+    → PrintAlike text answer → bytes ≡ answer → OnOk result (Appends old new bytes)
+    → OnOk result ((deck : Option (List ℕ)) → IsDone command.Upgrade text deck old new)
+upgrade_done (Ok _) text answer bytes old new is alike is_answer written =
+    upgrade_written text answer bytes old new is alike is_answer written
 upgrade_done (Err _) text answer bytes old new is alike is_answer written = tt
 
 -- where no deck is read, the texts are refused whatever it is
@@ -138,9 +151,9 @@ refused_for_deck (Err told) command unread text deck Q same of_any = λ three. (
 )
 
 -- the pages of a replay are what it answers
-pub replay_done : {X E : Type 0} (result : Result X E) (text read items : List ℕ) (deck old new : Option (List ℕ)) → read ≡ items
-    → IfSome deck (λ known. items ≡ known) → OnOk result (PrintsReplay text read old new) → OnOk result (IsDone command.Replay text deck old new)
-replay_done (Ok _) text read items deck old new same is_deck prints =
+pub replay_written : (text read items : List ℕ) (deck old new : Option (List ℕ)) → read ≡ items → IfSome deck (λ known. items ≡ known)
+    → PrintsReplay text read old new → IsDone command.Replay text deck old new
+replay_written text read items deck old new same is_deck prints =
     record {
       read = read;
       is_deck = read_is_known deck read items same is_deck;
@@ -148,6 +161,10 @@ replay_done (Ok _) text read items deck old new same is_deck prints =
       answers = prints.pages;
       written = prints.written;
     }
+
+pub replay_done : {X E : Type 0} (result : Result X E) (text read items : List ℕ) (deck old new : Option (List ℕ)) → read ≡ items
+    → IfSome deck (λ known. items ≡ known) → OnOk result (PrintsReplay text read old new) → OnOk result (IsDone command.Replay text deck old new)
+replay_done (Ok _) text read items deck old new same is_deck prints = replay_written text read items deck old new same is_deck prints
 replay_done (Err _) text read items deck old new same is_deck prints = tt
 
 -- and the texts that it refuses are those that were read

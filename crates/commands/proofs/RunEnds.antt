@@ -60,9 +60,6 @@ line_of told is_told before after line met is = subst (λ (of : Fault). IsTold o
 -- which line is told by the status of what stopped a run
 module _ {text : List ℕ} {reader left old new : Option (List ℕ)} (told : Fault) {Unprinted : Type 0} (status : ℕ) (is_told : Bool)
     (before after : Option (List ℕ)) (is_status : status ≡ status_of told) (line : IsTold told is_told before after) where
-  line_met : (met : Fault) → told ≡ met → IsTold met is_told before after
-  line_met = line_of told is_told before after line
-
   -- a run: a card that was not read, or the output
   pub run_device : EndsRun text reader left old new told Unprinted → status ≡ 4
       → IsTold fault.Write is_told before after ⊎ ((card : ℕ) × IsTold (fault.Unread card) is_told before after)
@@ -70,8 +67,8 @@ module _ {text : List ℕ} {reader left old new : Option (List ℕ)} (told : Fau
     where
       by : Tells told → IsTold fault.Write is_told before after ⊎ ((card : ℕ) × IsTold (fault.Unread card) is_told before after)
       by (refused three) = absurd (omega (arith, is_status, three, four))
-      by (unread card is) = inr (card, line_met (fault.Unread card) is)
-      by (unwritten is) = inl (line_met fault.Write is)
+      by (unread card is) = inr (card, line_of told is_told before after line (fault.Unread card) is)
+      by (unwritten is) = inl (line_of told is_told before after line fault.Write is)
       by (memory is) = absurd (omega (arith, is_status, ap status_of is, four))
 
   pub run_memory : EndsRun text reader left old new told Unprinted → status ≡ 5 → IsTold fault.Memory is_told before after
@@ -81,7 +78,7 @@ module _ {text : List ℕ} {reader left old new : Option (List ℕ)} (told : Fau
       by (refused three) = absurd (omega (arith, is_status, three, five))
       by (unread card is) = absurd (omega (arith, is_status, ap status_of is, five))
       by (unwritten is) = absurd (omega (arith, is_status, ap status_of is, five))
-      by (memory is) = line_met fault.Memory is
+      by (memory is) = line_of told is_told before after line fault.Memory is
 
   pub run_ends_status : EndsRun text reader left old new told Unprinted → 3 ≤ status × status ≤ 5
   run_ends_status ends = by (ends_tell ends)

@@ -88,21 +88,21 @@ refused_run text reader left old new told Unprinted (chart_unread is unprinted) 
 refused_run text reader left old new told Unprinted (run_stopped stops) three = inr stops
 
 -- whatever the reader has left
-module _ {X : Type 0} (text : List ℕ) (reader left old new : Option (List ℕ)) (Unprinted : Type 0) where
+module _ (text : List ℕ) (reader left old new : Option (List ℕ)) (Unprinted : Type 0) where
   left_then : {told : Fault} → (RefusesChart text told × Unprinted) ⊎ StopsInRun text reader left old new told
       → HasRefused command.Run text reader old new told Unprinted
   left_then (inl refuses) = inl refuses
   left_then (inr stops) = inr (left, stops)
 
-  pub run_refused : (result : Result X Fault) → IfErr result (λ told. EndsRun text reader left old new told Unprinted)
+  pub run_refused : {X : Type 0} (result : Result X Fault) → IfErr result (λ told. EndsRun text reader left old new told Unprinted)
       → IfErr result (λ told. status_of told ≡ 3 → HasRefused command.Run text reader old new told Unprinted)
   run_refused (Ok _) ends = tt
   run_refused (Err told) ends = λ three. left_then (refused_run text reader left old new told Unprinted ends three)
 
-  pub run_failed : (unreadable : Fault) (result : Result X Fault) → IfErr result (λ told. EndsRun text reader left old new told Unprinted)
-      → IfErr result (λ told. HasFailed command.Run text reader old new told unreadable Unprinted)
-  run_failed unreadable (Ok _) ends = tt
-  run_failed unreadable (Err told) ends = (left, ends)
+  pub run_failed : {X : Type 0} (result : Result X Fault) → IfErr result (λ told. EndsRun text reader left old new told Unprinted)
+      → IfErr result (λ told. (rest : Option (List ℕ)) × EndsRun text reader rest old new told Unprinted)
+  run_failed (Ok _) ends = tt
+  run_failed (Err told) ends = (left, ends)
 
 -- what holds of a command holds of the one that it is
 pub served_by : {X E : Type 0} (result : Result X E) (given known : Command) (text : List ℕ) (reader old new : Option (List ℕ))

@@ -39,5 +39,8 @@ pub front_of_read : {Nothing : Type 0} {old new : Option (List ℕ)} (text lines
     → Nothing ⊎ ((counts : Counts) × WritesFront (PrintsByOrders text lines deck counts) old new)
 front_of_read text lines read items deck same is_deck (inl none) = inl none
 front_of_read text lines read items deck same is_deck (inr front) =
-    inr (front.0, front_again (λ after prints.
-    record { read = read; is_deck = read_is_known deck read items same is_deck; prints = prints }) front.1)
+    inr (
+      front.0,
+      front_again (λ after prints.
+          record { read = read; is_deck = read_is_known deck read items same is_deck; prints = prints }) front.1,
+    )

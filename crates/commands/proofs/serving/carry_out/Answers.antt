@@ -70,20 +70,20 @@ returns-in-Run-clause-refused g c =
 pub returns-in-Run-clause-failed : goal.returns-in-Run-clause-failed
 returns-in-Run-clause-failed g c =
     failed_by c.print_run.result c.args.command command.Run c.args.text.now (g.R.Read.remaining c.args.deck) _ _ _ _ c.in-Run.is
-    (run_failed c.args.text.now (g.R.Read.remaining c.args.deck) _ _ _ _ _ c.print_run.result c.print_run.ensures.ends)
+    (run_failed c.args.text.now (g.R.Read.remaining c.args.deck) _ _ _ _ c.print_run.result c.print_run.ensures.ends)
 
-pub returns-in-Replay-clause-done : goal.returns-in-Replay-clause-done
-returns-in-Replay-clause-done g c =
+pub returns-clause-done : goal.returns-clause-done
+returns-clause-done g c =
     served_by c.serve_replay.result c.args.command command.Replay c.args.text.now (g.R.Read.remaining c.args.deck) _ _ c.in-Replay.is
     c.serve_replay.ensures.done
 
-pub returns-in-Replay-clause-refused : goal.returns-in-Replay-clause-refused
-returns-in-Replay-clause-refused g c =
+pub returns-clause-refused : goal.returns-clause-refused
+returns-clause-refused g c =
     refused_by c.serve_replay.result c.args.command command.Replay c.args.text.now (g.R.Read.remaining c.args.deck) _ _ _ c.in-Replay.is
     c.serve_replay.ensures.refused
 
-pub returns-in-Replay-clause-failed : goal.returns-in-Replay-clause-failed
-returns-in-Replay-clause-failed g c =
+pub returns-clause-failed : goal.returns-clause-failed
+returns-clause-failed g c =
     failed_by c.serve_replay.result c.args.command command.Replay c.args.text.now (g.R.Read.remaining c.args.deck) _ _ _ _ c.in-Replay.is
     (with_wiring c.serve_replay.result _ _ _ c.serve_replay.ensures.stopped c.serve_replay.ensures.unread)
 
@@ -99,8 +99,8 @@ pub returns-in-Upgrade-clause-front : goal.returns-in-Upgrade-clause-front
 returns-in-Upgrade-clause-front g c = λ other.
     front_for_deck c.args.command command.Upgrade c.args.text.now (g.R.Read.remaining c.args.deck) _ _ _ c.in-Upgrade.is c.serve_upgrade.ensures.front
 
-pub returns-in-Replay-clause-front : goal.returns-in-Replay-clause-front
-returns-in-Replay-clause-front g c = λ other.
+pub returns-clause-front : goal.returns-clause-front
+returns-clause-front g c = λ other.
     front_by c.args.command command.Replay c.args.text.now (g.R.Read.remaining c.args.deck) _ _ _ c.in-Replay.is c.serve_replay.ensures.front
 
 pub returns-in-Run-clause-front : goal.returns-in-Run-clause-front

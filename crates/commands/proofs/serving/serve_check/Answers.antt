@@ -1,7 +1,7 @@
-use Rattle.std.proofs.Common.{inr, refl, [], Ok}
+use Rattle.std.proofs.Common.{inr, refl, []}
 use Rattle.std.proofs.lemmas.Result.{err_from_is_err_and}
 use Rattle.program_io.specs.declared.command.Command.TheVariants as command
-use Rattle.commands.proofs.Outcomes.{check_done, refused_for_any}
+use Rattle.commands.proofs.Outcomes.{check_done, check_written, refused_for_any}
 use Rattle.commands.proofs.Stopping.{texts_stop}
 use Rattle.program_io.proofs.Stopping.{output_stops_any}
 use Rattle.program_io.proofs.Fronting.{front_of_bytes}
@@ -29,5 +29,5 @@ returns-clause-stopped g c = output_stops_any c.put.result _ c.put.ensures.told
 
 pub returns-clause-front : goal.returns-clause-front
 returns-clause-front g c =
-    inr (λ deck. front_of_bytes _ (λ after written. check_done (Ok tt) c.args.text.now _ after c.in_ok-check.ensures.compiles written deck)
+    inr (λ deck. front_of_bytes _ (λ after written. check_written c.args.text.now _ after c.in_ok-check.ensures.compiles written deck)
     c.put.ensures.front)

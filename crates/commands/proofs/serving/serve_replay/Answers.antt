@@ -1,6 +1,6 @@
-use Rattle.std.proofs.Common.{◌≡◌, refl, Ok}
+use Rattle.std.proofs.Common.{◌≡◌, refl}
 use Rattle.std.proofs.lemmas.Result.{err_from_is_err_and}
-use Rattle.commands.proofs.Outcomes.{replay_done, replay_refused, wiring_refused_for_any}
+use Rattle.commands.proofs.Outcomes.{replay_done, replay_refused, replay_written, wiring_refused_for_any}
 use Rattle.program_io.proofs.Stopping.{no_file, no_file_stops, stops_for_deck, wiring_stops}
 use Rattle.program_io.proofs.Fronting.{none_or_front_again}
 use Rattle.commands.proofs.serving.serve_replay.Goals as goal
@@ -42,5 +42,5 @@ returns-in_ok-read_setup-in-Err-clause-unread g c = λ is. (c.in_ok-read_setup-i
 pub returns-in-Ok-clause-front : goal.returns-in-Ok-clause-front
 returns-in-Ok-clause-front g c =
     none_or_front_again (λ after prints.
-    replay_done (Ok tt) c.args.text.now c.as_slice.result.now c.in-Ok.bytes.items (g.R.Read.remaining c.args.deck) _ after
+    replay_written c.args.text.now c.as_slice.result.now c.in-Ok.bytes.items (g.R.Read.remaining c.args.deck) _ after
     c.as_slice.ensures.value c.in-Ok.ensures.whole prints) c.print_replay.ensures.front

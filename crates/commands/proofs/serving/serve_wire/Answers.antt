@@ -1,8 +1,8 @@
-use Rattle.std.proofs.Common.{inr, refl, [], Ok}
+use Rattle.std.proofs.Common.{inr, refl, []}
 use Rattle.std.proofs.lemmas.Result.{err_from_is_err_and}
 use Rattle.std.specs.Prelude.{string_bytes}
 use Rattle.program_io.specs.declared.command.Command.TheVariants as command
-use Rattle.commands.proofs.Outcomes.{refused_for_any, wire_done}
+use Rattle.commands.proofs.Outcomes.{refused_for_any, wire_done, wire_written}
 use Rattle.commands.proofs.Stopping.{texts_stop}
 use Rattle.program_io.proofs.Stopping.{output_stops_any}
 use Rattle.program_io.proofs.Fronting.{front_of_bytes}
@@ -33,5 +33,5 @@ returns-clause-stopped g c = output_stops_any c.put.result _ c.put.ensures.told
 pub returns-clause-front : goal.returns-clause-front
 returns-clause-front g c =
     inr (λ deck. front_of_bytes c.as_bytes.result.now (λ after written.
-    wire_done (Ok tt) c.args.text.now (string_bytes c.in_ok-written.written) c.as_bytes.result.now _ after c.in_ok-written.ensures.written
+    wire_written c.args.text.now (string_bytes c.in_ok-written.written) c.as_bytes.result.now _ after c.in_ok-written.ensures.written
     c.as_bytes.ensures.value written deck) c.put.ensures.front)

@@ -19,12 +19,18 @@ returns-in_err-pages-clause-refused g c =
 
 pub returns-in_err-put-clause-front : goal.returns-in_err-put-clause-front
 returns-in_err-put-clause-front g c =
-    inr (c.in_ok-pages.counts, front_of_bytes c.as_slice.result.now (λ after.
-    served_in_memory c.args.wiring.now c.args.orders.now c.args.deck.now c.in_ok-pages.pages.items c.as_slice.result.now c.in_ok-pages.counts _
-    after c.as_slice.ensures.value c.in_ok-pages.ensures.served) c.in_err-put.ensures.front)
+    inr (
+      c.in_ok-pages.field-0.counts,
+      front_of_bytes c.as_slice.result.now (λ after.
+          served_in_memory c.args.wiring.now c.args.orders.now c.args.deck.now c.in_ok-pages.field-0.pages.items c.as_slice.result.now c.in_ok-pages.field-0.counts _
+          after c.as_slice.ensures.value c.in_ok-pages.ensures.served) c.in_err-put.ensures.front,
+    )
 
 pub returns-clause-front : goal.returns-clause-front
 returns-clause-front g c =
-    inr (c.in_ok-pages.counts, front_of_bytes c.as_slice.result.now (λ after.
-    served_in_memory c.args.wiring.now c.args.orders.now c.args.deck.now c.in_ok-pages.pages.items c.as_slice.result.now c.in_ok-pages.counts _
-    after c.as_slice.ensures.value c.in_ok-pages.ensures.served) c.in_ok-put.ensures.front)
+    inr (
+      c.in_ok-pages.field-0.counts,
+      front_of_bytes c.as_slice.result.now (λ after.
+          served_in_memory c.args.wiring.now c.args.orders.now c.args.deck.now c.in_ok-pages.field-0.pages.items c.as_slice.result.now c.in_ok-pages.field-0.counts _
+          after c.as_slice.ensures.value c.in_ok-pages.ensures.served) c.in_ok-put.ensures.front,
+    )
