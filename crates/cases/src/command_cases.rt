@@ -5,7 +5,8 @@
 //! and `(divide)` in place of a command, a text that has a chart and its deck, which are run, or of which the lengths are told;
 //! `(10000000 letters)` in one line, and `(1000000 empty lines)` and `(1000001 empty lines)`, in place of a text or deck; `(every wire)`
 //! in place of a wiring chart; `(unreadable)` and `(1000000 blank cards)` in place of a deck; and last of all `(unwritable)`, where the
-//! output can't be written.
+//! output can't be written, `(read 5 fails)`, where the deck is read byte by byte until a read fails, or `(flushes)`, where it is told how
+//! often the output was flushed.
 //! A command `replay --orders` has its orders behind it, given as a text is; `fault` has its number behind it, `fields` that of the card, and
 //! `explain`, `explain --whole`, `ledger` and `ledger --all` the page, the line and the wheel.
 //! A `check deck` checks the deck too, where `check` leaves it alone, a `check groups` also tells the control keys that come back, a `check all`
@@ -97,6 +98,18 @@ fn bytes_of(rt: &HostRuntime, part: &str) -> Result<Vec<u8>> {
     }
 }
 
+// The cards of a row's deck, and the number of its read that fails, where the row names one.
+fn failing_read(deck: &str) -> Option<(&str, u64)> {
+    let Some((cards, words)) = deck.split_once("|(read ") else {
+        return None;
+    };
+    let number = words.strip_suffix(" fails)")?;
+    match number.parse() {
+        Ok(read) => Some((cards, read)),
+        Err(_) => None,
+    }
+}
+
 // A row's deck, and the read of it that fails.
 #[derive(Drop)]
 struct RowDeck {
@@ -112,14 +125,25 @@ impl RowDeck {
                 fails_at: Some(1),
             });
         }
+        if let Some((cards, read)) = failing_read(deck) {
+            return Ok(RowDeck {
+                cards: bytes_of(rt, cards)?,
+                fails_at: Some(read),
+            });
+        }
         Ok(RowDeck {
             cards: bytes_of(rt, deck)?,
             fails_at: None,
         })
     }
 
+    // A reader of the deck. Where a read of it fails, each gives one byte.
     fn reader(&self) -> LimitedReader<'_> {
-        LimitedReader::new(self.cards.as_slice(), usize::MAX, self.fails_at)
+        let cards = self.cards.as_slice();
+        match self.fails_at {
+            Some(_) => LimitedReader::new(cards, 1, self.fails_at),
+            None => LimitedReader::new(cards, usize::MAX, None),
+        }
     }
 }
 
@@ -264,10 +288,16 @@ fn mistaken(alloc: Global, command: &str) -> Served {
     served
 }
 
-// What a command gives if its output can't be written.
-fn done_unwritable<R: Read + Drop>(alloc: Global, task: Task, text: &[u8], deck: R) -> Served {
+// What a task gives on an output of its own, and behind what it printed how often that was flushed.
+fn done_on<R: Read + Drop>(
+    alloc: Global,
+    task: Task,
+    text: &[u8],
+    deck: R,
+    stop: Option<Stop>,
+) -> Result<Served> {
     let mut served = Served::new(alloc);
-    let mut output = LimitedWriter::new(alloc, usize::MAX, Some(Stop::Fails { write: 1 }));
+    let mut output = LimitedWriter::new(alloc, usize::MAX, stop);
     let ending = do_task(
         alloc,
         task,
@@ -280,7 +310,22 @@ fn done_unwritable<R: Read + Drop>(alloc: Global, task: Task, text: &[u8], deck:
         &mut served.told,
     );
     served.status = ending.status;
-    served
+    served.output.extend_from_slice(output.bytes())?;
+    if stop.is_none() {
+        writeln!(served.output, "flushes {}", output.flushes())?;
+    }
+    Ok(served)
+}
+
+// The deck of a row, and what is to happen to its output, if its own is wanted.
+fn with_output(deck: &str) -> (&str, Option<Option<Stop>>) {
+    if let Some(deck) = deck.strip_suffix("|(unwritable)") {
+        return (deck, Some(Some(Stop::Fails { write: 1 })));
+    }
+    match deck.strip_suffix("|(flushes)") {
+        Some(deck) => (deck, Some(None)),
+        None => (deck, None),
+    }
 }
 
 // A row: its command, its text, and its deck with all after that.
@@ -308,10 +353,7 @@ fn row_of(line: &str) -> Option<Row<'_>> {
 // What the command of a row gives on a text.
 fn row_answer(rt: &HostRuntime, row: Row, text: &[u8]) -> Result<Served> {
     let alloc = rt.alloc();
-    let (deck, is_unwritable) = match row.deck.strip_suffix("|(unwritable)") {
-        Some(deck) => (deck, true),
-        None => (row.deck, false),
-    };
+    let (deck, own_output) = with_output(row.deck);
     let deck = RowDeck::of(rt, deck)?;
     if let Some(orders) = row.command.strip_prefix("replay --orders ") {
         let orders = bytes_of(rt, orders)?;
@@ -321,10 +363,10 @@ fn row_answer(rt: &HostRuntime, row: Row, text: &[u8]) -> Result<Served> {
     if row.command == "run decks" {
         return Served::run_decks(alloc, text, deck.cards.as_slice());
     }
-    match task_of(row.command) {
-        Some(task) if is_unwritable => Ok(done_unwritable(alloc, task, text, deck.reader())),
-        Some(task) => Ok(Served::of(alloc, task, text, deck.reader())),
-        None => Ok(mistaken(alloc, row.command)),
+    match (task_of(row.command), own_output) {
+        (Some(task), Some(stop)) => done_on(alloc, task, text, deck.reader(), stop),
+        (Some(task), None) => Ok(Served::of(alloc, task, text, deck.reader())),
+        (None, _) => Ok(mistaken(alloc, row.command)),
     }
 }
 
