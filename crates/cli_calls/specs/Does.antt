@@ -79,7 +79,8 @@ module _ (old new before after : Option (List ℕ)) (Unprinted Untold : Type 0) 
   -- the pages of a deck, card by card
   abbrev pub Runs : (chart : List ℕ) (deck : Option (List ℕ)) → Type 0
   Runs chart deck = DoneOrAbove ending.status (HasRunWhole chart deck old new × Untold)
-      ((told : Fault) × (ending.status ≡ status_of told) × EndsRun chart deck old new told Unprinted × Tells told)
+      ((told : Fault) × (ending.status ≡ status_of told) × ((left : Option (List ℕ)) × EndsRun chart deck left old new told Unprinted)
+      × Tells told)
 
   -- the same of a chart and a deck in one text
   pub record RunsTogether (text : List ℕ) : Type 0 where
@@ -91,7 +92,7 @@ module _ (old new before after : Option (List ℕ)) (Unprinted Untold : Type 0) 
   -- pages of a deck once it has run whole
   abbrev pub RunsWhole : (chart : List ℕ) (deck : Option (List ℕ)) → PageRange → Type 0
   RunsWhole chart deck pages = DoneOrAbove ending.status (HasPrintedChosen chart deck pages old new × Untold)
-      ((told : Unexplained) × (ending.status ≡ unexplained_status told) × StopsWhole chart deck pages told Unprinted
+      ((told : Unexplained) × (ending.status ≡ unexplained_status told) × ((left : Option (List ℕ)) × StopsWhole chart deck left pages told Unprinted)
       × IsToldUnexplained told ending.is_told before after)
 
   -- a command of `commands`

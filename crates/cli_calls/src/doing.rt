@@ -94,7 +94,7 @@ pub fn do_task<R: Read + Drop, W: Write, V: Write>(
     text: &[u8],
     other: &[u8],
     path: &str,
-    deck: R,
+    mut deck: R,
     shows_both: bool,
     out: &mut W,
     faults: &mut V,
@@ -104,10 +104,10 @@ pub fn do_task<R: Read + Drop, W: Write, V: Write>(
         (Fault.File path.entry) shows_both task }
 {
     match task {
-        Task::Run => run_to_end(alloc, text, deck, out, faults),
-        Task::RunWhole => run_whole_to_end(alloc, text, deck, PageRange::all(), out, faults),
+        Task::Run => run_to_end(alloc, text, &mut deck, out, faults),
+        Task::RunWhole => run_whole_to_end(alloc, text, &mut deck, PageRange::all(), out, faults),
         Task::RunPages { pages } => {
-            run_whole_to_end(alloc, text, deck, range_of(pages), out, faults)
+            run_whole_to_end(alloc, text, &mut deck, range_of(pages), out, faults)
         }
         Task::RunTogether => run_together(alloc, text, out, faults),
         Task::Check => serve_command(alloc, Command::Check, text, path, deck, out, faults),
