@@ -13,58 +13,58 @@ taken listed bytes old new is put = let P : List ℕ → Type 0 = λ all. Append
 text_taken : (text listed : List ℕ) (old new : Option (List ℕ)) (told : Fault) → ListsText text (Some []) (Some listed) told
     → Appends old new listed → ListsText text old new told
 text_taken text listed old new told lists put = record {
-    cause = lists.cause;
-    at_fault = lists.at_fault;
-    lines = lists.lines;
-    misread = lists.misread;
-    is_told = lists.is_told;
-    rest = lists.rest;
-    behind = lists.behind;
-    written = taken listed _ old new lists.written put
-  }
+  cause = lists.cause;
+  at_fault = lists.at_fault;
+  lines = lists.lines;
+  misread = lists.misread;
+  is_told = lists.is_told;
+  rest = lists.rest;
+  behind = lists.behind;
+  written = taken listed _ old new lists.written put;
+}
 
 rules_taken : (text listed : List ℕ) (old new : Option (List ℕ)) (told : Fault) → ListsRules text (Some []) (Some listed) told
     → Appends old new listed → ListsRules text old new told
 rules_taken text listed old new told lists put = record {
-    chart = lists.chart;
-    reads = lists.reads;
-    list = lists.list;
-    all = lists.all;
-    ordered = lists.ordered;
-    rule = lists.rule;
-    line = lists.line;
-    broken = lists.broken;
-    first = lists.first;
-    is_told = lists.is_told;
-    written = taken listed _ old new lists.written put
-  }
+  chart = lists.chart;
+  reads = lists.reads;
+  list = lists.list;
+  all = lists.all;
+  ordered = lists.ordered;
+  rule = lists.rule;
+  line = lists.line;
+  broken = lists.broken;
+  first = lists.first;
+  is_told = lists.is_told;
+  written = taken listed _ old new lists.written put;
+}
 
 capacity_taken : (text listed : List ℕ) (old new : Option (List ℕ)) (told : Fault) → ListsCapacity text (Some []) (Some listed) told
     → Appends old new listed → ListsCapacity text old new told
 capacity_taken text listed old new told lists put = record {
-    chart = lists.chart;
-    reads = lists.reads;
-    lawful = lists.lawful;
-    cause = lists.cause;
-    exceeds = lists.exceeds;
-    all = lists.all;
-    are_all = lists.are_all;
-    first = lists.first;
-    is_told = lists.is_told;
-    written = taken listed _ old new lists.written put
-  }
+  chart = lists.chart;
+  reads = lists.reads;
+  lawful = lists.lawful;
+  cause = lists.cause;
+  exceeds = lists.exceeds;
+  all = lists.all;
+  are_all = lists.are_all;
+  first = lists.first;
+  is_told = lists.is_told;
+  written = taken listed _ old new lists.written put;
+}
 
 wiring_taken : (text listed : List ℕ) (old new : Option (List ℕ)) (told : Fault) → ListsWiring text (Some []) (Some listed) told
     → Appends old new listed → ListsWiring text old new told
 wiring_taken text listed old new told lists put = record {
-    first = lists.first;
-    others = lists.others;
-    good = lists.good;
-    are = lists.are;
-    at_fault = lists.at_fault;
-    is_told = lists.is_told;
-    written = taken listed _ old new lists.written put
-  }
+  first = lists.first;
+  others = lists.others;
+  good = lists.good;
+  are = lists.are;
+  at_fault = lists.at_fault;
+  is_told = lists.is_told;
+  written = taken listed _ old new lists.written put;
+}
 
 listing_taken : (text listed : List ℕ) (old new : Option (List ℕ)) (told : Fault) → EndsListing text (Some []) (Some listed) told
     → Appends old new listed → EndsListing text old new told
