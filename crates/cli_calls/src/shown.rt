@@ -43,7 +43,7 @@ fn tell_listed<W: Write, V: Write>(
     out: &mut W,
     faults: &mut V,
 ) -> Ending
-    requires { EndsText text.now (Some []) (Some listed.now) fault.entry }
+    requires { EndsText text.now (Some []) (Some listed.now) fault }
     ensures { (told : Fault) × (result.status ≡ status_of told) × EndsText text.now (W.contents out.old) (W.contents out.new) told
         × IsTold told result.is_told (V.contents faults.old) (V.contents faults.new) }
 {

@@ -3,3 +3,28 @@ use Rattle.cli_calls.proofs.doing.do_task.Goals as goal
 
 pub returns-in-ShowDeck : goal.returns-in-ShowDeck
 returns-in-ShowDeck g c = rw c.in-ShowDeck.is c.show_deck.ensures
+
+pub returns-in-Explain : goal.returns-in-Explain
+returns-in-Explain g c =
+    let end = c.tell_to_end.ensures in
+    rw c.in-Explain.is (record { done = end.done; refused = end.refused; device = end.device; memory = end.memory; statuses = end.statuses })
+
+pub returns-in-Ledger : goal.returns-in-Ledger
+returns-in-Ledger g c =
+    let end = c.tell_to_end-in-Ledger.ensures in
+    rw c.in-Ledger.is (record { done = end.done; refused = end.refused; device = end.device; memory = end.memory; statuses = end.statuses })
+
+pub returns-in-Trace : goal.returns-in-Trace
+returns-in-Trace g c =
+    let end = c.trace_to_end.ensures in
+    rw c.in-Trace.is (record { done = end.done; refused = end.refused; device = end.device; memory = end.memory; statuses = end.statuses })
+
+pub returns-in-Show : goal.returns-in-Show
+returns-in-Show g c =
+    let end = c.show_to_end.ensures in
+    rw c.in-Show.is (record { done = end.done; refused = end.refused; device = end.device; memory = end.memory; statuses = end.statuses })
+
+pub returns-in-Fold : goal.returns-in-Fold
+returns-in-Fold g c =
+    let end = c.fold_to_end.ensures in
+    rw (c.in-Fold.is, ← c.character.ensures.same) (record { done = end.done; refused = end.refused; statuses = end.statuses })

@@ -13,8 +13,8 @@ returns-in-Ok g c =
     let told = c.tell_deck_of_wiring.ensures in
     of_wiring _ (sym c.is_wiring_text.ensures ∙ c.if-is_wiring_text.true) answers told.status refl told.line
 
-pub returns : goal.returns
-returns g c =
+pub returns-in-Ok-2 : goal.returns-in-Ok-2
+returns-in-Ok-2 g c =
     let answers = subst (λ (none : List ℕ). AnswersText c.args.text.now (Some none) (Some c.list_text.new.out.items)) c.new-listed.ensures.items
     c.in-Ok-2.ensures.fine in
     of_chart _ (sym c.is_wiring_text.ensures ∙ c.if-is_wiring_text.false) answers c.show_cards.ensures
