@@ -28,3 +28,30 @@ pub returns-in-Fold : goal.returns-in-Fold
 returns-in-Fold g c =
     let end = c.fold_to_end.ensures in
     rw (c.in-Fold.is, ← c.character.ensures.same) (record { done = end.done; refused = end.refused; statuses = end.statuses })
+
+pub returns-in-Run : goal.returns-in-Run
+returns-in-Run g c =
+    let end = c.run_to_end.ensures in
+    rw c.in-Run.is (record {
+      done = end.done;
+      stopped = λ above. let stop = end.stopped above in (stop.0, stop.1, (_, stop.2), stop.3);
+      statuses = end.statuses;
+    })
+
+pub returns-in-RunWhole : goal.returns-in-RunWhole
+returns-in-RunWhole g c =
+    let end = c.run_whole_to_end.ensures in
+    rw c.in-RunWhole.is (record {
+      done = end.done;
+      stopped = λ above. let stop = end.stopped above in (stop.0, stop.1, (_, stop.2), stop.3);
+      statuses = end.statuses;
+    })
+
+pub returns-in-RunPages : goal.returns-in-RunPages
+returns-in-RunPages g c =
+    let end = c.run_whole_to_end-in-RunPages.ensures in
+    rw (c.in-RunPages.is, ← c.range_of.ensures) (record {
+      done = end.done;
+      stopped = λ above. let stop = end.stopped above in (stop.0, stop.1, (_, stop.2), stop.3);
+      statuses = end.statuses;
+    })
