@@ -1,5 +1,5 @@
 -- What was listed in memory, and is then taken by an output, is listed on the output.
-use Rattle.std.proofs.Common.{◌≡◌, ◌⊎◌, ℕ, List, [], Option, Some, inl, inr, subst}
+use Rattle.std.proofs.Common.{ℕ, List, [], Option, Some, inl, inr, subst}
 use Rattle.std.specs.Io.KnownBytes.{Appends}
 use Rattle.fault_lists.specs.Endings.{EndsListing, IsBrokenOff, ListsCapacity, ListsRules, ListsText, by_text, by_rules, by_capacity, broken_off}
 use Rattle.faults.specs.declared.fault.Fault.{Fault}

@@ -1,5 +1,5 @@
 -- What is told of a check.
-use Rattle.std.proofs.Common.{◌≡◌, ◌≢◌, ◌⊎◌, ◌&&◌, ℕ, Bool, true, false, List, Option, Result, Ok, Err, OnOk, IfErr, inl, inr, sym, ◌∙◌, arith}
+use Rattle.std.proofs.Common.{◌≡◌, ◌≢◌, ◌&&◌, ℕ, Bool, true, false, List, Option, Result, Ok, Err, OnOk, IfErr, inl, inr, sym, ◌∙◌, arith}
 use Rattle.check_calls.specs.Telling.{heads_list}
 use Rattle.cli_calls.specs.Ends.{DoneOrStopped, IsToldOnce}
 use Rattle.faults.specs.Lines.{IsTold}

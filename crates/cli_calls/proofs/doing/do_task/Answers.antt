@@ -1,4 +1,3 @@
-use Rattle.std.proofs.Common.{◌≡◌}
 use Rattle.cli_calls.proofs.doing.do_task.Goals as goal
 
 pub returns-in-ShowDeck : goal.returns-in-ShowDeck
