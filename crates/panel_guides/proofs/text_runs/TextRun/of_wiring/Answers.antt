@@ -1,4 +1,4 @@
-use Rattle.std.proofs.Common.{◌∙◌, inl}
+use Rattle.std.proofs.Common.{inl}
 use Rattle.std.proofs.lemmas.Result.{err_from_is_err_and}
 use Rattle.panel_charts.specs.KnownCharts.{known_in}
 use Rattle.panel_guides.proofs.Explaining.{read_serves}
