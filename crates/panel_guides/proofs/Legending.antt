@@ -30,10 +30,14 @@ memory_refuses (Ok _) text memory = tt
 memory_refuses (Err told) text memory = λ not_memory. absurd (not_memory memory)
 
 -- the answer was written
+pub legend_written : (text answer bytes : List ℕ) (old new : Option (List ℕ)) → IsLegendOf text answer → bytes ≡ answer
+    → Appends old new bytes → PrintsLegend text old new
+legend_written text answer bytes old new is same written =
+    record { answer = answer; is_legend = is; written = subst (λ (put : List ℕ). Appends old new put) same written }
+
 pub printed : {X E : Type 0} (result : Result X E) (text answer bytes : List ℕ) (old new : Option (List ℕ)) → IsLegendOf text answer
     → bytes ≡ answer → OnOk result (Appends old new bytes) → OnOk result (PrintsLegend text old new)
-printed (Ok _) text answer bytes old new is same written =
-    record { answer = answer; is_legend = is; written = subst (λ (put : List ℕ). Appends old new put) same written }
+printed (Ok _) text answer bytes old new is same written = legend_written text answer bytes old new is same written
 printed (Err _) text answer bytes old new is same written = tt
 
 -- a chart that is refused, and an output that can't be written

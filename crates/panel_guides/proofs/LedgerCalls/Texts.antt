@@ -59,14 +59,19 @@ below_in_run text run setup cards totals scope its place told basis same_setup s
     (subst (λ (of : List TitledAccount). TellsBelow setup cards of scope place told basis) same_totals below)))
 
 -- a deck that is known is the one in memory
-pub prints_for : {X E : Type 0} (result : Result X E) (text read items : List ℕ) (deck old new : Option (List ℕ)) (question : Question)
-    (place : Place) → read ≡ items → IfSome deck (λ known. items ≡ known) → OnOk result (PrintsTelling text (Some read) question place old new)
-    → OnOk result (PrintsTelling text deck question place old new)
-prints_for (Ok _) text read items deck old new question place same is_deck is = record {
+pub telling_for : (text read items : List ℕ) (deck old new : Option (List ℕ)) (question : Question) (place : Place) → read ≡ items
+    → IfSome deck (λ known. items ≡ known) → PrintsTelling text (Some read) question place old new → PrintsTelling text deck question place old new
+telling_for text read items deck old new question place same is_deck is = record {
   read = is.read;
   is_deck = subst (λ (bytes : List ℕ). IfSome deck (λ known. bytes ≡ known)) (sym (is.is_deck ∙ same)) is_deck;
   answer = is.answer;
   told = is.told;
   written = is.written;
 }
+
+pub prints_for : {X E : Type 0} (result : Result X E) (text read items : List ℕ) (deck old new : Option (List ℕ)) (question : Question)
+    (place : Place) → read ≡ items → IfSome deck (λ known. items ≡ known) → OnOk result (PrintsTelling text (Some read) question place old new)
+    → OnOk result (PrintsTelling text deck question place old new)
+prints_for (Ok _) text read items deck old new question place same is_deck is =
+    telling_for text read items deck old new question place same is_deck is
 prints_for (Err _) text read items deck old new question place same is_deck is = tt

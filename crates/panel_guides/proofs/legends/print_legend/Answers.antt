@@ -1,6 +1,6 @@
-use Rattle.std.proofs.Common.{inr, refl, Ok}
+use Rattle.std.proofs.Common.{inr, refl}
 use Rattle.std.proofs.lemmas.Result.{err_from_is_err_and}
-use Rattle.panel_guides.proofs.Legending.{chart_stops, output_stops_legend, printed}
+use Rattle.panel_guides.proofs.Legending.{chart_stops, legend_written, output_stops_legend, printed}
 use Rattle.program_io.proofs.Fronting.{front_of_bytes}
 use Rattle.panel_guides.proofs.legends.print_legend.Goals as goal
 
@@ -20,5 +20,5 @@ returns-clause-stopped g c = output_stops_legend c.put.result c.args.chart.now _
 pub returns-clause-front : goal.returns-clause-front
 returns-clause-front g c =
     inr (front_of_bytes c.as_slice.result.now (λ after.
-    printed (Ok tt) c.args.chart.now c.in_ok-answer.answer.items c.as_slice.result.now _ after c.in_ok-answer.ensures.legend
+    legend_written c.args.chart.now c.in_ok-answer.answer.items c.as_slice.result.now _ after c.in_ok-answer.ensures.legend
     c.as_slice.ensures.value) c.put.ensures.front)

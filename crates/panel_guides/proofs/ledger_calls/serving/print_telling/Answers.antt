@@ -1,8 +1,8 @@
-use Rattle.std.proofs.Common.{refl, Ok}
+use Rattle.std.proofs.Common.{refl}
 use Rattle.std.proofs.lemmas.Result.{err_from_is_err_and}
 use Rattle.panel_guides.proofs.Stopping.{refused_unread, stops_for}
 use Rattle.program_io.proofs.StoppingWith.{deck_stops_with}
-use Rattle.panel_guides.proofs.LedgerCalls.Texts.{prints_for}
+use Rattle.panel_guides.proofs.LedgerCalls.Texts.{prints_for, telling_for}
 use Rattle.program_io.proofs.Fronting.{none_or_front_again}
 use Rattle.panel_guides.proofs.ledger_calls.serving.print_telling.Goals as goal
 
@@ -29,5 +29,5 @@ returns-in_ok-check_panel-in-Err-clause-stopped g c =
 pub returns-in-Ok-clause-front : goal.returns-in-Ok-clause-front
 returns-in-Ok-clause-front g c =
     none_or_front_again (λ after.
-    prints_for (Ok tt) c.args.text.now c.as_slice.result.now c.in-Ok.bytes.items (g.R.Read.remaining c.args.deck) _ after
+    telling_for c.args.text.now c.as_slice.result.now c.in-Ok.bytes.items (g.R.Read.remaining c.args.deck) _ after
     c.args.question c.args.place c.as_slice.ensures.value c.in-Ok.ensures.whole) c.print_told.ensures.front
