@@ -142,7 +142,7 @@ fn explain_chart(alloc: Global, example: &Example, code: &str) -> Result<(Walked
 fn explain_panel(alloc: Global, example: &Example, code: &str) -> Result<Walked> {
     let pages = text_of(
         alloc,
-        "replay",
+        Task::Replay,
         example.text.as_bytes(),
         example.deck.as_bytes(),
     )?;

@@ -10,13 +10,29 @@ use std::alloc::Global;
 use std::fs;
 use std::io::Write;
 
+/// A task that is given texts.
+#[derive(Clone, Copy)]
+pub enum Given {
+    Check,
+    Replay,
+}
+
+impl Given {
+    fn task(self) -> Task {
+        match self {
+            Given::Check => Task::Check,
+            Given::Replay => Task::Replay,
+        }
+    }
+}
+
 /// What is done with the text of a file.
 #[derive(Clone, Copy)]
 pub enum Trial {
     /// A task is given the text cut after each of its bytes, and a deck.
-    Cut { task: Task, deck: &'static str },
+    Cut { given: Given, deck: &'static str },
     /// A task is given the text with each byte in front of the other bytes.
-    Behind { task: Task, after: &'static str },
+    Behind { given: Given, after: &'static str },
     /// Each byte is a deck of one card.
     Card,
 }
@@ -105,8 +121,10 @@ fn write_decks<W: Write>(alloc: Global, out: &mut W, chart: &[u8]) -> Result<()>
 // Writes what is told of a text.
 fn write_for<W: Write>(alloc: Global, out: &mut W, trial: Trial, text: &[u8]) -> Result<()> {
     match trial {
-        Trial::Cut { task, deck } => write_cuts(alloc, out, task, text, deck.as_bytes()),
-        Trial::Behind { task, after } => { write_bytes(alloc, out, task, text, after.as_bytes()) }
+        Trial::Cut { given, deck } => write_cuts(alloc, out, given.task(), text, deck.as_bytes()),
+        Trial::Behind { given, after } => {
+            write_bytes(alloc, out, given.task(), text, after.as_bytes())
+        }
         Trial::Card => write_decks(alloc, out, text),
     }
 }

@@ -2,7 +2,7 @@
 
 use crate::command_cases::{write_row, write_told};
 use crate::explained_cases::{write_chart, write_panel};
-use crate::hostile_cases::{Trial, write_trial};
+use crate::hostile_cases::{Given, Trial, write_trial};
 use crate::match_cases::write_match;
 use crate::read_back_cases::{write_read_back, write_wired_back};
 use crate::report_cases::{write_pages, write_report};
@@ -11,7 +11,6 @@ use crate::shown_cases::write_shown;
 use crate::upgrade_cases::write_upgrade;
 use crate::wiring_cases::write_wiring;
 use anyhow::Result;
-use cli_tasks::Task;
 use std::fs;
 use std::io::Write;
 
@@ -81,19 +80,19 @@ static PARTS: [Part; 45] = [
     Part::Told,
     Part::Heading("== hostile"),
     Part::Heading("bolts.chart cut after each byte"),
-    Part::Trial("commands/bolts.chart", Trial::Cut { task: Task::Check, deck: "" }),
+    Part::Trial("commands/bolts.chart", Trial::Cut { given: Given::Check, deck: "" }),
     Part::Heading("three-levels-and-a-grand-total.chart cut after each byte"),
-    Part::Trial("reports/three-levels-and-a-grand-total.chart", Trial::Cut { task: Task::Check, deck: "" }),
+    Part::Trial("reports/three-levels-and-a-grand-total.chart", Trial::Cut { given: Given::Check, deck: "" }),
     Part::Heading("one_total.wiring cut after each byte"),
-    Part::Trial("panels/one_total.wiring", Trial::Cut { task: Task::Replay, deck: "005\n" }),
+    Part::Trial("panels/one_total.wiring", Trial::Cut { given: Given::Replay, deck: "005\n" }),
     Part::Heading("hand_wiring_with_a_pilot_loop.wiring cut after each byte"),
-    Part::Trial("panels/hand_wiring_with_a_pilot_loop.wiring", Trial::Cut { task: Task::Replay, deck: "12\n" }),
+    Part::Trial("panels/hand_wiring_with_a_pilot_loop.wiring", Trial::Cut { given: Given::Replay, deck: "12\n" }),
     Part::Heading("bolts.chart and each byte"),
-    Part::Trial("commands/bolts.chart", Trial::Behind { task: Task::Check, after: "" }),
+    Part::Trial("commands/bolts.chart", Trial::Behind { given: Given::Check, after: "" }),
     Part::Heading("CHART407, each byte, 1 and the end"),
-    Part::Trial("hostile/first_word", Trial::Behind { task: Task::Check, after: "1\nEND\n" }),
+    Part::Trial("hostile/first_word", Trial::Behind { given: Given::Check, after: "1\nEND\n" }),
     Part::Heading("one_total.wiring and each byte"),
-    Part::Trial("panels/one_total.wiring", Trial::Behind { task: Task::Replay, after: "" }),
+    Part::Trial("panels/one_total.wiring", Trial::Behind { given: Given::Replay, after: "" }),
     Part::Heading("a card of each byte"),
     Part::Trial("commands/bolts.chart", Trial::Card),
     Part::Heading("== explained"),

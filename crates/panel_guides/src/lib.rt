@@ -13,13 +13,13 @@
 mod answers;
 mod asking;
 mod entries;
+mod known_totals;
 mod laws;
 pub mod ledger_calls;
 mod legends;
 mod panels;
 mod place;
 mod text_runs;
-mod totals;
 pub mod trace_calls;
 mod unexplained;
 

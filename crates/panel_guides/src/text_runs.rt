@@ -1,8 +1,8 @@
 //! The run of a text and a deck, with the chart that is known of its panel.
 
 use crate::asking::{asked_by_lines, asked_on_panel};
+use crate::known_totals::{totals_by_chart, totals_on_panel};
 use crate::panels::{PlannedRun, WiredRun, is_wiring_text, planned_run, wired_run};
-use crate::totals::{totals_by_chart, totals_on_panel};
 use card_code::Card;
 use faults::Fault;
 use panel_charts::{PanelChart, wired_chart};

@@ -220,12 +220,12 @@ fn nearest_tried(alloc: Global, setup: &Setup) -> Result<PanelChart, ChartFault>
     }
 }
 
-/// The chart that is nearest to a panel, of those that are tried: first what is read off the panel at once, as [`wired_chart`] answers it; else
-/// the panel is read back without the lines that a chart can't have, and if it isn't wired for what is read then, and
-/// there are fewer than 1,024 slips, panels with one thing changed are. A wire that was put into the hub beside counts as one
-/// slip; of two charts that are as near the one with fewer lines is taken, and else the one with more such wires. What is answered of the
-/// panel is as of `read_back`: the chart compiles, `Matched` tells a plan by which the panel itself is wired for it, and `Differs` exactly
-/// what is missing and what is extra on it.
+/// The chart that is nearest to a panel, of those that are tried: first what is read off the panel at once, as [`wired_chart`] answers it;
+/// else the panel is read back without the lines that a chart can't have, and if it isn't wired for what is read then, and there are fewer
+/// than 1,024 slips, panels with one thing changed are. A wire that was put into the hub beside counts as one slip; of two charts that are
+/// as near the one with fewer lines is taken, and else the one with more such wires. What is answered of the panel is as of `read_back`: the
+/// chart compiles, `Matched` tells a plan by which the panel itself is wired for it, and `Differs` exactly what is missing and what is extra
+/// on it.
 ///
 /// # Errors
 ///

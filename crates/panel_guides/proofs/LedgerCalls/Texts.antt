@@ -20,22 +20,23 @@ use Rattle.panel_guides.specs.declared.ledger_calls.telling.Question.{Question}
 use Rattle.wheel_ledgers.specs.declared.chart_totals.TitledAccount.{TitledAccount}
 
 -- the ledger that is told on the panel of a run is of the texts that give it
-pub ledger_in_run : {X E : Type 0} (result : Result X E) (items : X → List ℕ) (text deck : List ℕ) (ends : ℕ) (place : Place) (run : TextRun)
-    (setup : Wiring) (cards : List (List ℕ)) (totals : List TitledAccount) → IsTextRun text deck run → setup ≡ setup_of run
-    → cards ≡ cards_of run → totals ≡ totals_known (known_of text run)
+pub ledger_in_run : {X E : Type 0} (result : Result X E) (items : X → List ℕ) (text deck : List ℕ) (ends its : ℕ) (place : Place)
+    (run : TextRun) (setup : Wiring) (cards : List (List ℕ)) (totals : List TitledAccount) → IsTextRun text deck run → setup ≡ setup_of run
+    → cards ≡ cards_of run → totals ≡ totals_known (known_of text run) → ends ≡ its
     → IfOk result (λ answer. TellsPlace setup cards totals ends place (items answer))
-    → IfOk result (λ answer. IsLedgerText text deck ends place (items answer))
-ledger_in_run (Ok answer) items text deck ends place run setup cards totals is same_setup same_cards same_totals tells = record {
+    → IfOk result (λ answer. IsLedgerText text deck its place (items answer))
+ledger_in_run (Ok answer) items text deck ends its place run setup cards totals is same_setup same_cards same_totals same_ends tells = record {
   wiring = setup_of run;
   cards = cards_of run;
   known = known_of text run;
   run = is.is;
   tells =
-      subst (λ (of : Wiring). TellsPlace of (cards_of run) (totals_known (known_of text run)) ends place (items answer)) same_setup
-      (subst (λ (of : List (List ℕ)). TellsPlace setup of (totals_known (known_of text run)) ends place (items answer)) same_cards
-      (subst (λ (of : List TitledAccount). TellsPlace setup cards of ends place (items answer)) same_totals tells));
+      subst (λ (of : Wiring). TellsPlace of (cards_of run) (totals_known (known_of text run)) its place (items answer)) same_setup
+      (subst (λ (of : List (List ℕ)). TellsPlace setup of (totals_known (known_of text run)) its place (items answer)) same_cards
+      (subst (λ (of : List TitledAccount). TellsPlace setup cards of its place (items answer)) same_totals
+      (subst (λ (of : ℕ). TellsPlace setup cards totals of place (items answer)) same_ends tells)));
 }
-ledger_in_run (Err _) items text deck ends place run setup cards totals is same_setup same_cards same_totals tells = tt
+ledger_in_run (Err _) items text deck ends its place run setup cards totals is same_setup same_cards same_totals same_ends tells = tt
 
 -- a place that lacks on its panel
 pub ledger_lacking : {X : Type 0} (result : Result X Unexplained) (text deck : List ℕ) (place : Place) (run : TextRun) (setup : Wiring)

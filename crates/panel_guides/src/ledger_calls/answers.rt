@@ -1,6 +1,6 @@
 //! Ledgers from the bytes of a text and a deck.
 
-ghost use Rattle.std.specs.Prelude.{◌≢◌, ◌≤◌, length, IfErr, IfOk};
+ghost use Rattle.std.specs.Prelude.{◌≡◌, ◌≢◌, ◌≤◌, length, IfErr, IfOk};
 ghost use Rattle.card_code.specs.MostCards.{most_cards};
 ghost use Rattle.faults.specs.declared.fault.Fault.TheVariants.{Memory};
 ghost use Rattle.panel_guides.specs.LedgerCalls.Ledgers.{IsLedgerText, TellsPlace, ends_told};
@@ -17,6 +17,13 @@ use wheel_ledgers::{TitledAccount, tell_ledger};
 
 // How many entries at each end of a long ledger are told.
 pub(crate) const ENDS: usize = 20;
+
+// How many entries at each end of a ledger are told, whether all of them are asked for or not.
+fn ends_told(all: bool) -> usize
+    ensures { result ≡ ends_told all }
+{
+    if all { usize::MAX } else { ENDS }
+}
 
 // The ledger of the figure on a wheel of a line that a panel prints of cards, by the totals that are known.
 fn told_on<'a>(
@@ -65,13 +72,12 @@ pub fn told_ledger<'a>(
 {
     let run = TextRun::of(alloc, text, deck)?;
     let totals = run.totals(alloc)?;
-    let ends = if all { usize::MAX } else { ENDS };
     told_on(
         alloc,
         run.setup(),
         totals.as_slice(),
         run.cards(),
         place,
-        ends,
+        ends_told(all),
     )
 }

@@ -2,6 +2,7 @@ use Rattle.std.proofs.Common.{◌∙◌}
 use Rattle.std.proofs.lemmas.Result.{err_from_is_err_and}
 use Rattle.panel_guides.proofs.Explaining.{texts_refused}
 use Rattle.panel_guides.proofs.LedgerCalls.Texts.{ledger_in_run, ledger_lacking}
+use Rattle.panel_guides.specs.LedgerCalls.Ledgers.{ends_told}
 use Rattle.panel_guides.proofs.ledger_calls.answers.told_ledger.Goals as goal
 
 pub returns-in_err-run-clause-refused : goal.returns-in_err-run-clause-refused
@@ -17,9 +18,10 @@ returns-in_err-totals-clause-refused c =
 
 pub returns-clause-told : goal.returns-clause-told
 returns-clause-told c =
-    ledger_in_run c.told_on.result (λ answer. answer.items) c.args.text.now c.args.deck.now _ c.args.place c.in_ok-run.run'
-    c.setup.result.now c.cards.result.now c.as_slice.result.now c.in_ok-run.ensures.run c.setup.ensures c.cards.ensures
-    (c.as_slice.ensures.value ∙ c.in_ok-totals.ensures.totals c.args.text.now) c.told_on.ensures.tells
+    ledger_in_run c.told_on.result (λ answer. answer.items) c.args.text.now c.args.deck.now c.ends_told.result (ends_told c.args.all) c.args.place
+    c.in_ok-run.run' c.setup.result.now c.cards.result.now c.as_slice.result.now c.in_ok-run.ensures.run c.setup.ensures c.cards.ensures
+    (c.as_slice.ensures.value ∙ c.in_ok-totals.ensures.totals c.args.text.now) c.ends_told.ensures
+    c.told_on.ensures.tells
 
 pub returns-clause-refused : goal.returns-clause-refused
 returns-clause-refused c =
