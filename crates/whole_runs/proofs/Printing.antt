@@ -1,6 +1,7 @@
 -- What is printed of a report that was held, and what is told if there is none, or no such page.
-use Rattle.std.proofs.Common.{◌≡◌, ◌∙◌, ◌⊎◌, ◌≤◌, inl, inr, ap, subst, arith, ℕ, Bool, false, List, [], Option, Some, Result, Ok, Err, IfSome}
+use Rattle.std.proofs.Common.{◌≡◌, ◌∙◌, ◌⊎◌, ◌≤◌, inl, inr, ap, subst, arith, ℕ, Bool, true, false, List, [], Option, Some, Result, Ok, Err, IfSome}
 use Rattle.std.specs.Prelude.{IfErr, OnOk}
+use Rattle.std.specs.Io.KnownBytes.{Appends}
 use Rattle.commands.specs.Answers.{ArePagesOf}
 use Rattle.commands.specs.Streamed.{EndsRun, HasRunWhole, chart_refused, chart_unread, run_stopped as stopped_in_run}
 use Rattle.faults.specs.Lines.{IsTold}
@@ -12,7 +13,7 @@ use Rattle.program_io.specs.Fronts.{WritesFront}
 use Rattle.panel_guides.specs.Unexplained.{IsToldUnexplained, unexplained_status}
 use Rattle.panel_guides.specs.declared.unexplained.Unexplained.{Unexplained}
 use Rattle.panel_guides.specs.declared.unexplained.Unexplained.TheVariants as why
-use Rattle.whole_runs.specs.Pages.{has_page}
+use Rattle.whole_runs.specs.Pages.{chosen_pages, has_page}
 use Rattle.whole_runs.specs.Whole.{HasPrintedChosen, HasReport, PrintsPages, StopsPages, StopsWhole, lacking, no_such_page, output_unwritten, run_stopped, unwritten}
 use Rattle.whole_runs.specs.declared.pages.PageRange.{PageRange}
 
@@ -72,6 +73,11 @@ module _ {X : Type 0} (result : Result X Unexplained) (text items bytes : List �
           → IfErr any (λ told. StopsWhole text reader left pages told Unprinted)
       by (Ok _) stops = tt
       by (Err told) stops = of told stops
+
+-- the bytes of the chosen pages are written
+pub pages_written : (text bytes : List ℕ) (pages : PageRange) (old new : Option (List ℕ)) → has_page pages.first text ≡ true
+    → bytes ≡ chosen_pages pages.first pages.last text → Appends old new bytes → PrintsPages text pages old new
+pages_written text bytes pages old new there is written = record { there = there; written = subst (Appends old new) is written }
 
 -- the output can't be written
 pub pages_unwritten : (text : List ℕ) (pages : PageRange) (met : Fault) (told : Unexplained) (Unprinted : Type 0)

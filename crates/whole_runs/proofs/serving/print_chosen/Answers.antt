@@ -1,7 +1,6 @@
-use Rattle.std.proofs.Common.{◌∙◌, inr, refl, subst, sym}
-use Rattle.std.specs.Io.KnownBytes.{Appends}
+use Rattle.std.proofs.Common.{◌∙◌, inr, refl, sym}
 use Rattle.std.proofs.lemmas.Result.{err_from_is_err_and}
-use Rattle.whole_runs.proofs.Printing.{pages_unwritten}
+use Rattle.whole_runs.proofs.Printing.{pages_unwritten, pages_written}
 use Rattle.program_io.proofs.Fronting.{front_of_bytes}
 use Rattle.whole_runs.specs.Whole.{lacking}
 use Rattle.whole_runs.proofs.serving.print_chosen.Goals as goal
@@ -16,14 +15,12 @@ returns-in_err-put-clause-stopped g c =
 
 pub returns-in_err-put-clause-front : goal.returns-in_err-put-clause-front
 returns-in_err-put-clause-front g c =
-    inr (front_of_bytes c.chosen_pages.result.now (λ after written. record {
-      there = sym c.has_page.ensures ∙ c.if-not-has_page.false;
-      written = subst (Appends (g.W.Write.contents c.args.out.now) after) c.chosen_pages.ensures written;
-    }) c.in_err-put.ensures.front)
+    inr (front_of_bytes c.chosen_pages.result.now (λ after.
+    pages_written c.args.text.now c.chosen_pages.result.now c.args.pages _ after (sym c.has_page.ensures ∙ c.if-not-has_page.false)
+    c.chosen_pages.ensures) c.in_err-put.ensures.front)
 
 pub returns-clause-front : goal.returns-clause-front
 returns-clause-front g c =
-    inr (front_of_bytes c.chosen_pages.result.now (λ after written. record {
-      there = sym c.has_page.ensures ∙ c.if-not-has_page.false;
-      written = subst (Appends (g.W.Write.contents c.args.out.now) after) c.chosen_pages.ensures written;
-    }) c.in_ok-put.ensures.front)
+    inr (front_of_bytes c.chosen_pages.result.now (λ after.
+    pages_written c.args.text.now c.chosen_pages.result.now c.args.pages _ after (sym c.has_page.ensures ∙ c.if-not-has_page.false)
+    c.chosen_pages.ensures) c.in_ok-put.ensures.front)
