@@ -3,6 +3,7 @@ use Rattle.std.proofs.Common.{◌≡◌, ◌≢◌, ◌∙◌, ◌⊎◌, ◌≤
 use Rattle.std.proofs.KnownBytes.{Appends-kept}
 use Rattle.std.specs.Prelude.{IfErr, MatchResult, OnOk, ⊤}
 use Rattle.std.specs.Io.KnownBytes.{Appends, Keeps}
+use Rattle.card_lines.specs.declared.fault.ReadFault.TheVariants as read
 use Rattle.commands.proofs.RunEnds.{line_of, run_device, run_ends_status, run_memory}
 use Rattle.program_io.proofs.Stopping.{stopped_status, told_of_device, told_of_memory}
 use Rattle.commands.specs.Answers.{CompilesAs, HasWiring}
@@ -16,9 +17,11 @@ use Rattle.compile407.specs.Compilation.{Compilation}
 use Rattle.faults.proofs.Statuses.{memory_or_not}
 use Rattle.faults.specs.Lines.{IsTold}
 use Rattle.faults.specs.Status.{status_of}
+use Rattle.faults.specs.declared.deck.RunFault.TheVariants as deck
 use Rattle.faults.specs.declared.fault.Fault.{Fault}
 use Rattle.faults.specs.declared.fault.Fault.TheVariants as fault
 use Rattle.compile407.specs.Below.streamed_runs.Runs.{HasRun, HasStopped, RunsToEnd, StopsShort}
+use Rattle.compile407.specs.Below.streamed_runs.declared.fault.StreamCause.TheVariants as cause
 use Rattle.compile407.specs.Below.streamed_runs.declared.fault.StreamFault.{StreamFault}
 
 -- the report of all bytes of the reader
