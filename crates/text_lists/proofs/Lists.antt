@@ -1,5 +1,5 @@
 -- What a list of the faults of a wiring chart comes to.
-use Rattle.std.proofs.Common.{◌≡◌, ℕ, ◌<◌, ◌≤◌, get_or, length, List, [], ◌∷◌, Option, Result, Ok, Err, OnOk, inl, inr, codes, subst, arith}
+use Rattle.std.proofs.Common.{◌≡◌, ℕ, ◌<◌, ◌≤◌, get_or, length, List, [], ◌∷◌, Option, Result, Ok, Err, OnOk, inl, inr, codes, refl, subst, arith}
 use Rattle.std.specs.Io.KnownBytes.{Appends}
 use Rattle.faults.specs.declared.fault.Fault.{Fault}
 use Rattle.setups.specs.Wiring.{Wiring}
@@ -24,6 +24,11 @@ answers : (text good : List ℕ) (old new : Option (List ℕ)) → AreFaults 500
 answers text good old new are written =
     let read = none_listed are (omega arith) in
     record { wiring = read.0; reads = read.1; written = written }
+
+-- a list that is shorter than one
+pub none_there : {A : Type 0} (list : List A) → length list < 1 → list ≡ []
+none_there [] short = refl
+none_there (first ∷ others) short = absurd (omega (arith, short))
 
 -- no fault is listed
 pub wired_ok : {U : Type 0} (answer : Result U Fault) (text good : List ℕ) (faults : List WiringFault) (old new : Option (List ℕ))
