@@ -51,21 +51,30 @@ returns-clause-stopped g c =
 
 pub returns-in_err-put-clause-front : goal.returns-in_err-put-clause-front
 returns-in_err-put-clause-front g c =
-    inr (c.in_ok-found.found.counts, front_of_bytes c.as_bytes.result.now (λ after written.
-    found_written c.args.chart.now c.args.wiring.now c.in_ok-panels.panels.version c.in_ok-panels.panels.compiled c.in_ok-panels.panels.setup
-    c.in_ok-panels.ensures.are (string_bytes c.in_ok-found.found.text) c.as_bytes.result.now c.as_bytes.ensures.value _ after written
-    c.args.telling c.in_ok-found.found.counts c.in_ok-found.ensures.found) c.in_err-put.ensures.front)
+    inr (
+      c.in_ok-found.found.counts,
+      front_of_bytes c.as_bytes.result.now (λ after written.
+          found_written c.args.chart.now c.args.wiring.now c.in_ok-panels.panels.version c.in_ok-panels.panels.compiled c.in_ok-panels.panels.setup
+          c.in_ok-panels.ensures.are (string_bytes c.in_ok-found.found.text) c.as_bytes.result.now c.as_bytes.ensures.value _ after written
+          c.args.telling c.in_ok-found.found.counts c.in_ok-found.ensures.found) c.in_err-put.ensures.front,
+    )
 
 pub returns-in-None-clause-front : goal.returns-in-None-clause-front
 returns-in-None-clause-front g c =
-    inr (c.in_ok-found.found.counts, front_of_bytes c.as_bytes.result.now (λ after written.
-    found_written c.args.chart.now c.args.wiring.now c.in_ok-panels.panels.version c.in_ok-panels.panels.compiled c.in_ok-panels.panels.setup
-    c.in_ok-panels.ensures.are (string_bytes c.in_ok-found.found.text) c.as_bytes.result.now c.as_bytes.ensures.value _ after written
-    c.args.telling c.in_ok-found.found.counts c.in_ok-found.ensures.found) c.in_ok-put.ensures.front)
+    inr (
+      c.in_ok-found.found.counts,
+      front_of_bytes c.as_bytes.result.now (λ after written.
+          found_written c.args.chart.now c.args.wiring.now c.in_ok-panels.panels.version c.in_ok-panels.panels.compiled c.in_ok-panels.panels.setup
+          c.in_ok-panels.ensures.are (string_bytes c.in_ok-found.found.text) c.as_bytes.result.now c.as_bytes.ensures.value _ after written
+          c.args.telling c.in_ok-found.found.counts c.in_ok-found.ensures.found) c.in_ok-put.ensures.front,
+    )
 
 pub returns-clause-front : goal.returns-clause-front
 returns-clause-front g c =
-    inr (c.in_ok-found.found.counts, front_of_bytes c.as_bytes.result.now (λ after written.
-    found_written c.args.chart.now c.args.wiring.now c.in_ok-panels.panels.version c.in_ok-panels.panels.compiled c.in_ok-panels.panels.setup
-    c.in_ok-panels.ensures.are (string_bytes c.in_ok-found.found.text) c.as_bytes.result.now c.as_bytes.ensures.value _ after written
-    c.args.telling c.in_ok-found.found.counts c.in_ok-found.ensures.found) c.in_ok-put.ensures.front)
+    inr (
+      c.in_ok-found.found.counts,
+      front_of_bytes c.as_bytes.result.now (λ after written.
+          found_written c.args.chart.now c.args.wiring.now c.in_ok-panels.panels.version c.in_ok-panels.panels.compiled c.in_ok-panels.panels.setup
+          c.in_ok-panels.ensures.are (string_bytes c.in_ok-found.found.text) c.as_bytes.result.now c.as_bytes.ensures.value _ after written
+          c.args.telling c.in_ok-found.found.counts c.in_ok-found.ensures.found) c.in_ok-put.ensures.front,
+    )

@@ -36,18 +36,27 @@ returns-clause-stopped g c =
 
 pub returns-in_err-put-clause-front : goal.returns-in_err-put-clause-front
 returns-in_err-put-clause-front g c =
-    inr (c.in_ok-found.found.counts, front_of_bytes c.as_bytes.result.now (λ after.
-    chart_written c.args.wiring.now c.in_ok-found.found.counts (string_bytes c.in_ok-found.found.text) c.as_bytes.result.now _ after
-    c.in_ok-found.ensures.found c.as_bytes.ensures.value) c.in_err-put.ensures.front)
+    inr (
+      c.in_ok-found.found.counts,
+      front_of_bytes c.as_bytes.result.now (λ after.
+          chart_written c.args.wiring.now c.in_ok-found.found.counts (string_bytes c.in_ok-found.found.text) c.as_bytes.result.now _ after
+          c.in_ok-found.ensures.found c.as_bytes.ensures.value) c.in_err-put.ensures.front,
+    )
 
 pub returns-in-None-clause-front : goal.returns-in-None-clause-front
 returns-in-None-clause-front g c =
-    inr (c.in_ok-found.found.counts, front_of_bytes c.as_bytes.result.now (λ after.
-    chart_written c.args.wiring.now c.in_ok-found.found.counts (string_bytes c.in_ok-found.found.text) c.as_bytes.result.now _ after
-    c.in_ok-found.ensures.found c.as_bytes.ensures.value) c.in_ok-put.ensures.front)
+    inr (
+      c.in_ok-found.found.counts,
+      front_of_bytes c.as_bytes.result.now (λ after.
+          chart_written c.args.wiring.now c.in_ok-found.found.counts (string_bytes c.in_ok-found.found.text) c.as_bytes.result.now _ after
+          c.in_ok-found.ensures.found c.as_bytes.ensures.value) c.in_ok-put.ensures.front,
+    )
 
 pub returns-clause-front : goal.returns-clause-front
 returns-clause-front g c =
-    inr (c.in_ok-found.found.counts, front_of_bytes c.as_bytes.result.now (λ after.
-    chart_written c.args.wiring.now c.in_ok-found.found.counts (string_bytes c.in_ok-found.found.text) c.as_bytes.result.now _ after
-    c.in_ok-found.ensures.found c.as_bytes.ensures.value) c.in_ok-put.ensures.front)
+    inr (
+      c.in_ok-found.found.counts,
+      front_of_bytes c.as_bytes.result.now (λ after.
+          chart_written c.args.wiring.now c.in_ok-found.found.counts (string_bytes c.in_ok-found.found.text) c.as_bytes.result.now _ after
+          c.in_ok-found.ensures.found c.as_bytes.ensures.value) c.in_ok-put.ensures.front,
+    )
