@@ -40,7 +40,7 @@ returns-in-Run g c =
 pub returns-in-RunWhole : goal.returns-in-RunWhole
 returns-in-RunWhole g c =
     let end = c.run_whole_to_end.ensures in
-    rw c.in-RunWhole.is (record {
+    rw (c.in-RunWhole.is, ← c.all.ensures) (record {
       done = end.done;
       stopped = λ above. let stop = end.stopped above in (stop.0, stop.1, (_, stop.2), stop.3);
       statuses = end.statuses;
@@ -54,3 +54,15 @@ returns-in-RunPages g c =
       stopped = λ above. let stop = end.stopped above in (stop.0, stop.1, (_, stop.2), stop.3);
       statuses = end.statuses;
     })
+
+pub returns-in-ReplayByOrders : goal.returns-in-ReplayByOrders
+returns-in-ReplayByOrders g c =
+    let end = c.replay_by_orders_to_end.ensures in
+    rw c.in-ReplayByOrders.is
+    (record { done = end.done; refused = end.refused; device = end.device; memory = end.memory; statuses = end.statuses })
+
+pub returns-in-MatchDeck : goal.returns-in-MatchDeck
+returns-in-MatchDeck g c =
+    let end = c.match_deck_to_end.ensures in
+    rw c.in-MatchDeck.is
+    (record { done = end.wired; refused = end.unmatched; device = end.device; memory = end.memory; statuses = end.statuses })
