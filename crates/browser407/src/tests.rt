@@ -13,17 +13,20 @@ use crate::texts::{
     page_check, page_fault, page_fold, page_layout, page_legend, page_list_faults, page_wire,
 };
 
-// A listing of one column, its panel, two cards, and its one page: nothing on line 1, the cards on lines 2 and 3 of the twelve.
+// A listing of one column, its panel in both versions, two cards, and its one page: nothing on line 1, the cards on lines 2 and 3 of the twelve.
 const CHART: &[u8] =
     b"CHART407 2\nFIELD NAME TEXT 1 1\nPRINT DETAIL\nDETAIL 1 NAME\nFORM 12 1 9\nEND\n";
 
-const WIRING: &[u8] = b"WIRING407 2\nFORM 12 1 9\nJACK LIST\nWIRE SR.1 W.1\nEND\n";
+const WIRING: &[u8] = b"WIRING407 1\nFORM 12 1 9\nJACK LIST\nWIRE SR.1 W.1\nEND\n";
+
+const UPGRADED: &[u8] = b"WIRING407 2\nFORM 12 1 9\nJACK LIST\nWIRE SR.1 W.1\nEND\n";
 
 const DECK: &[u8] = b"A\nB\n";
 
 const PAGE: &[u8] = b"\nA\nB\n\n\n\n\n\n\n\n\n\n\x0c";
 
 // What a page lends to a call.
+#[derive(Drop)]
 struct Lent {
     out: [u8; 1024],
     answer: Answer,
@@ -97,7 +100,7 @@ fn charts_and_panels_are_read(rt: HostRuntime) {
     page_wire(alloc, CHART, &mut lent.out, &mut lent.answer);
     assert!(rt; lent.has(WIRING));
     page_upgrade(alloc, WIRING, &mut lent.out, &mut lent.answer);
-    assert!(rt; lent.has(WIRING));
+    assert!(rt; lent.has(UPGRADED));
     page_match(alloc, CHART, WIRING, true, &mut lent.out, &mut lent.answer);
     assert!(rt; lent.has(b"ok\n"));
     page_match_deck(alloc, CHART, WIRING, DECK, &mut lent.out, &mut lent.answer);
