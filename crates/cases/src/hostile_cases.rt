@@ -73,16 +73,16 @@ fn write_told<W: Write>(out: &mut W, number: usize, told: &[u8]) -> Result<()> {
 fn write_cuts<W: Write>(
     alloc: Global,
     out: &mut W,
-    task: Task,
+    given: Given,
     text: &[u8],
     deck: &[u8],
 ) -> Result<()> {
     let mut changes = Changes::new(alloc);
     for (end, _) in text.iter().enumerate() {
-        let told = Served::of(alloc, task, &text[..end], deck).told;
+        let told = Served::of(alloc, given.task(), &text[..end], deck).told;
         changes.write(out, end, told)?;
     }
-    let told = Served::of(alloc, task, text, deck).told;
+    let told = Served::of(alloc, given.task(), text, deck).told;
     changes.write(out, text.len(), told)
 }
 
@@ -96,13 +96,13 @@ fn told_with(alloc: Global, task: Task, before: &[u8], byte: u8, after: &[u8]) -
 fn write_bytes<W: Write>(
     alloc: Global,
     out: &mut W,
-    task: Task,
+    given: Given,
     before: &[u8],
     after: &[u8],
 ) -> Result<()> {
     let mut changes = Changes::new(alloc);
     for byte in 0..=255u8 {
-        let told = told_with(alloc, task, before, byte, after)?;
+        let told = told_with(alloc, given.task(), before, byte, after)?;
         changes.write(out, usize::from(byte), told)?;
     }
     Ok(())
@@ -121,10 +121,8 @@ fn write_decks<W: Write>(alloc: Global, out: &mut W, chart: &[u8]) -> Result<()>
 // Writes what is told of a text.
 fn write_for<W: Write>(alloc: Global, out: &mut W, trial: Trial, text: &[u8]) -> Result<()> {
     match trial {
-        Trial::Cut { given, deck } => write_cuts(alloc, out, given.task(), text, deck.as_bytes()),
-        Trial::Behind { given, after } => {
-            write_bytes(alloc, out, given.task(), text, after.as_bytes())
-        }
+        Trial::Cut { given, deck } => write_cuts(alloc, out, given, text, deck.as_bytes()),
+        Trial::Behind { given, after } => { write_bytes(alloc, out, given, text, after.as_bytes()) }
         Trial::Card => write_decks(alloc, out, text),
     }
 }

@@ -82,16 +82,16 @@ impl<'r, 'a> Deck<'r, 'a> {
     /// `File` of the first one that can't be opened, `Memory` if a growth was refused.
     pub fn open(
         rt: &'r HostRuntime,
-        task: Task,
+        task: &Task,
         paths: &[&'a str],
     ) -> Result<Deck<'r, 'a>, Fault<'a>> {
-        match (task, paths) {
-            (_, []) => Ok(Deck::Missing),
-            (Task::Run | Task::RunWhole | Task::RunPages { .. }, _) => {
-                Ok(Deck::Row(open_all(rt, paths)?))
-            }
-            (Task::ShowDeck, [path, ..]) => Ok(Deck::Unopened(Unopened::new(rt, *path))),
-            (_, [path, ..]) => Ok(Deck::Open(open(rt, *path)?)),
+        let is_row = matches!(task, Task::Run | Task::RunWhole | Task::RunPages { .. });
+        let is_shown = matches!(task, Task::ShowDeck);
+        match paths {
+            [] => Ok(Deck::Missing),
+            _ if is_row => Ok(Deck::Row(open_all(rt, paths)?)),
+            [path, ..] if is_shown => Ok(Deck::Unopened(Unopened::new(rt, *path))),
+            [path, ..] => Ok(Deck::Open(open(rt, *path)?)),
         }
     }
 

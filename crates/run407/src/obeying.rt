@@ -30,14 +30,13 @@ fn writes_over_input<'a>(rt: &HostRuntime, wanted: &Wanted<'a>) -> Result<bool, 
 ///
 /// `File` if a file can't be read, `Write` if the output can't be written, and `Memory`: nothing is done and nothing is told yet.
 pub fn obey<'a>(rt: &HostRuntime, wanted: &Wanted<'a>) -> Result<Ending, Fault<'a>> {
-    let task = wanted.task;
-    if matches!(task, Task::RunTogether) {
+    if matches!(wanted.task, Task::RunTogether) {
         tell_waiting(rt);
     }
     let text = read(rt, wanted.text)?;
     let other = read(rt, wanted.other)?;
     let path = wanted.decks.first().copied().unwrap_or(STANDARD);
-    let deck = Deck::open(rt, task, wanted.decks.as_slice())?;
+    let deck = Deck::open(rt, &wanted.task, wanted.decks.as_slice())?;
     if writes_over_input(rt, wanted)? {
         return Ok(tell_output_read(rt));
     }
@@ -46,7 +45,7 @@ pub fn obey<'a>(rt: &HostRuntime, wanted: &Wanted<'a>) -> Result<Ending, Fault<'
     let cards = Watched::new(rt, deck, is_watched);
     let done = do_task(
         rt.alloc(),
-        task,
+        wanted.task,
         text.as_slice(),
         other.as_slice(),
         path,
