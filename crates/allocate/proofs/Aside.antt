@@ -2,8 +2,8 @@
 use Rattle.std.proofs.Common.{◌≡◌, ap, ℕ, ◌<◌, List, Option, Some, None, ◌⊎◌, inl, inr}
 use Rattle.capacity.specs.Capacities.{Capacities}
 use Rattle.capacity.specs.declared.group.CounterGroup.{CounterGroup}
-use Rattle.plans.specs.declared.counter.TotalCounter.{TotalCounter}
-use Rattle.plans.specs.declared.counter.TotalCounter.TheVariants as of
+use Rattle.chart_plans.specs.declared.plans.counter.TotalCounter.{TotalCounter}
+use Rattle.chart_plans.specs.declared.plans.counter.TotalCounter.TheVariants as of
 use Rattle.allocate.specs.Groups.{IsLowestFree, Takes}
 use Rattle.allocate.specs.HelperTaking.{AreAllTaken, AreTooFew, IsTaken, IsUsed}
 

@@ -10,16 +10,16 @@ use Rattle.std.proofs.lemmas.Option.{get_or_from_slice_get, slice_get-get_or, sl
 use Rattle.std.proofs.lemmas.List.FromFn.{length-map-range_with_len, get_or-map-range_with_len}
 use Rattle.capacity.specs.Capacities.{Capacities, widths, groups_of, groups_at_least, HasGroup, IsAtMost, standard}
 use Rattle.capacity.specs.declared.group.CounterGroup.{CounterGroup}
-use Rattle.wanted.specs.Totals.{NeedsFit, class_of, is_at_least, takes_two, wanted_at}
+use Rattle.chart_plans.specs.WantedWords.Totals.{NeedsFit, class_of, is_at_least, takes_two, wanted_at}
 use Rattle.allocate.specs.HelperCounters.{HasGroupsFor}
-use Rattle.charts.specs.declared.level.Level.TheVariants as level
+use Rattle.chart_lines.specs.declared.charts.level.Level.TheVariants as level
 use Rattle.allocate.specs.Groups.{total_at, counter_at, takes_before}
-use Rattle.plans.specs.Assignments.{IsAssignment}
-use Rattle.plans.specs.Counters.{HasCounter, IsEnoughFor, IsGroupOf}
-use Rattle.plans.specs.declared.counter.TotalCounter.{TotalCounter}
-use Rattle.plans.specs.declared.counter.TotalCounter.TheVariants as of
-use Rattle.plans.proofs.CounterGroups.{width-cases}
-use Rattle.wanted.specs.declared.total.Total.{Total}
+use Rattle.chart_plans.specs.PlansWords.Assignments.{IsAssignment}
+use Rattle.chart_plans.specs.PlansWords.Counters.{HasCounter, IsEnoughFor, IsGroupOf}
+use Rattle.chart_plans.specs.declared.plans.counter.TotalCounter.{TotalCounter}
+use Rattle.chart_plans.specs.declared.plans.counter.TotalCounter.TheVariants as of
+use Rattle.chart_plans.proofs.PlansWords.CounterGroups.{width-cases}
+use Rattle.chart_plans.specs.declared.wanted.total.Total.{Total}
 use Rattle.allocate.proofs.Counting.{count_below, count-mono, count-strict, count-apart, count_by-below}
 use Rattle.allocate.proofs.Held.{lower_group, upper_group, has-lower, has-upper, shares, shared-of, group-of-same, of_class, two_groups}
 use Rattle.allocate.proofs.Orders.{takes_before-trans, takes_before-total, takes_before-self, takes_before-need}

@@ -3,8 +3,8 @@ use Rattle.std.proofs.lemmas.Option.{slice_get_within}
 use Rattle.capacity.specs.Capacities.{Capacities}
 use Rattle.allocate.specs.Exceeded.{FitsMachine, IsFirstOver, in_order}
 use Rattle.allocate.specs.Laws.{FittingChartsHaveNoFault}
-use Rattle.wanted.specs.Wanted.{Wanted}
-use Rattle.wanted.specs.declared.count.Capacity.{Capacity}
+use Rattle.chart_plans.specs.WantedWords.Wanted.{Wanted}
+use Rattle.chart_plans.specs.declared.wanted.count.Capacity.{Capacity}
 use Rattle.allocate.specs.declared.fault.CapacityFault.TheVariants as fault
 
 -- no capacity is the first that is exceeded

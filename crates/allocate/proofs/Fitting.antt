@@ -1,11 +1,11 @@
 -- What fits a machine can be planned.
 use Rattle.std.proofs.Common.{◌≡◌, ◌∙◌, ℕ, ◌<◌, ◌≤◌, List, [], ◌∷◌, length, refl, ap, arith}
 use Rattle.capacity.specs.Capacities.{Capacities, standard, IsAtMost}
-use Rattle.wanted.specs.Wanted.{Parts, Wanted}
-use Rattle.plans.specs.Assignments.{IsAssignment}
-use Rattle.plans.proofs.Numbers.{in-order}
-use Rattle.plans.specs.PartNumbers.{AreInOrder}
-use Rattle.plans.specs.Plans.{Lists, IsWithinMachine, Serves}
+use Rattle.chart_plans.specs.WantedWords.Wanted.{Parts, Wanted}
+use Rattle.chart_plans.specs.PlansWords.Assignments.{IsAssignment}
+use Rattle.chart_plans.proofs.PlansWords.Numbers.{in-order}
+use Rattle.chart_plans.specs.PlansWords.PartNumbers.{AreInOrder}
+use Rattle.chart_plans.specs.PlansWords.Plans.{Lists, IsWithinMachine, Serves}
 use Rattle.allocate.specs.Exceeded.{FitsMachine}
 use Rattle.allocate.specs.HelperCounters.{HasGroupsFor}
 use Rattle.allocate.proofs.Assignments.{HasGroupsFor-from, IsAssignment-standard}

@@ -8,8 +8,8 @@ use Rattle.std.proofs.lemmas.Bool.{ltb-true, ltb-false}
 use Rattle.std.proofs.lemmas.List.Sums.{sum_by-cons}
 use Rattle.capacity.specs.Capacities.{Capacities, groups_of, groups_at_least, HasGroup}
 use Rattle.capacity.specs.declared.group.CounterGroup.{CounterGroup}
-use Rattle.wanted.specs.Totals.{class_of}
-use Rattle.plans.proofs.CounterGroups.{width-cases, same_group}
+use Rattle.chart_plans.specs.WantedWords.Totals.{class_of}
+use Rattle.chart_plans.proofs.PlansWords.CounterGroups.{width-cases, same_group}
 
 -- how many groups are wider than a width
 abbrev pub wider : Capacities → ℕ → ℕ

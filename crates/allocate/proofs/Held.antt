@@ -3,11 +3,11 @@ use Rattle.std.proofs.Common.{◌≡◌, ◌≢◌, ◌∙◌, refl, sym, ap, �
 use Rattle.std.proofs.lemmas.Bool.Decides.{nat_tests}
 use Rattle.capacity.specs.Capacities.{Capacities, HasGroup}
 use Rattle.capacity.specs.declared.group.CounterGroup.{CounterGroup}
-use Rattle.plans.specs.Counters.{HasCounter, IsEnoughFor, IsGroupOf, SharesGroup}
-use Rattle.plans.specs.declared.counter.TotalCounter.{TotalCounter}
-use Rattle.plans.specs.declared.counter.TotalCounter.TheVariants as of
-use Rattle.plans.proofs.CounterGroups.{width-cases}
-use Rattle.wanted.specs.Totals.{class_of}
+use Rattle.chart_plans.specs.PlansWords.Counters.{HasCounter, IsEnoughFor, IsGroupOf, SharesGroup}
+use Rattle.chart_plans.specs.declared.plans.counter.TotalCounter.{TotalCounter}
+use Rattle.chart_plans.specs.declared.plans.counter.TotalCounter.TheVariants as of
+use Rattle.chart_plans.proofs.PlansWords.CounterGroups.{width-cases}
+use Rattle.chart_plans.specs.WantedWords.Totals.{class_of}
 use Rattle.allocate.specs.Groups.{IsLowestFree, Takes, is_before}
 use Rattle.allocate.proofs.GroupPlaces.{class_of-le, class_of-most}
 use Rattle.allocate.proofs.Orders.{same_or_lower}

@@ -6,8 +6,8 @@ use Rattle.capacity.specs.Capacities.{Capacities, HasGroup}
 use Rattle.capacity.specs.declared.group.CounterGroup.{CounterGroup}
 use Rattle.allocate.specs.Groups.{is_before, IsLowestFree}
 use Rattle.allocate.specs.HelperTaking.{IsLowestNumber, IsWidthTaken, AreAllTaken}
-use Rattle.plans.proofs.CounterGroups.{same_group}
-use Rattle.plans.proofs.CounterGroups.{width-cases}
+use Rattle.chart_plans.proofs.PlansWords.CounterGroups.{same_group}
+use Rattle.chart_plans.proofs.PlansWords.CounterGroups.{width-cases}
 
 -- a number more is taken
 pub taken-more : (width number : ℕ) (IsTaken : CounterGroup → Type 0)

@@ -3,13 +3,13 @@ use Rattle.std.proofs.Common.{◌≡◌, ◌∙◌, refl, sym, ap, ℕ, ◌≤�
 use Rattle.std.proofs.lemmas.Bool.{cases_lt}
 use Rattle.capacity.specs.Capacities.{Capacities}
 use Rattle.allocate.specs.Exceeded.{HasCapacityFault, IsExceeded, IsFirstAmong, IsFirstOver, in_order}
-use Rattle.wanted.specs.Units.{IsLowestOf}
-use Rattle.plans.specs.Excess.{count_there}
-use Rattle.wanted.specs.Counts.{count_wanted}
+use Rattle.chart_plans.specs.WantedWords.Units.{IsLowestOf}
+use Rattle.chart_plans.specs.PlansWords.Excess.{count_there}
+use Rattle.chart_plans.specs.WantedWords.Counts.{count_wanted}
 use Rattle.allocate.specs.Laws.{ChartsExceedOneCapacity}
-use Rattle.wanted.specs.Wanted.{Wanted}
-use Rattle.wanted.specs.declared.count.Capacity.{Capacity}
-use Rattle.wanted.specs.declared.count.Capacity.TheVariants as of
+use Rattle.chart_plans.specs.WantedWords.Wanted.{Wanted}
+use Rattle.chart_plans.specs.declared.wanted.count.Capacity.{Capacity}
+use Rattle.chart_plans.specs.declared.wanted.count.Capacity.TheVariants as of
 use Rattle.allocate.specs.declared.fault.CapacityFault.{CapacityFault}
 use Rattle.allocate.specs.declared.fault.CapacityFault.TheVariants as fault
 

@@ -4,9 +4,9 @@ use Rattle.std.proofs.lemmas.List.{same_lists, get_or_default}
 use Rattle.capacity.specs.Capacities.{Capacities}
 use Rattle.capacity.specs.declared.group.CounterGroup.{CounterGroup}
 use Rattle.allocate.specs.Groups.{total_at, counter_at, TakesBefore, IsByRule, IsTakenBefore}
-use Rattle.plans.specs.declared.counter.TotalCounter.{TotalCounter}
-use Rattle.plans.specs.declared.counter.TotalCounter.TheVariants as of
-use Rattle.wanted.specs.declared.total.Total.{Total}
+use Rattle.chart_plans.specs.declared.plans.counter.TotalCounter.{TotalCounter}
+use Rattle.chart_plans.specs.declared.plans.counter.TotalCounter.TheVariants as of
+use Rattle.chart_plans.specs.declared.wanted.total.Total.{Total}
 use Rattle.allocate.proofs.Assignments.{rank, rank-before}
 use Rattle.allocate.proofs.Held.{takes-same, takes-single}
 

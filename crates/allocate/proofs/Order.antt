@@ -1,11 +1,11 @@
 -- The capacities in the order in which they are asked.
 use Rattle.std.proofs.Common.{length, Option, IfNone, IfSome, refl, arith}
 use Rattle.capacity.specs.Capacities.{Capacities}
-use Rattle.wanted.specs.declared.count.Capacity.{Capacity}
-use Rattle.wanted.specs.declared.count.Capacity.TheVariants as of
-use Rattle.charts.specs.declared.level.ControlLevel.TheVariants as control
-use Rattle.wanted.specs.Wanted.{Wanted}
-use Rattle.plans.specs.Excess.{IsOver}
+use Rattle.chart_plans.specs.declared.wanted.count.Capacity.{Capacity}
+use Rattle.chart_plans.specs.declared.wanted.count.Capacity.TheVariants as of
+use Rattle.chart_lines.specs.declared.charts.level.ControlLevel.TheVariants as control
+use Rattle.chart_plans.specs.WantedWords.Wanted.{Wanted}
+use Rattle.chart_plans.specs.PlansWords.Excess.{IsOver}
 use Rattle.allocate.specs.Exceeded.{NoneIsOver, FitsMachine, IsFirstAmong, IsFirstOver, in_order}
 
 -- what the search among the capacities in order tells

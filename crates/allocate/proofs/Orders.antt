@@ -4,9 +4,9 @@ use Rattle.std.proofs.Common.{List, ◌⊎◌, inl, inr, ⊎_elim}
 use Rattle.std.proofs.lemmas.Bool.Decides.{nat_tests, eqb_tells}
 use Rattle.capacity.specs.declared.group.CounterGroup.{CounterGroup}
 use Rattle.allocate.specs.Groups.{total_at, is_before, takes_before, is_lower}
-use Rattle.charts.specs.Levels.{level_number}
-use Rattle.wanted.specs.declared.total.Total.{Total}
-use Rattle.plans.proofs.CounterGroups.{same_group}
+use Rattle.chart_lines.specs.ChartsWords.Levels.{level_number}
+use Rattle.chart_plans.specs.declared.wanted.total.Total.{Total}
+use Rattle.chart_plans.proofs.PlansWords.CounterGroups.{same_group}
 
 before-trans : (a b c : ℕ) (r s t : Bool) → (r ≡ true → s ≡ true → t ≡ true) → is_before a b r ≡ true
     → is_before b c s ≡ true → is_before a c t ≡ true

@@ -11,14 +11,14 @@ use Rattle.std.proofs.lemmas.List.{get_or-set_same, get_or-set_other, length-set
 use Rattle.capacity.specs.Capacities.{Capacities, groups_at_least}
 use Rattle.capacity.specs.declared.group.CounterGroup.{CounterGroup}
 use Rattle.allocate.specs.Groups.{total_at, counter_at, takes_before, TakesBefore, IsByRule, IsTakenBefore, Takes}
-use Rattle.plans.specs.Assignments.{IsAssignment}
-use Rattle.plans.specs.Counters.{IsGroupOf}
-use Rattle.plans.specs.declared.counter.TotalCounter.{TotalCounter}
-use Rattle.plans.specs.declared.counter.TotalCounter.TheVariants as of
-use Rattle.wanted.specs.Totals.{NeedsFit, class_of}
+use Rattle.chart_plans.specs.PlansWords.Assignments.{IsAssignment}
+use Rattle.chart_plans.specs.PlansWords.Counters.{IsGroupOf}
+use Rattle.chart_plans.specs.declared.plans.counter.TotalCounter.{TotalCounter}
+use Rattle.chart_plans.specs.declared.plans.counter.TotalCounter.TheVariants as of
+use Rattle.chart_plans.specs.WantedWords.Totals.{NeedsFit, class_of}
 use Rattle.allocate.specs.HelperCounters.{HasGroupsFor}
 use Rattle.allocate.specs.HelperTaking.{taken_at, IsHeld, IsTaken, IsUsed, NoneWaitsBelow, IsNext, goes_first, AreAllTaken, AreTooFew}
-use Rattle.wanted.specs.declared.total.Total.{Total}
+use Rattle.chart_plans.specs.declared.wanted.total.Total.{Total}
 use Rattle.allocate.proofs.Counting.{StandsFor, count-covers, count-covers_but}
 use Rattle.allocate.proofs.GroupPlaces.{place_of, group_of, group_of-at, le-class_of, class_of-two}
 use Rattle.allocate.proofs.Held.{lower_group, upper_group, shared-of, group-of-same, takes-same, takes-there, takes-free, takes-enough}

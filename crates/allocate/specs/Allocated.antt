@@ -1,9 +1,9 @@
 -- What is allocated: the counters by the rule, and the other parts by number in the order in which they are wanted.
 use Rattle.std.specs.Prelude.{◌≡◌}
 use Rattle.capacity.specs.Capacities.{Capacities}
-use Rattle.wanted.specs.Wanted.{Wanted}
-use Rattle.plans.specs.PartNumbers.{AreInOrder}
-use Rattle.plans.specs.Plans.{Lists}
+use Rattle.chart_plans.specs.WantedWords.Wanted.{Wanted}
+use Rattle.chart_plans.specs.PlansWords.PartNumbers.{AreInOrder}
+use Rattle.chart_plans.specs.PlansWords.Plans.{Lists}
 use Rattle.allocate.specs.Groups.{IsByRule}
 
 -- The plan of what is wanted on a machine: the counters by the rule of allocation, and of each other kind the parts 1, 2 and so on, in

@@ -2,15 +2,15 @@
 -- comparison of two counts: what the chart wants, and what is there.
 use Rattle.std.specs.Prelude.{◌≡◌, ℕ, ◌<◌, List, [], ◌∷◌, Option, Some, None, length, slice_get}
 use Rattle.capacity.specs.Capacities.{Capacities}
-use Rattle.charts.specs.declared.level.ControlLevel.TheVariants as control
-use Rattle.wanted.specs.declared.count.Capacity.{Capacity}
-use Rattle.wanted.specs.declared.count.Capacity.TheVariants as of
+use Rattle.chart_lines.specs.declared.charts.level.ControlLevel.TheVariants as control
+use Rattle.chart_plans.specs.declared.wanted.count.Capacity.{Capacity}
+use Rattle.chart_plans.specs.declared.wanted.count.Capacity.TheVariants as of
 use Rattle.allocate.specs.declared.fault.CapacityFault.{CapacityFault}
 use Rattle.allocate.specs.declared.fault.CapacityFault.TheVariants as fault
-use Rattle.wanted.specs.Counts.{count_wanted}
-use Rattle.wanted.specs.Units.{IsLowestOf}
-use Rattle.wanted.specs.Wanted.{Wanted}
-use Rattle.plans.specs.Excess.{count_there, IsOver}
+use Rattle.chart_plans.specs.WantedWords.Counts.{count_wanted}
+use Rattle.chart_plans.specs.WantedWords.Units.{IsLowestOf}
+use Rattle.chart_plans.specs.WantedWords.Wanted.{Wanted}
+use Rattle.chart_plans.specs.PlansWords.Excess.{count_there, IsOver}
 
 -- the number of a fault in the catalogue of faults; want of memory has none
 abbrev pub fault_number : CapacityFault → Option ℕ

@@ -5,12 +5,12 @@ use Rattle.std.specs.Prelude.{◌≡◌, ◌⊎◌, ℕ, ◌<◌, ◌≤◌, nat
 use Rattle.std.specs.Prelude.{List, length, slice_index_or}
 use Rattle.capacity.specs.Capacities.{Capacities, HasGroup}
 use Rattle.capacity.specs.declared.group.CounterGroup.{CounterGroup}
-use Rattle.charts.specs.Levels.{level_number}
-use Rattle.charts.specs.declared.level.Level.TheVariants as level
-use Rattle.plans.specs.Counters.{IsGroupOf}
-use Rattle.plans.specs.declared.counter.TotalCounter.{TotalCounter}
-use Rattle.plans.specs.declared.counter.TotalCounter.TheVariants as of
-use Rattle.wanted.specs.declared.total.Total.{Total}
+use Rattle.chart_lines.specs.ChartsWords.Levels.{level_number}
+use Rattle.chart_lines.specs.declared.charts.level.Level.TheVariants as level
+use Rattle.chart_plans.specs.PlansWords.Counters.{IsGroupOf}
+use Rattle.chart_plans.specs.declared.plans.counter.TotalCounter.{TotalCounter}
+use Rattle.chart_plans.specs.declared.plans.counter.TotalCounter.TheVariants as of
+use Rattle.chart_plans.specs.declared.wanted.total.Total.{Total}
 
 -- the total at a place of the list; past its end one that needs nothing
 abbrev pub total_at : List Total → ℕ → Total

@@ -1,8 +1,8 @@
 -- A helper of the code: counter groups enough for some totals.
 use Rattle.std.specs.Prelude.{◌<◌, List, All}
 use Rattle.capacity.specs.Capacities.{Capacities, widths, groups_at_least}
-use Rattle.wanted.specs.Totals.{wanted_at}
-use Rattle.wanted.specs.declared.total.Total.{Total}
+use Rattle.chart_plans.specs.WantedWords.Totals.{wanted_at}
+use Rattle.chart_plans.specs.declared.wanted.total.Total.{Total}
 
 -- at no width more counter groups of it or a wider one are wanted than there are
 abbrev pub HasGroupsFor : Capacities → List Total → Type 0

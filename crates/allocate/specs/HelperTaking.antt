@@ -3,9 +3,9 @@ use Rattle.std.specs.Prelude.{◌≡◌, ◌≢◌, ◌⊎◌, ℕ, ◌<◌, ◌
 use Rattle.capacity.specs.Capacities.{Capacities, HasGroup, groups_of}
 use Rattle.capacity.specs.declared.group.CounterGroup.{CounterGroup}
 use Rattle.allocate.specs.Groups.{takes_before}
-use Rattle.plans.specs.Counters.{IsGroupOf}
-use Rattle.plans.specs.declared.counter.TotalCounter.{TotalCounter}
-use Rattle.wanted.specs.declared.total.Total.{Total}
+use Rattle.chart_plans.specs.PlansWords.Counters.{IsGroupOf}
+use Rattle.chart_plans.specs.declared.plans.counter.TotalCounter.{TotalCounter}
+use Rattle.chart_plans.specs.declared.wanted.total.Total.{Total}
 
 -- the counter that the total at a place has so far, if it has one
 abbrev pub taken_at : List (Option TotalCounter) → ℕ → Option TotalCounter

@@ -1,15 +1,15 @@
 -- Laws of capacities.
 use Rattle.std.specs.Prelude.{◌≡◌, ℕ, All, List}
 use Rattle.capacity.specs.Capacities.{Capacities, widths}
-use Rattle.charts.specs.Chart.{Chart}
+use Rattle.chart_lines.specs.ChartsWords.Chart.{Chart}
 use Rattle.chart_rules.specs.Rules.{IsLawful}
-use Rattle.wanted.specs.ChartTotals.{totals_of}
+use Rattle.chart_plans.specs.WantedWords.ChartTotals.{totals_of}
 use Rattle.allocate.specs.Exceeded.{HasCapacityFault, FitsMachine}
-use Rattle.plans.specs.Excess.{IsOver}
-use Rattle.plans.specs.Assignments.{IsAssignment}
-use Rattle.plans.specs.declared.counter.TotalCounter.{TotalCounter}
-use Rattle.wanted.specs.Wanted.{Wanted, wanted_of}
-use Rattle.wanted.specs.declared.count.Capacity.TheVariants as of
+use Rattle.chart_plans.specs.PlansWords.Excess.{IsOver}
+use Rattle.chart_plans.specs.PlansWords.Assignments.{IsAssignment}
+use Rattle.chart_plans.specs.declared.plans.counter.TotalCounter.{TotalCounter}
+use Rattle.chart_plans.specs.WantedWords.Wanted.{Wanted, wanted_of}
+use Rattle.chart_plans.specs.declared.wanted.count.Capacity.TheVariants as of
 use Rattle.allocate.specs.declared.fault.CapacityFault.{CapacityFault}
 
 -- the counter groups of a machine are exceeded by a chart at a width

@@ -3,17 +3,17 @@
 ghost use Rattle.std.specs.Prelude.{◌≢◌, IfOk, IfErr, OnOk};
 ghost use Rattle.allocate.specs.Exceeded.{FitsMachine, HasCapacityFault};
 ghost use Rattle.allocate.specs.Allocated.{IsPlanOf};
-ghost use Rattle.plans.specs.Plans.{IsFor};
-ghost use Rattle.wanted.specs.Wanted.{wanted_of};
+ghost use Rattle.chart_plans.specs.PlansWords.Plans.{IsFor};
+ghost use Rattle.chart_plans.specs.WantedWords.Wanted.{wanted_of};
 
 use crate::exceeded::fault_on;
 use crate::fault::CapacityFault;
 use crate::groups::assign;
 use capacity::Profile;
+use chart_plans::plans::Plan;
+use chart_plans::wanted::Wanted;
 use chart_rules::Chart;
-use plans::Plan;
 use std::alloc::Global;
-use wanted::Wanted;
 
 /// The plan of a chart on a machine.
 ///

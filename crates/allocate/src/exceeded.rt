@@ -2,12 +2,12 @@
 
 ghost use Rattle.std.specs.Prelude.{◌≡◌, IfNone, IfSome, length};
 ghost use Rattle.allocate.specs.Exceeded as law;
-ghost use Rattle.plans.specs.Excess.{count_there};
+ghost use Rattle.chart_plans.specs.PlansWords.Excess.{count_there};
 
 use crate::fault::CapacityFault;
 use capacity::Profile;
-use charts::ControlLevel;
-use wanted::{Capacity, Wanted};
+use chart_lines::charts::ControlLevel;
+use chart_plans::wanted::{Capacity, Wanted};
 
 /// The capacities in the order in which they are asked.
 static IN_ORDER: [Capacity; 12] = [

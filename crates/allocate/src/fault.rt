@@ -3,7 +3,7 @@
 ghost use Rattle.std.specs.Prelude.{◌≡◌};
 ghost use Rattle.allocate.specs.declared.fault.CapacityFault.TheVariants.{Memory};
 
-use charts::ControlLevel;
+use chart_lines::charts::ControlLevel;
 use std::alloc::{AllocError, AllocFailed};
 use thiserror::Error;
 

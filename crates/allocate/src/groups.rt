@@ -2,17 +2,17 @@
 
 ghost use Rattle.std.specs.Prelude.{◌≡◌, ◌<◌, ◌↔◌, length, IsTrue, IfOk, MatchOption};
 ghost use Rattle.std.specs.Option.{ForSome};
-ghost use Rattle.wanted.specs.Totals.{NeedsFit};
+ghost use Rattle.chart_plans.specs.WantedWords.Totals.{NeedsFit};
 ghost use Rattle.allocate.specs.HelperCounters.{HasGroupsFor};
 ghost use Rattle.allocate.specs.Groups.{IsByRule, IsLowestFree, Takes, takes_before};
-ghost use Rattle.plans.specs.Assignments.{IsAssignment};
+ghost use Rattle.chart_plans.specs.PlansWords.Assignments.{IsAssignment};
 ghost use Rattle.allocate.specs.HelperTaking.{IsHeld, IsTaken, IsUsed, NoneWaits, IsNext, goes_first};
 ghost use Rattle.allocate.specs.HelperTaking.{IsLowestNumber, IsWidthTaken, AreAllTaken, AreTooFew, AreTaken};
 
 use capacity::{CounterGroup, Profile};
-use plans::TotalCounter;
+use chart_plans::plans::TotalCounter;
+use chart_plans::wanted::{Total, takes_two};
 use std::alloc::{AllocError, Global};
-use wanted::{Total, takes_two};
 
 // The widths of counter groups, the narrowest first.
 const WIDTHS: [u8; 4] = [3, 4, 6, 8];

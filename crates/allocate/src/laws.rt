@@ -2,14 +2,14 @@
 
 ghost use Rattle.std.specs.Prelude.{◌≡◌, List};
 ghost use Rattle.capacity.specs.Capacities.{Capacities};
-ghost use Rattle.plans.specs.declared.counter.TotalCounter.{TotalCounter};
-ghost use Rattle.charts.specs.Chart.{Chart};
+ghost use Rattle.chart_plans.specs.declared.plans.counter.TotalCounter.{TotalCounter};
+ghost use Rattle.chart_lines.specs.ChartsWords.Chart.{Chart};
 ghost use Rattle.chart_rules.specs.Rules.{IsLawful};
-ghost use Rattle.wanted.specs.ChartTotals.{totals_of};
-ghost use Rattle.wanted.specs.Totals.{NeedsFit};
+ghost use Rattle.chart_plans.specs.WantedWords.ChartTotals.{totals_of};
+ghost use Rattle.chart_plans.specs.WantedWords.Totals.{NeedsFit};
 ghost use Rattle.allocate.specs.Groups.{IsByRule};
 ghost use Rattle.allocate.specs.Laws.{ChartsWithinHaveAnAssignment, ChartsOverHaveNone, FittingChartsHaveNoFault, ChartsExceedOneCapacity};
-ghost use Rattle.wanted.specs.declared.total.Total.{Total};
+ghost use Rattle.chart_plans.specs.declared.wanted.total.Total.{Total};
 
 /// No total of a chart that breaks no rule needs more positions than two of the widest counter groups have; where such a chart exceeds
 /// the counter groups at no width, each of its totals can have a counter of its own, one group or two of 8; where any chart exceeds

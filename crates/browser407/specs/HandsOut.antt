@@ -3,8 +3,8 @@ use Rattle.std.specs.Prelude.{if◌then◌else◌, ◌≡◌, ◌≤◌, ◌==�
 use Rattle.browser407.specs.declared.answer.Answer.{Answer}
 use Rattle.cli_calls.specs.Does.{Does}
 use Rattle.cli_tasks.specs.declared.task.Task.{Task}
-use Rattle.faults.specs.Lines.{fault_text}
-use Rattle.faults.specs.declared.fault.Fault.{Fault}
+use Rattle.fault_lines.specs.FaultsWords.Lines.{fault_text}
+use Rattle.fault_lines.specs.declared.faults.fault.Fault.{Fault}
 
 -- two texts stand in these bytes, the first one in front and the second right behind it
 pub record StandIn (bytes text told : List ℕ) : Type 0 where

@@ -2,9 +2,9 @@
 
 use allocate::{CapacityFault, allocate};
 use capacity::{CounterGroup, Profile};
+use chart_lines::charts::ControlLevel;
 use chart_rules::{Chart, check};
 use chart_text::read_chart;
-use charts::ControlLevel;
 use std::alloc::Global;
 use std::process::Abort;
 use std::test::Fail;

@@ -2,9 +2,9 @@
 
 use crate::given::setup_of;
 use card_code::{MOST_CARDS, read_deck};
+use hubs::setups::{Setup, Tape};
 use hubs::{Hub, Jack};
 use machine::{FeedFault, Machine, PlacedLine, simulate};
-use setups::{Setup, Tape};
 use std::alloc::Global;
 use std::test::Fail;
 

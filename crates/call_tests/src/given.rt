@@ -1,7 +1,7 @@
 //! Setups that are given to the calls of several crates.
 
 use hubs::Hub;
-use setups::{Setup, Tape};
+use hubs::setups::{Setup, Tape};
 use std::alloc::Global;
 use std::test::Fail;
 

@@ -2,13 +2,13 @@
 
 use allocate::allocate;
 use capacity::Profile;
+use chart_plans::plans::{PartKind, PartNumbers, Plan};
+use chart_plans::wanted::Wanted;
 use chart_rules::{Chart, check};
 use chart_text::read_chart;
-use plans::{PartKind, PartNumbers, Plan};
 use std::alloc::Global;
 use std::process::Abort;
 use std::test::Fail;
-use wanted::Wanted;
 
 /// A signed total of two digits, whose one pilot is pilot 1.
 const BALANCE: &[u8] =

@@ -2,8 +2,8 @@
 
 use crate::given::setup_of;
 use hubs::Hub;
+use hubs::setups::Tape;
 use net::{Contacts, Net, Picture};
-use setups::Tape;
 use std::test::Fail;
 
 // The first two and the last of the exits, with the last also to the first entry.

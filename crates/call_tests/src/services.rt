@@ -1,6 +1,6 @@
 //! Lists that are no orders of the units.
 
-use served::{NotAnOrder, Service};
+use machine_served::served::{NotAnOrder, Service};
 use std::alloc::Global;
 use std::test::Fail;
 

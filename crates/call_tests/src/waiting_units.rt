@@ -1,11 +1,11 @@
 //! Which units wait for which, on a panel that totals one field.
 
 use crate::given::setup_of;
+use hubs::setups::Tape;
 use hubs::{Group, Hub};
+use machine_served::waits::{Waits, all_waits};
 use net::Net;
-use setups::Tape;
 use std::test::Fail;
-use waits::{Waits, all_waits};
 
 const GROUP: Group = Group {
     width: 4,

@@ -1,7 +1,7 @@
 //! Wires of carries that are added to a setup, and stops that are punched.
 
+use hubs::setups::{Setup, SetupFault, Tape};
 use hubs::{Group, Hub};
-use setups::{Setup, SetupFault, Tape};
 use std::test::Fail;
 
 // A group of 8 positions.

@@ -1,9 +1,9 @@
 //! Pages go out in blocks. The number of bytes is counted by hand: a page of 144 lines has 121 bytes for each and a form feed.
 
-use devices::ToWrite;
-use devices::limited::LimitedWriter;
 use page_text::placed_lines::{PlacedLine, in_order};
-use page_writer::write_pages;
+use report_streams::devices::ToWrite;
+use report_streams::devices::limited::LimitedWriter;
+use report_writer::write_pages;
 use std::test::Fail;
 
 #[test]

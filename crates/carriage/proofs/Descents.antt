@@ -1,7 +1,7 @@
 -- Where so many lines down lead.
 use Rattle.std.proofs.Common.{◌≡◌, ◌≢◌, ◌∙◌, ℕ, zero, suc, ◌+◌, ◌-◌, ◌<◌, ◌≤◌, ◌==◌, ◌&&◌, ◌||◌, ◌⊎◌, inl, inr, nat_le, nat_lt, Bool, true, false, refl, ap, arith}
 use Rattle.std.proofs.lemmas.Bool.Decides.{eqb_tells, nat_tests}
-use Rattle.setups.specs.Tapes.{CarriageTape, IsCarriageTape}
+use Rattle.hubs.specs.SetupsWords.Tapes.{CarriageTape, IsCarriageTape}
 use Rattle.carriage.specs.Moves.{down, down_by, come_to, next_page}
 use Rattle.carriage.specs.declared.spot.Spot.{Spot}
 

@@ -1,7 +1,7 @@
 -- The search for the next stop of a channel, line by line.
 use Rattle.std.proofs.Common.{◌≡◌, ◌≢◌, ℕ, zero, suc, ◌+◌, ◌-◌, ◌<◌, ◌≤◌, ◌==◌, ◌⊎◌, inl, inr, ◌↔◌, Bool, true, false, Some, None, if◌then◌else◌, refl, ap, arith}
 use Rattle.std.proofs.lemmas.Bool.Decides.{eqb_tells}
-use Rattle.setups.specs.Tapes.{CarriageTape}
+use Rattle.hubs.specs.SetupsWords.Tapes.{CarriageTape}
 use Rattle.carriage.specs.Laws.{IsNextStop, HasNoStopBelow}
 use Rattle.carriage.specs.Moves.{is_stop_of, stop_from, next_stop}
 

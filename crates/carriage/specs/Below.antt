@@ -1,2 +1,2 @@
 pub use Rattle.net.specs as net
-pub use Rattle.setups.specs as setups
+pub use Rattle.hubs.specs.SetupsWords as setups

@@ -2,8 +2,8 @@
 -- point of every cycle it senses what is asked for. At the end of every cycle it moves as the cycle wants, a printing
 -- cycle then places its line, and a skip and a restore that were asked for follow.
 use Rattle.std.specs.Prelude.{ℕ, Bool, true, Option, Some, None, if◌then◌else◌}
-use Rattle.setups.specs.Tapes.{CarriageTape}
-use Rattle.setups.specs.Wiring.{Wiring}
+use Rattle.hubs.specs.SetupsWords.Tapes.{CarriageTape}
+use Rattle.hubs.specs.SetupsWords.Wiring.{Wiring}
 use Rattle.hubs.specs.declared.hub.Hub.{Hub}
 use Rattle.net.specs.Printing.{printing_of, prints}
 use Rattle.net.specs.declared.cycle.Cycle.{Cycle}

@@ -1,6 +1,6 @@
 -- What the moves come to: the next stop, and where so many lines down lead.
 use Rattle.std.specs.Prelude.{◌≡◌, ℕ, ◌+◌, ◌-◌, ◌<◌, ◌≤◌, ◌&&◌, ◌||◌, nat_le, nat_lt, true, false}
-use Rattle.setups.specs.Tapes.{CarriageTape, IsCarriageTape}
+use Rattle.hubs.specs.SetupsWords.Tapes.{CarriageTape, IsCarriageTape}
 use Rattle.carriage.specs.Moves.{is_stop_of, down_by, next_page}
 use Rattle.carriage.specs.declared.spot.Spot.{Spot}
 

@@ -2,7 +2,7 @@
 -- sets the restore latch. A skip goes to the next stop of its channel below the line; where the form has none, it stays
 -- and sets the latch.
 use Rattle.std.specs.Prelude.{ℕ, zero, suc, ◌+◌, ◌-◌, ◌^◌, ◌==◌, ◌||◌, nat_lt, Bool, true, false, Option, Some, None, if◌then◌else◌}
-use Rattle.setups.specs.Tapes.{CarriageTape, has_stop}
+use Rattle.hubs.specs.SetupsWords.Tapes.{CarriageTape, has_stop}
 use Rattle.carriage.specs.declared.spot.Spot.{Spot}
 
 -- the page after this one; a page number that would pass 2^32 stays

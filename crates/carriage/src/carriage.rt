@@ -5,8 +5,8 @@ ghost use Rattle.std.specs.Prelude.{◌≡◌};
 use crate::asked::Asked;
 use crate::spot::Spot;
 use hubs::Hub;
+use hubs::setups::{Setup, Tape};
 use net::{Cycle, Ordinal, Picture, Point, Printing, Unit};
-use setups::{Setup, Tape};
 use std::marker::Model;
 
 /// The carriage. At the end of a cycle it moves as was asked for at the control point, and a printing cycle places its line.

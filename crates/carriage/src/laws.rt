@@ -1,7 +1,7 @@
 //! Laws of the carriage's moves.
 
 ghost use Rattle.std.specs.Prelude.{◌≡◌, ℕ, ◌↔◌, Some, None};
-ghost use Rattle.setups.specs.Tapes.{CarriageTape};
+ghost use Rattle.hubs.specs.SetupsWords.Tapes.{CarriageTape};
 ghost use Rattle.carriage.specs.Laws.{IsNextStop, HasNoStopBelow, GoesDownOnTheForm, GoesToTheNextForm};
 ghost use Rattle.carriage.specs.Moves.{next_stop};
 

@@ -3,7 +3,7 @@
 ghost use Rattle.std.specs.Prelude.{◌≡◌, ◌<◌, ◌≤◌, IfSome};
 ghost use Rattle.carriage.specs.Moves.{next_page, is_stop_of, next_stop};
 
-use setups::Tape;
+use hubs::setups::Tape;
 
 /// The page whose number stays: no page follows it.
 const LAST_PAGE: u64 = 1 << 32;

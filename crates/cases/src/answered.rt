@@ -3,8 +3,8 @@
 use anyhow::Result;
 use cli_calls::do_task;
 use cli_tasks::Task;
-use decks_in_row::DecksInRow;
-use devices::limited::LimitedReader;
+use report_streams::decks_in_row::DecksInRow;
+use report_streams::devices::limited::LimitedReader;
 use std::alloc::Global;
 use std::collections::VecDeque;
 use std::io::{Read, Write};

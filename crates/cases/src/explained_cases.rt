@@ -15,12 +15,12 @@ use anyhow::Result;
 use card_code::read_deck;
 use cli_tasks::Task;
 use compile407::{Compiled, compile};
-use legend::line_setups;
-use setups::Setup;
+use hubs::setups::Setup;
 use std::alloc::Global;
 use std::fs;
 use std::io::Write;
 use wire_chart::read_setup;
+use wiring_legend::line_setups;
 
 // A chart of either kind, and a deck, as texts.
 #[derive(Drop)]

@@ -2,15 +2,15 @@
 
 ghost use Rattle.std.specs.Prelude.{◌≤◌, length};
 ghost use Rattle.card_code.specs.MostCards.{most_cards};
-ghost use Rattle.explanations.specs.Pages.{IsPageOfSome};
+ghost use Rattle.explain_wheels.specs.ExplanationsWords.Pages.{IsPageOfSome};
 
 use crate::walked_texts::character_at;
 use crate::walked_ways::{Ground, walk};
 use anyhow::{Result, bail};
 use card_code::Card;
-use explanation_text::page_wheel_text;
-use explanations::{PageWays, Refusal};
-use setups::Setup;
+use explain_wheels::explanations::{PageWays, Refusal};
+use explain_words::explanation_text::page_wheel_text;
+use hubs::setups::Setup;
 use std::alloc::Global;
 
 /// What was walked: pages, lines that have a character, characters, and the ways to their wheels.

@@ -4,7 +4,7 @@
 
 use crate::case_files::read_case;
 use anyhow::Result;
-use commands::{Fault, write_line};
+use cli_commands::commands::{Fault, write_line};
 use std::alloc::Global;
 use std::io::Write;
 use wire_chart::{read_setup, write_setup};

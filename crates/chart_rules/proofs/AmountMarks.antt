@@ -8,8 +8,8 @@ use Rattle.std.proofs.lemmas.Option.{same_Some, slice_get_read}
 use Rattle.card_code.specs.CardCode.{has_row}
 use Rattle.card_code.specs.Columns.{column_of as column_of_set}
 use Rattle.card_code.specs.declared.row.Row.TheVariants.{Eleven}
-use Rattle.charts.specs.Field.{columns_of, decimals_of, is_amount, sign_column}
-use Rattle.charts.specs.declared.statement.Field.{Field}
+use Rattle.chart_lines.specs.ChartsWords.Field.{columns_of, decimals_of, is_amount, sign_column}
+use Rattle.chart_lines.specs.declared.charts.statement.Field.{Field}
 use Rattle.chart_rules.specs.HelperAmounts.{AreAmountsMarked, ArePlain, AreSized, IsAmountMarked, Keeps}
 use Rattle.chart_rules.specs.HelperOnCard.{AreOnCard, IsOnCard}
 use Rattle.chart_rules.specs.HelperTexts.{AreAmountsValid}

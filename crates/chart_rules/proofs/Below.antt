@@ -1,2 +1,2 @@
-pub use Rattle.charts.proofs as charts
-pub use Rattle.line_rules.proofs as line_rules
+pub use Rattle.chart_lines.proofs.ChartsWords as charts
+pub use Rattle.chart_line_rules.proofs as line_rules

@@ -3,14 +3,14 @@ use Rattle.std.proofs.Common.{◌≡◌, ◌∙◌, sym, ap, ℕ, ◌+◌, ◌<�
 use Rattle.std.specs.List.{cons_option}
 use Rattle.std.proofs.lemmas.List.{take_all, take_more}
 use Rattle.std.proofs.lemmas.List.Elements.{filter_map-append}
-use Rattle.charts.specs.Chart.{Chart}
-use Rattle.charts.specs.declared.chart.Line.{Line}
-use Rattle.charts.specs.declared.statement.Field.{Field}
-use Rattle.charts.proofs.Listed.{given-by, listed-at}
-use Rattle.charts.specs.declared.statement.Statement.{Statement}
-use Rattle.charts.specs.declared.statement.Statement.TheVariants as says
-use Rattle.charts.specs.Levels.{control_number}
-use Rattle.line_rules.specs.FieldRules.Fields.{field_named}
+use Rattle.chart_lines.specs.ChartsWords.Chart.{Chart}
+use Rattle.chart_lines.specs.declared.charts.chart.Line.{Line}
+use Rattle.chart_lines.specs.declared.charts.statement.Field.{Field}
+use Rattle.chart_lines.proofs.ChartsWords.Listed.{given-by, listed-at}
+use Rattle.chart_lines.specs.declared.charts.statement.Statement.{Statement}
+use Rattle.chart_lines.specs.declared.charts.statement.Statement.TheVariants as says
+use Rattle.chart_lines.specs.ChartsWords.Levels.{control_number}
+use Rattle.chart_line_rules.specs.FieldRules.Fields.{field_named}
 use Rattle.chart_rules.specs.Controls.{control_on, controls_among, controls_of}
 use Rattle.chart_rules.specs.HelperOnCard.{AreOnCard}
 use Rattle.chart_rules.specs.Rules.{IsLawful}

@@ -1,7 +1,7 @@
 -- The list of the rules has each rule at the place that its number gives.
 use Rattle.std.proofs.Common.{◌≡◌, ℕ, zero, suc, ◌+◌, ◌-◌, List, [], ◌∷◌, length, Option, Some, None, slice_get, IfNone, IfSome, refl, ap, arith}
 use Rattle.std.proofs.lemmas.Option.{slice_get_within}
-use Rattle.charts.specs.Chart.{Chart}
+use Rattle.chart_lines.specs.ChartsWords.Chart.{Chart}
 use Rattle.chart_rules.specs.declared.rule.Rule.{Rule}
 use Rattle.chart_rules.specs.declared.rule.Rule.TheVariants as rule
 use Rattle.chart_rules.specs.Rules.{rule_number, IsLawful, IsFirstBroken}

@@ -3,20 +3,20 @@ use Rattle.std.proofs.Common.{◌≡◌, ℕ, ◌<◌, ◌⊎◌, inl, inr, ◌�
 use Rattle.std.proofs.lemmas.Bool.{and_parts, both_ways, cases_lt, not-false}
 use Rattle.std.proofs.lemmas.Bool.Decides.{nat_tests}
 use Rattle.std.proofs.lemmas.List.Elements.{Contains-append_right}
-use Rattle.charts.specs.Chart.{Chart}
-use Rattle.charts.specs.Field.{columns_of, decimals_of, is_amount, sign_column}
-use Rattle.charts.specs.Name.{is_same_name}
-use Rattle.charts.specs.declared.chart.Line.{Line}
-use Rattle.charts.specs.declared.statement.Field.{Field}
-use Rattle.charts.specs.declared.statement.FieldKind.{FieldKind}
-use Rattle.charts.specs.declared.statement.FieldKind.TheVariants as holds
-use Rattle.charts.specs.declared.statement.Statement.{Statement}
-use Rattle.charts.specs.declared.statement.Statement.TheVariants as says
-use Rattle.charts.proofs.Listed.{Order, is_one, goes_before, goes_after, listed-first, listed-at, listed-place, listed-order, place-of, found-listed, given-by, none-any}
-use Rattle.line_rules.proofs.FieldRules.Places.{is_same_name-equal}
-use Rattle.line_rules.specs.FieldRules.Columns.{breaks_columns, breaks_amount_size, has_good_sign, is_too_large}
-use Rattle.line_rules.specs.FieldRules.Fields.{field_of, fields_of, field_named}
-use Rattle.line_rules.specs.FieldRules.Repeats.{repeats}
+use Rattle.chart_lines.specs.ChartsWords.Chart.{Chart}
+use Rattle.chart_lines.specs.ChartsWords.Field.{columns_of, decimals_of, is_amount, sign_column}
+use Rattle.chart_lines.specs.ChartsWords.Name.{is_same_name}
+use Rattle.chart_lines.specs.declared.charts.chart.Line.{Line}
+use Rattle.chart_lines.specs.declared.charts.statement.Field.{Field}
+use Rattle.chart_lines.specs.declared.charts.statement.FieldKind.{FieldKind}
+use Rattle.chart_lines.specs.declared.charts.statement.FieldKind.TheVariants as holds
+use Rattle.chart_lines.specs.declared.charts.statement.Statement.{Statement}
+use Rattle.chart_lines.specs.declared.charts.statement.Statement.TheVariants as says
+use Rattle.chart_lines.proofs.ChartsWords.Listed.{Order, is_one, goes_before, goes_after, listed-first, listed-at, listed-place, listed-order, place-of, found-listed, given-by, none-any}
+use Rattle.chart_line_rules.proofs.FieldRules.Places.{is_same_name-equal}
+use Rattle.chart_line_rules.specs.FieldRules.Columns.{breaks_columns, breaks_amount_size, has_good_sign, is_too_large}
+use Rattle.chart_line_rules.specs.FieldRules.Fields.{field_of, fields_of, field_named}
+use Rattle.chart_line_rules.specs.FieldRules.Repeats.{repeats}
 use Rattle.chart_rules.specs.declared.rule.Rule.{Rule}
 use Rattle.chart_rules.specs.declared.rule.Rule.TheVariants as rule
 use Rattle.chart_rules.specs.HelperAmounts.{AreSized}

@@ -3,9 +3,9 @@ use Rattle.std.proofs.Common.{◌≡◌, ℕ, zero, suc, ◌+◌, ◌<◌, ◌�
 use Rattle.std.proofs.Math.Seq.{take-append_seam, split_at}
 use Rattle.std.proofs.lemmas.Bool.{cases_lt}
 use Rattle.std.proofs.lemmas.Option.{slice_get_within, get_or_from_slice_get}
-use Rattle.charts.specs.Chart.{Chart, NumbersRise}
-use Rattle.charts.specs.declared.chart.Line.{Line}
-use Rattle.charts.proofs.Rising.{NumbersRise-tail}
+use Rattle.chart_lines.specs.ChartsWords.Chart.{Chart, NumbersRise}
+use Rattle.chart_lines.specs.declared.charts.chart.Line.{Line}
+use Rattle.chart_lines.proofs.ChartsWords.Rising.{NumbersRise-tail}
 use Rattle.chart_rules.specs.declared.rule.Rule.{Rule}
 use Rattle.chart_rules.specs.Rules.{breaks_at, lacks, Broken, by_line, by_end, IsKept}
 

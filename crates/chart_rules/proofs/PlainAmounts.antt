@@ -1,10 +1,10 @@
 -- Amounts that one pass over their columns shows to be valid.
 use Rattle.std.proofs.Common.{◌≡◌, ◌∙◌, refl, sym, ap, subst, ℕ, ◌+◌, ◌-◌, ◌<◌, ◌≤◌, ◌⊎◌, inl, inr, max, true, List, arith}
 use Rattle.std.proofs.lemmas.Bool.{cases_eq}
-use Rattle.charts.specs.Field.{decimals_of, is_amount, sign_column}
-use Rattle.charts.specs.declared.statement.Field.{Field}
-use Rattle.charts.specs.declared.statement.FieldKind.{FieldKind}
-use Rattle.charts.specs.declared.statement.FieldKind.TheVariants as holds
+use Rattle.chart_lines.specs.ChartsWords.Field.{decimals_of, is_amount, sign_column}
+use Rattle.chart_lines.specs.declared.charts.statement.Field.{Field}
+use Rattle.chart_lines.specs.declared.charts.statement.FieldKind.{FieldKind}
+use Rattle.chart_lines.specs.declared.charts.statement.FieldKind.TheVariants as holds
 use Rattle.chart_rules.specs.ValidCard.{AreBlank, IsValidAmount, IsValidField, IsValidKind, column_of, digit_count, has_good_zone}
 
 -- What the pass keeps before a column: how many single digits stand right before it, and blanks before these; and the zones.

@@ -6,10 +6,10 @@ use Rattle.std.proofs.lemmas.List.{get_or-set_same, get_or-set_other, length-set
 use Rattle.std.proofs.lemmas.Nat.{and_comm, and_mask, le_or_l, le_or_r}
 use Rattle.std.proofs.lemmas.Option.{slice_get_read}
 use Rattle.card_code.specs.CardCode.{deck_character}
-use Rattle.charts.specs.Field.{is_amount}
-use Rattle.charts.specs.declared.statement.Field.{Field}
-use Rattle.charts.specs.declared.statement.FieldKind.{FieldKind}
-use Rattle.charts.specs.declared.statement.FieldKind.TheVariants as holds
+use Rattle.chart_lines.specs.ChartsWords.Field.{is_amount}
+use Rattle.chart_lines.specs.declared.charts.statement.Field.{Field}
+use Rattle.chart_lines.specs.declared.charts.statement.FieldKind.{FieldKind}
+use Rattle.chart_lines.specs.declared.charts.statement.FieldKind.TheVariants as holds
 use Rattle.chart_rules.specs.HelperOnCard.{AreOnCard}
 use Rattle.chart_rules.specs.HelperTexts.{IsMarked, AreMarked, ArePrinted, AreAmountsValid}
 use Rattle.chart_rules.specs.ValidCard.{AreValid, IsText, IsValidField, IsValidKind, is_printed}

@@ -1,7 +1,7 @@
 -- The answer for a whole card.
 use Rattle.std.proofs.Common.{ℕ, List, length, Result, Ok, Err, IsOk, IfErr, refl}
 use Rattle.std.proofs.lemmas.Option.{slice_get_within}
-use Rattle.charts.specs.declared.statement.Field.{Field}
+use Rattle.chart_lines.specs.declared.charts.statement.Field.{Field}
 use Rattle.chart_rules.specs.declared.card.CardFault.{CardFault}
 use Rattle.chart_rules.specs.ValidCard.{AreValid, IsFirstInvalid}
 

@@ -1,10 +1,10 @@
 -- Charts of both versions that say the same break the same rules.
 use Rattle.std.proofs.Common.{◌≡◌, ℕ, Bool, true, false, ◌&&◌, List, ◌∷◌, ◌++◌, Contains, refl, sym, ap, ◌∙◌, true≢false, subst}
 use Rattle.std.proofs.lemmas.List.Elements.{Contains-append_right}
-use Rattle.charts.proofs.Listed.{listed-first}
-use Rattle.charts.specs.declared.chart.Line.{Line}
-use Rattle.line_rules.specs.FieldRules.Coupled.{is_coupled, is_mismarked, is_total, takes_two}
-use Rattle.line_rules.specs.FieldRules.Fields.{fields_of}
+use Rattle.chart_lines.proofs.ChartsWords.Listed.{listed-first}
+use Rattle.chart_lines.specs.declared.charts.chart.Line.{Line}
+use Rattle.chart_line_rules.specs.FieldRules.Coupled.{is_coupled, is_mismarked, is_total, takes_two}
+use Rattle.chart_line_rules.specs.FieldRules.Fields.{fields_of}
 use Rattle.chart_rules.specs.declared.rule.Rule.{Rule}
 use Rattle.chart_rules.specs.declared.rule.Rule.TheVariants as rule
 use Rattle.chart_rules.specs.Rules.{breaks_at, Broken, by_line, by_end, IsKept, IsLawful}

@@ -1,3 +1,3 @@
 pub use Rattle.card_code.specs as card_code
-pub use Rattle.charts.specs as charts
-pub use Rattle.line_rules.specs as line_rules
+pub use Rattle.chart_lines.specs.ChartsWords as charts
+pub use Rattle.chart_line_rules.specs as line_rules

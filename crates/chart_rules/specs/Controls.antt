@@ -1,14 +1,14 @@
 -- The control fields of a chart.
 use Rattle.std.specs.Prelude.{◌≡◌, ℕ, ◌==◌, List, Option, None, if◌then◌else◌}
 use Rattle.std.specs.List.{filter_map}
-use Rattle.charts.specs.Levels.{control_number}
-use Rattle.charts.specs.declared.chart.Line.{Line}
-use Rattle.charts.specs.declared.level.ControlLevel.{ControlLevel}
-use Rattle.charts.specs.declared.level.ControlLevel.TheVariants as level
-use Rattle.charts.specs.declared.statement.Field.{Field}
-use Rattle.charts.specs.declared.statement.Statement.{Statement}
-use Rattle.charts.specs.declared.statement.Statement.TheVariants as says
-use Rattle.line_rules.specs.FieldRules.Fields.{field_named}
+use Rattle.chart_lines.specs.ChartsWords.Levels.{control_number}
+use Rattle.chart_lines.specs.declared.charts.chart.Line.{Line}
+use Rattle.chart_lines.specs.declared.charts.level.ControlLevel.{ControlLevel}
+use Rattle.chart_lines.specs.declared.charts.level.ControlLevel.TheVariants as level
+use Rattle.chart_lines.specs.declared.charts.statement.Field.{Field}
+use Rattle.chart_lines.specs.declared.charts.statement.Statement.{Statement}
+use Rattle.chart_lines.specs.declared.charts.statement.Statement.TheVariants as says
+use Rattle.chart_line_rules.specs.FieldRules.Fields.{field_named}
 use Rattle.chart_rules.specs.declared.controls.Controls.{Controls}
 
 -- the control field that a line of a chart names for a level, if it does

@@ -1,8 +1,8 @@
 -- Helper words of the code: the columns of amounts, as they are tested all at once.
 use Rattle.std.specs.Prelude.{◌≡◌, ℕ, ◌+◌, ◌-◌, ◌<◌, ◌≤◌, true, false, max, List, Some, slice_get, slice_index}
 use Rattle.card_code.specs.CardCode.{has_row}
-use Rattle.charts.specs.Field.{columns_of, decimals_of, is_amount, sign_column}
-use Rattle.charts.specs.declared.statement.Field.{Field}
+use Rattle.chart_lines.specs.ChartsWords.Field.{columns_of, decimals_of, is_amount, sign_column}
+use Rattle.chart_lines.specs.declared.charts.statement.Field.{Field}
 use Rattle.chart_rules.specs.ValidCard.{EachColumn, digit_count, is_sign}
 use Rattle.chart_rules.specs.declared.amounts.AmountColumns.{AmountColumns}
 

@@ -1,8 +1,8 @@
 -- A helper of the code: charts that were checked.
 use Rattle.std.specs.Prelude.{◌≡◌, List, length}
-use Rattle.charts.specs.Chart.{Chart}
-use Rattle.charts.specs.declared.statement.Field.{Field}
-use Rattle.line_rules.specs.FieldRules.Fields.{fields_of}
+use Rattle.chart_lines.specs.ChartsWords.Chart.{Chart}
+use Rattle.chart_lines.specs.declared.charts.statement.Field.{Field}
+use Rattle.chart_line_rules.specs.FieldRules.Fields.{fields_of}
 use Rattle.chart_rules.specs.Controls.{AreControlsOf}
 use Rattle.chart_rules.specs.HelperAmounts.{AreAmountsMarked}
 use Rattle.chart_rules.specs.HelperTexts.{AreMarked}

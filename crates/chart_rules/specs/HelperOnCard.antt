@@ -1,6 +1,6 @@
 -- A helper of the code: fields whose columns are columns of the card.
 use Rattle.std.specs.Prelude.{◌≡◌, ℕ, ◌≤◌, List, Some, slice_get}
-use Rattle.charts.specs.declared.statement.Field.{Field}
+use Rattle.chart_lines.specs.declared.charts.statement.Field.{Field}
 
 -- the columns of a field are columns of the card, in order
 pub record IsOnCard (field : Field) : Type 0 where

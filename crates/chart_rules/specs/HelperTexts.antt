@@ -1,8 +1,8 @@
 -- Helper words of the code: the columns of texts, as they are tested all at once.
 use Rattle.std.specs.Prelude.{◌≡◌, ℕ, ◌-◌, ◌<◌, ◌≤◌, true, false, List, Some, slice_get, slice_index}
 use Rattle.card_code.specs.CardCode.{deck_character}
-use Rattle.charts.specs.Field.{is_amount}
-use Rattle.charts.specs.declared.statement.Field.{Field}
+use Rattle.chart_lines.specs.ChartsWords.Field.{is_amount}
+use Rattle.chart_lines.specs.declared.charts.statement.Field.{Field}
 use Rattle.chart_rules.specs.ValidCard.{EachColumn, IsValidField, is_printed}
 
 -- the columns of a text are marked: all bits of their masks are set, and none of them stands past the end

@@ -1,6 +1,6 @@
 -- What a fault says of a chart, and its number.
 use Rattle.std.specs.Prelude.{ℕ, Option, Some, None}
-use Rattle.charts.specs.Chart.{Chart}
+use Rattle.chart_lines.specs.ChartsWords.Chart.{Chart}
 use Rattle.chart_rules.specs.declared.fault.RuleFault.{RuleFault}
 use Rattle.chart_rules.specs.declared.fault.RuleFault.TheVariants as fault
 use Rattle.chart_rules.specs.Rules.{IsFirstBroken, rule_number}

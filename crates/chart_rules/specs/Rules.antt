@@ -1,24 +1,24 @@
 -- The rules of a chart: which lines break which rule, and which charts are lawful.
 use Rattle.std.specs.Prelude.{◌≡◌, ℕ, ◌<◌, ◌≤◌, Bool, true, false, List, [], ◌∷◌, ◌++◌}
-use Rattle.charts.specs.Chart.{Chart}
-use Rattle.charts.specs.declared.chart.Line.{Line}
-use Rattle.charts.specs.declared.chart.Version.TheVariants.{First}
-use Rattle.charts.specs.declared.statement.Statement.{Statement}
+use Rattle.chart_lines.specs.ChartsWords.Chart.{Chart}
+use Rattle.chart_lines.specs.declared.charts.chart.Line.{Line}
+use Rattle.chart_lines.specs.declared.charts.chart.Version.TheVariants.{First}
+use Rattle.chart_lines.specs.declared.charts.statement.Statement.{Statement}
 use Rattle.chart_rules.specs.declared.rule.Rule.{Rule}
 use Rattle.chart_rules.specs.declared.rule.Rule.TheVariants as rule
-use Rattle.line_rules.specs.FieldRules.Fields.{fields_of}
-use Rattle.line_rules.specs.FieldRules.Names.{breaks_name_twice, breaks_unknown_name, breaks_wrong_kind}
-use Rattle.line_rules.specs.FieldRules.Columns.{breaks_columns, breaks_amount_size}
-use Rattle.line_rules.specs.FieldRules.Repeats.{breaks_line_twice}
-use Rattle.line_rules.specs.FieldRules.Control.{breaks_no_control, breaks_total_text_not_control}
-use Rattle.line_rules.specs.FieldRules.Digits.{breaks_digits_range}
-use Rattle.line_rules.specs.FieldRules.Coupled.{breaks_coupled_mark}
-use Rattle.line_rules.specs.FieldRules.Shrink.{breaks_digits_shrink}
-use Rattle.line_rules.specs.PrintRules.Marks.{breaks_mark_mismatch}
-use Rattle.line_rules.specs.PrintRules.Wheels.{breaks_wheel_range, breaks_wheel_overlap, breaks_wheel_clash}
-use Rattle.line_rules.specs.PrintRules.Printing.{breaks_print_kind, lacks_print}
-use Rattle.line_rules.specs.PrintRules.Forms.{breaks_form, lacks_form}
-use Rattle.line_rules.specs.PrintRules.Tapes.{breaks_tape}
+use Rattle.chart_line_rules.specs.FieldRules.Fields.{fields_of}
+use Rattle.chart_line_rules.specs.FieldRules.Names.{breaks_name_twice, breaks_unknown_name, breaks_wrong_kind}
+use Rattle.chart_line_rules.specs.FieldRules.Columns.{breaks_columns, breaks_amount_size}
+use Rattle.chart_line_rules.specs.FieldRules.Repeats.{breaks_line_twice}
+use Rattle.chart_line_rules.specs.FieldRules.Control.{breaks_no_control, breaks_total_text_not_control}
+use Rattle.chart_line_rules.specs.FieldRules.Digits.{breaks_digits_range}
+use Rattle.chart_line_rules.specs.FieldRules.Coupled.{breaks_coupled_mark}
+use Rattle.chart_line_rules.specs.FieldRules.Shrink.{breaks_digits_shrink}
+use Rattle.chart_line_rules.specs.PrintRules.Marks.{breaks_mark_mismatch}
+use Rattle.chart_line_rules.specs.PrintRules.Wheels.{breaks_wheel_range, breaks_wheel_overlap, breaks_wheel_clash}
+use Rattle.chart_line_rules.specs.PrintRules.Printing.{breaks_print_kind, lacks_print}
+use Rattle.chart_line_rules.specs.PrintRules.Forms.{breaks_form, lacks_form}
+use Rattle.chart_line_rules.specs.PrintRules.Tapes.{breaks_tape}
 
 -- The number of a rule, and whether a line of a chart breaks it, by the chart, the lines before this one, and the line.
 abbrev pub row_of : Rule → ℕ × (Chart → List Line → Line → Bool)

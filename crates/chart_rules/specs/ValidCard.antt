@@ -4,14 +4,14 @@ use Rattle.card_code.specs.CardCode.{has_row, deck_character}
 use Rattle.card_code.specs.Rows.{row_number}
 use Rattle.card_code.specs.declared.row.Row.{Row}
 use Rattle.card_code.specs.declared.row.Row.TheVariants.{Zero, One, Two, Three, Four, Five, Six, Seven, Eight, Nine}
-use Rattle.charts.specs.Chart.{Chart}
-use Rattle.charts.specs.declared.statement.Field.{Field}
-use Rattle.charts.specs.declared.statement.FieldKind.{FieldKind}
-use Rattle.charts.specs.declared.statement.FieldKind.TheVariants as holds
+use Rattle.chart_lines.specs.ChartsWords.Chart.{Chart}
+use Rattle.chart_lines.specs.declared.charts.statement.Field.{Field}
+use Rattle.chart_lines.specs.declared.charts.statement.FieldKind.{FieldKind}
+use Rattle.chart_lines.specs.declared.charts.statement.FieldKind.TheVariants as holds
 use Rattle.chart_rules.specs.declared.card.CardFault.{CardFault}
 use Rattle.chart_rules.specs.declared.card.CardFault.TheVariants as fault
-use Rattle.line_rules.specs.FieldRules.Fields.{fields_of}
-use Rattle.charts.specs.Field.{sign_column, decimals_of}
+use Rattle.chart_line_rules.specs.FieldRules.Fields.{fields_of}
+use Rattle.chart_lines.specs.ChartsWords.Field.{sign_column, decimals_of}
 
 -- the rows punched in a column of a card
 abbrev pub column_of : List ℕ → ℕ → ℕ

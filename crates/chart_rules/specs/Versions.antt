@@ -1,11 +1,11 @@
 -- Charts of both versions that say the same.
 use Rattle.std.specs.Prelude.{◌≡◌, ◌↔◌, ℕ, List, []}
 use Rattle.std.specs.List.{Contains}
-use Rattle.charts.specs.Chart.{Chart}
-use Rattle.charts.specs.declared.chart.Line.{Line}
-use Rattle.charts.specs.declared.chart.Version.TheVariants.{First, Second}
-use Rattle.line_rules.specs.FieldRules.Coupled.{is_coupled, takes_two}
-use Rattle.line_rules.specs.FieldRules.Fields.{fields_of}
+use Rattle.chart_lines.specs.ChartsWords.Chart.{Chart}
+use Rattle.chart_lines.specs.declared.charts.chart.Line.{Line}
+use Rattle.chart_lines.specs.declared.charts.chart.Version.TheVariants.{First, Second}
+use Rattle.chart_line_rules.specs.FieldRules.Coupled.{is_coupled, takes_two}
+use Rattle.chart_line_rules.specs.FieldRules.Fields.{fields_of}
 use Rattle.chart_rules.specs.Rules.{IsLawful}
 
 -- the chart of version 1 of some lines and the number of END

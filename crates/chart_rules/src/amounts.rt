@@ -3,13 +3,13 @@
 ghost use Rattle.std.specs.Prelude.{◌≡◌, ℕ, ◌+◌, ◌<◌, ◌≤◌, ◌==◌, IsTrue, false, length, slice_index};
 ghost use Rattle.card_code.specs.CardCode.{has_row};
 ghost use Rattle.card_code.specs.Columns.{column_of};
-ghost use Rattle.charts.specs.Field.{columns_of, decimals_of};
+ghost use Rattle.chart_lines.specs.ChartsWords.Field.{columns_of, decimals_of};
 ghost use Rattle.chart_rules.specs.HelperOnCard.{IsOnCard};
 ghost use Rattle.chart_rules.specs.ValidCard.{digit_count, is_sign};
 
 use crate::texts::mark;
 use card_code::{CARD_COLUMNS, Card};
-use charts::Field;
+use chart_lines::charts::Field;
 
 /// Which columns of a card are columns of a chart's amounts, and what each may hold.
 ///
@@ -33,7 +33,7 @@ pub(crate) struct AmountColumns {
 
 impl AmountColumns {
     ghost use Rattle.std.specs.Prelude.{◌≤◌, IsTrue, length};
-    ghost use Rattle.charts.specs.Field.{columns_of, decimals_of};
+    ghost use Rattle.chart_lines.specs.ChartsWords.Field.{columns_of, decimals_of};
     ghost use Rattle.chart_rules.specs.HelperAmounts.{AreAmountsMarked, ArePlain, AreSized, IsAmountMarked, Keeps};
     ghost use Rattle.chart_rules.specs.HelperOnCard.{AreOnCard, IsOnCard};
 

@@ -4,14 +4,14 @@ ghost use Rattle.std.specs.List.{list_any};
 ghost use Rattle.std.specs.Prelude.{◌≡◌, ◌==◌, ◌+◌, ◌<◌, ◌≤◌, ◌↔◌, ℕ, IsTrue, IsOk, IfErr, length, true};
 ghost use Rattle.card_code.specs.CardCode.{deck_character};
 ghost use Rattle.card_code.specs.Deck.{HasCharacters};
-ghost use Rattle.line_rules.specs.FieldRules.Fields.{fields_of};
-ghost use Rattle.charts.specs.Field.{decimals_of, sign_column};
+ghost use Rattle.chart_line_rules.specs.FieldRules.Fields.{fields_of};
+ghost use Rattle.chart_lines.specs.ChartsWords.Field.{decimals_of, sign_column};
 ghost use Rattle.chart_rules.specs.HelperOnCard.{IsOnCard, AreOnCard};
 ghost use Rattle.chart_rules.specs.ValidCard as valid;
 
 use crate::chart::Chart;
 use card_code::{Card, Column, Row};
-use charts::{Field, FieldKind};
+use chart_lines::charts::{Field, FieldKind};
 use thiserror::Error;
 
 /// The rows of the digits.

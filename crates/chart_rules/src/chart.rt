@@ -3,9 +3,9 @@
 use crate::amounts::AmountColumns;
 use crate::controls::Controls;
 use crate::texts::TextColumns;
-use charts::{ControlLevel, Field, Line, Name, RawChart, Statement, Version};
-use line_rules::field_rules::first_named;
-use line_rules::print_rules::Item;
+use chart_line_rules::field_rules::first_named;
+use chart_line_rules::print_rules::Item;
+use chart_lines::charts::{ControlLevel, Field, Line, Name, RawChart, Statement, Version};
 use std::marker::Model;
 
 /// A planning chart that breaks no rule.
@@ -34,7 +34,7 @@ impl Drop for Chart {
 }
 
 impl Model for Chart {
-    ghost use Rattle.charts.specs.Chart.{Chart as Lines};
+    ghost use Rattle.chart_lines.specs.ChartsWords.Chart.{Chart as Lines};
     ghost use Rattle.chart_rules.specs.HelperChecked.{IsChecked};
 
     ghost Value = { Lines };
@@ -46,10 +46,10 @@ impl Model for Chart {
 
 impl Chart {
     ghost use Rattle.std.specs.Prelude.{◌≡◌, length};
-    ghost use Rattle.charts.specs.Chart.{NumbersRise};
-    ghost use Rattle.charts.specs.Levels.{control_number};
-    ghost use Rattle.line_rules.specs.FieldRules.Fields.{fields_of, field_named};
-    ghost use Rattle.line_rules.specs.PrintRules.Items.{item_of};
+    ghost use Rattle.chart_lines.specs.ChartsWords.Chart.{NumbersRise};
+    ghost use Rattle.chart_lines.specs.ChartsWords.Levels.{control_number};
+    ghost use Rattle.chart_line_rules.specs.FieldRules.Fields.{fields_of, field_named};
+    ghost use Rattle.chart_line_rules.specs.PrintRules.Items.{item_of};
     ghost use Rattle.chart_rules.specs.Controls.{AreControlsOf, controls_of};
     ghost use Rattle.chart_rules.specs.HelperAmounts.{AreAmountsMarked};
     ghost use Rattle.chart_rules.specs.HelperTexts.{AreMarked};

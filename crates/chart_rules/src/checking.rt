@@ -1,8 +1,8 @@
 //! Checking a chart by the rules.
 
 ghost use Rattle.std.specs.Prelude.{◌≡◌, ◌≢◌, ◌<◌, ◌≤◌, ◌++◌, ℕ, List, Some, length, slice_get, MatchOption, IfSome, IfNone, IfOk, IfErr, OnOk};
-ghost use Rattle.charts.specs.declared.statement.Field.{Field};
-ghost use Rattle.line_rules.specs.FieldRules.Fields.{fields_of};
+ghost use Rattle.chart_lines.specs.declared.charts.statement.Field.{Field};
+ghost use Rattle.chart_line_rules.specs.FieldRules.Fields.{fields_of};
 ghost use Rattle.chart_rules.specs.RuleFaults.{IsTold};
 ghost use Rattle.chart_rules.specs.Rules as law;
 ghost use Rattle.chart_rules.specs.HelperOrder as order;
@@ -11,16 +11,16 @@ use crate::chart::Chart;
 use crate::controls::Controls;
 use crate::fault::RuleFault;
 use crate::rule::Rule;
-use charts::{Line, RawChart};
-use line_rules::field_rules::{
+use chart_line_rules::field_rules::{
     Fields, breaks_amount_size, breaks_columns, breaks_coupled_mark, breaks_digits_range,
     breaks_digits_shrink, breaks_line_twice, breaks_name_twice, breaks_no_control,
     breaks_total_text_not_control, breaks_unknown_name, breaks_wrong_kind,
 };
-use line_rules::print_rules::{
+use chart_line_rules::print_rules::{
     breaks_form, breaks_mark_mismatch, breaks_print_kind, breaks_tape, breaks_wheel_clash,
     breaks_wheel_overlap, breaks_wheel_range, lacks_form, lacks_print,
 };
+use chart_lines::charts::{Line, RawChart};
 use std::alloc::Global;
 
 /// The rules in the order of their numbers.

@@ -1,13 +1,13 @@
 //! The control fields of a chart, level by level.
 
 ghost use Rattle.std.specs.Prelude.{◌≡◌, IfOk, List};
-ghost use Rattle.charts.specs.declared.chart.Line.{Line};
-ghost use Rattle.charts.specs.Levels.{control_number};
-ghost use Rattle.line_rules.specs.FieldRules.Fields.{fields_of};
+ghost use Rattle.chart_lines.specs.declared.charts.chart.Line.{Line};
+ghost use Rattle.chart_lines.specs.ChartsWords.Levels.{control_number};
+ghost use Rattle.chart_line_rules.specs.FieldRules.Fields.{fields_of};
 ghost use Rattle.chart_rules.specs.Controls.{control_on, controls_of};
 
-use charts::{ControlLevel, Field, Line, Statement};
-use line_rules::field_rules::Fields;
+use chart_line_rules::field_rules::Fields;
+use chart_lines::charts::{ControlLevel, Field, Line, Statement};
 use std::alloc::{AllocError, Global};
 
 /// The control fields of a chart, those of each level in the order of their lines. They are looked up once, since each two cards of a
@@ -21,7 +21,7 @@ pub(crate) struct Controls {
 
 impl Controls {
     ghost use Rattle.std.specs.Prelude.{◌≡◌, IfOk};
-    ghost use Rattle.line_rules.specs.FieldRules.Fields.{fields_of};
+    ghost use Rattle.chart_line_rules.specs.FieldRules.Fields.{fields_of};
     ghost use Rattle.chart_rules.specs.Controls.{AreControlsOf, kept_for};
 
     /// The control fields that some lines name. It allocates, and fails only where memory is refused.

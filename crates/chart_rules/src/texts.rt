@@ -6,7 +6,7 @@ ghost use Rattle.card_code.specs.Columns.{column_of};
 ghost use Rattle.chart_rules.specs.ValidCard.{is_printed};
 
 use card_code::{CARD_COLUMNS, Card};
-use charts::Field;
+use chart_lines::charts::Field;
 
 /// Which columns of a card are columns of a chart's texts.
 ///

@@ -1,6 +1,6 @@
 -- What an answer of the reader says of a text.
 use Rattle.std.proofs.Common.{◌≡◌, ◌≢◌, ℕ, List, Result, Ok, Err, IfOk, IfErr, refl, sym, ◌∙◌, inl, inr, ◌⊎◌}
-use Rattle.charts.specs.Chart.{Chart}
+use Rattle.chart_lines.specs.ChartsWords.Chart.{Chart}
 use Rattle.chart_text.specs.ChartText.{Reads}
 use Rattle.chart_text.specs.TextFaults.{HasTextFault}
 use Rattle.chart_text.specs.HelperText.{chart_of, Answers}

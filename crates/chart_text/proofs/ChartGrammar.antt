@@ -2,24 +2,24 @@
 use Rattle.std.proofs.Common.{◌≡◌, ℕ, ◌+◌, ◌-◌, ◌<◌, ◌≤◌, Bool, true, false, cond, List, [], ◌∷◌, length, get_or, Option, Some, None, Result, Ok, Err, suc, refl, ap, sym, ◌∙◌, subst, inl, inr, ◌⊎◌, arith, codes}
 use Rattle.std.proofs.lemmas.Bool.{cases_order}
 use Rattle.std.proofs.lemmas.Option.{same_Some, none-some}
-use Rattle.tokens.proofs.TokenGrammar.{read_what_it_has}
+use Rattle.chart_lines.proofs.TokensWords.TokenGrammar.{read_what_it_has}
 use Rattle.std.specs.Bool.{Decides}
 use Rattle.std.specs.List.{AllByRecursion}
 use Rattle.card_code.specs.Lines.{lines_of}
-use Rattle.charts.specs.Chart.{Chart}
-use Rattle.tokens.specs.Frame.{IsEmptyLine, IsEndLine, line_at, IsLineFrom, IsAfterEnd, IsNoLine, LacksEnd}
+use Rattle.chart_lines.specs.ChartsWords.Chart.{Chart}
+use Rattle.chart_lines.specs.TokensWords.Frame.{IsEmptyLine, IsEndLine, line_at, IsLineFrom, IsAfterEnd, IsNoLine, LacksEnd}
 use Rattle.chart_text.specs.ChartText.{IsFirstLine, IsFormLine, IsTooLarge, ReadsFrom, empty_line, form_line, end_line, Reads, line_of, number_if_coupled, version_text}
 use Rattle.chart_text.specs.TextFaults.{HasFirstLine, IsMisplaced, IsLowestMisplaced, HasTextFault, HaveFault}
-use Rattle.tokens.specs.Dividing.{tokens_of}
-use Rattle.tokens.proofs.LineContent as lines
-use Rattle.tokens.proofs.TextFrame.{larger_by, title_by, told_false, refused_by}
+use Rattle.chart_lines.specs.TokensWords.Dividing.{tokens_of}
+use Rattle.chart_lines.proofs.TokensWords.LineContent as lines
+use Rattle.chart_lines.proofs.TokensWords.TextFrame.{larger_by, title_by, told_false, refused_by}
 use Rattle.chart_text.specs.HelperForms.{said_of}
 use Rattle.chart_text.specs.HelperText.{Content, content_of, is_first, version_of, is_large, with_lines, line_then, chart_from, chart_after, chart_of_lines, chart_of}
-use Rattle.charts.specs.declared.chart.Line.{Line}
-use Rattle.charts.specs.declared.chart.Version.{Version}
-use Rattle.charts.specs.declared.chart.Version.TheVariants.{First, Second}
+use Rattle.chart_lines.specs.declared.charts.chart.Line.{Line}
+use Rattle.chart_lines.specs.declared.charts.chart.Version.{Version}
+use Rattle.chart_lines.specs.declared.charts.chart.Version.TheVariants.{First, Second}
 use Rattle.chart_text.specs.declared.forms.Said.{Said}
-use Rattle.tokens.specs.declared.frame.Content.TheVariants.{Empty, End, Says, NoLine}
+use Rattle.chart_lines.specs.declared.tokens.frame.Content.TheVariants.{Empty, End, Says, NoLine}
 use Rattle.chart_text.specs.declared.fault.TextFault.{TextFault}
 use Rattle.chart_text.specs.declared.fault.TextFault.TheVariants.{TooLarge, NoFirstLine, NotALine, NoEnd, Memory}
 use Rattle.chart_text.proofs.FormGrammar.{says_in_what_is_read, read_what_it_says_in, nothing_said, end_says_nothing}

@@ -3,32 +3,32 @@ use Rattle.std.proofs.Common.{◌≡◌, ℕ, Bool, true, false, cond, leb, ◌&
 use Rattle.std.proofs.lemmas.Bool.{and_parts, leb-true, le-leb}
 use Rattle.std.proofs.lemmas.Option.{same_Some, cond_some}
 use Rattle.std.specs.Str.{bytes_eq}
-use Rattle.tokens.specs.Number.{IsNumber}
-use Rattle.charts.specs.Name.{IsName}
+use Rattle.chart_lines.specs.TokensWords.Number.{IsNumber}
+use Rattle.chart_lines.specs.ChartsWords.Name.{IsName}
 use Rattle.chart_text.specs.Forms.{SaysSign, unsigned, by_row, by_absence, SaysMark, unmarked, total_marked, SaysOption, as_it_is, indicated, item_marked, SaysKind, detail_line, total_line, Says, text_field, amount_field, control, print_detail, print_group, head, detail_literal, detail_field, total_literal, total_text, total_amount, SaysCoupled, coupled_amount, space, page_after, skip_after, form, tape}
-use Rattle.tokens.specs.NumberReading.{number_of, numbers_of}
+use Rattle.chart_lines.specs.TokensWords.NumberReading.{number_of, numbers_of}
 use Rattle.chart_text.specs.HelperWords.{name_of, literal_of, mark_of, keyword_of, level_of, control_level_of, heading_line_of, spacing_lines_of}
 use Rattle.chart_text.specs.HelperForms.{stops_of, sign_of, total_mark_of, option_of, kind_of, field_kind_of, field_of, control_of, print_of, head_of, detail_literal_of, detail_field_of, detail_item_of, detail_of, total_literal_of, total_amount_of, total_field_of, total_item_of, total_statement, spacing_of, space_of, follower_of, after_of, form_of, tape_of, said_after, statement_of, coupled_of, said_by, said_of}
-use Rattle.tokens.proofs.Steps.{bound, granted}
-use Rattle.tokens.proofs.TokenWord.{is_word}
-use Rattle.tokens.proofs.NumberGrammar.{number_is, number_read, numbers_are, numbers_read, as_many_numbers}
+use Rattle.chart_lines.proofs.TokensWords.Steps.{bound, granted}
+use Rattle.chart_lines.proofs.TokensWords.TokenWord.{is_word}
+use Rattle.chart_lines.proofs.TokensWords.NumberGrammar.{number_is, number_read, numbers_are, numbers_read, as_many_numbers}
 use Rattle.chart_text.proofs.NumberedWords.{level_is, level_read, control_level_is, control_level_read, heading_line_is, heading_line_read, spacing_lines_is, spacing_lines_read}
 use Rattle.chart_text.proofs.WordGrammar.{name_is, name_read, literal_is, literal_read, name_no_literal, mark_is, mark_read}
-use Rattle.charts.specs.declared.statement.SignRule.{SignRule}
-use Rattle.charts.specs.declared.statement.SignRule.TheVariants.{X, NX}
-use Rattle.charts.specs.declared.statement.FieldKind.{FieldKind}
-use Rattle.charts.specs.declared.statement.FieldKind.TheVariants as kinds
-use Rattle.charts.specs.declared.statement.Mark.{Mark}
-use Rattle.charts.specs.declared.statement.BodyLine.{BodyLine}
-use Rattle.charts.specs.declared.statement.BodyLine.TheVariants as lines
-use Rattle.charts.specs.declared.statement.DetailOption.{DetailOption}
-use Rattle.charts.specs.declared.statement.DetailOption.TheVariants.{Plain, Indicated, Marked}
-use Rattle.charts.specs.declared.statement.Statement.{Statement}
-use Rattle.charts.specs.declared.statement.Statement.TheVariants as says
-use Rattle.charts.specs.declared.statement.TotalLine.{TotalLine}
-use Rattle.charts.specs.Levels.{level_number}
-use Rattle.charts.specs.declared.chart.Version.{Version}
-use Rattle.charts.specs.declared.chart.Version.TheVariants.{First, Second}
+use Rattle.chart_lines.specs.declared.charts.statement.SignRule.{SignRule}
+use Rattle.chart_lines.specs.declared.charts.statement.SignRule.TheVariants.{X, NX}
+use Rattle.chart_lines.specs.declared.charts.statement.FieldKind.{FieldKind}
+use Rattle.chart_lines.specs.declared.charts.statement.FieldKind.TheVariants as kinds
+use Rattle.chart_lines.specs.declared.charts.statement.Mark.{Mark}
+use Rattle.chart_lines.specs.declared.charts.statement.BodyLine.{BodyLine}
+use Rattle.chart_lines.specs.declared.charts.statement.BodyLine.TheVariants as lines
+use Rattle.chart_lines.specs.declared.charts.statement.DetailOption.{DetailOption}
+use Rattle.chart_lines.specs.declared.charts.statement.DetailOption.TheVariants.{Plain, Indicated, Marked}
+use Rattle.chart_lines.specs.declared.charts.statement.Statement.{Statement}
+use Rattle.chart_lines.specs.declared.charts.statement.Statement.TheVariants as says
+use Rattle.chart_lines.specs.declared.charts.statement.TotalLine.{TotalLine}
+use Rattle.chart_lines.specs.ChartsWords.Levels.{level_number}
+use Rattle.chart_lines.specs.declared.charts.chart.Version.{Version}
+use Rattle.chart_lines.specs.declared.charts.chart.Version.TheVariants.{First, Second}
 use Rattle.chart_text.specs.ChartText.{SaysIn, in_both, in_second}
 use Rattle.chart_text.specs.declared.forms.Said.{Said}
 use Rattle.chart_text.specs.declared.words.Keyword.{Keyword}

@@ -1,14 +1,14 @@
 -- Reading the lines of a chart one after another.
 use Rattle.std.proofs.Common.{◌≡◌, ℕ, ◌+◌, ◌<◌, ◌≤◌, List, [], ◌∷◌, ◌++◌, length, Option, Some, None, Result, Ok, Err, unwrap_or, IfSome, refl, ap, ap₂, sym, ◌∙◌, append_assoc, append-nil, arith, suc, subst}
 use Rattle.card_code.specs.Lines.{lines_of}
-use Rattle.charts.specs.Chart.{Chart, NumbersRise}
+use Rattle.chart_lines.specs.ChartsWords.Chart.{Chart, NumbersRise}
 use Rattle.std.proofs.Math.Numerals.{add-one}
 use Rattle.chart_text.specs.ChartText.{line_of, number_if_coupled}
 use Rattle.chart_text.specs.HelperText.{Content, with_lines, line_then, chart_from, content_of, Faults, TakesLine, RefusesLine}
-use Rattle.charts.specs.declared.chart.Line.{Line}
-use Rattle.charts.specs.declared.chart.Version.{Version}
+use Rattle.chart_lines.specs.declared.charts.chart.Line.{Line}
+use Rattle.chart_lines.specs.declared.charts.chart.Version.{Version}
 use Rattle.chart_text.specs.declared.forms.Said.{Said}
-use Rattle.tokens.specs.declared.frame.Content.TheVariants.{Says}
+use Rattle.chart_lines.specs.declared.tokens.frame.Content.TheVariants.{Says}
 use Rattle.chart_text.specs.declared.fault.TextFault.{TextFault}
 use Rattle.chart_text.specs.declared.fault.TextFault.TheVariants.{TooLarge, NoFirstLine, NotALine, NoEnd, Memory}
 

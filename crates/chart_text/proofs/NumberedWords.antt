@@ -2,22 +2,22 @@
 use Rattle.std.proofs.Common.{◌≡◌, ℕ, Bool, true, false, cond, eqb, List, Option, Some, refl, ap, sym, ◌∙◌, subst}
 use Rattle.std.proofs.lemmas.Bool.{eqb-true}
 use Rattle.std.proofs.lemmas.Option.{same_Some}
-use Rattle.tokens.specs.Number.{IsNumber}
-use Rattle.tokens.specs.NumberReading.{number_of}
-use Rattle.tokens.proofs.Steps.{bound}
-use Rattle.tokens.proofs.NumberGrammar.{number_is, number_read}
-use Rattle.charts.specs.Levels.{level_number, level_with, control_number, control_with}
-use Rattle.charts.specs.Headings.{heading_number, heading_with}
-use Rattle.charts.specs.Spacings.{spacing_number, spacing_with}
+use Rattle.chart_lines.specs.TokensWords.Number.{IsNumber}
+use Rattle.chart_lines.specs.TokensWords.NumberReading.{number_of}
+use Rattle.chart_lines.proofs.TokensWords.Steps.{bound}
+use Rattle.chart_lines.proofs.TokensWords.NumberGrammar.{number_is, number_read}
+use Rattle.chart_lines.specs.ChartsWords.Levels.{level_number, level_with, control_number, control_with}
+use Rattle.chart_lines.specs.ChartsWords.Headings.{heading_number, heading_with}
+use Rattle.chart_lines.specs.ChartsWords.Spacings.{spacing_number, spacing_with}
 use Rattle.chart_text.specs.HelperWords.{level_of, control_level_of, heading_line_of, spacing_lines_of}
-use Rattle.charts.specs.declared.heading.HeadingLine.{HeadingLine}
-use Rattle.charts.specs.declared.heading.HeadingLine.TheVariants as heading
-use Rattle.charts.specs.declared.level.ControlLevel.{ControlLevel}
-use Rattle.charts.specs.declared.level.ControlLevel.TheVariants as control
-use Rattle.charts.specs.declared.level.Level.{Level}
-use Rattle.charts.specs.declared.level.Level.TheVariants as level
-use Rattle.charts.specs.declared.spacing.Spacing.{Spacing}
-use Rattle.charts.specs.declared.spacing.Spacing.TheVariants as spacing
+use Rattle.chart_lines.specs.declared.charts.heading.HeadingLine.{HeadingLine}
+use Rattle.chart_lines.specs.declared.charts.heading.HeadingLine.TheVariants as heading
+use Rattle.chart_lines.specs.declared.charts.level.ControlLevel.{ControlLevel}
+use Rattle.chart_lines.specs.declared.charts.level.ControlLevel.TheVariants as control
+use Rattle.chart_lines.specs.declared.charts.level.Level.{Level}
+use Rattle.chart_lines.specs.declared.charts.level.Level.TheVariants as level
+use Rattle.chart_lines.specs.declared.charts.spacing.Spacing.{Spacing}
+use Rattle.chart_lines.specs.declared.charts.spacing.Spacing.TheVariants as spacing
 
 -- the next number to try: what has it, or one of the others
 try_number : {A : Type 0} (number_of : A → ℕ) (n wanted : ℕ) (there x : A) (others : Option A)

@@ -1,11 +1,11 @@
 -- A line says one thing at most.
 use Rattle.std.proofs.Common.{◌≡◌, ℕ, List, sym, ◌∙◌}
-use Rattle.charts.specs.declared.chart.Version.{Version}
-use Rattle.charts.specs.declared.chart.Version.TheVariants.{First}
-use Rattle.tokens.specs.Frame.{IsEmptyLine, IsEndLine}
+use Rattle.chart_lines.specs.declared.charts.chart.Version.{Version}
+use Rattle.chart_lines.specs.declared.charts.chart.Version.TheVariants.{First}
+use Rattle.chart_lines.specs.TokensWords.Frame.{IsEmptyLine, IsEndLine}
 use Rattle.chart_text.specs.ChartText.{IsFormLine}
 use Rattle.chart_text.specs.declared.forms.Said.{Said}
-use Rattle.tokens.specs.declared.frame.Content.TheVariants.{Empty, End, Says}
+use Rattle.chart_lines.specs.declared.tokens.frame.Content.TheVariants.{Empty, End, Says}
 use Rattle.chart_text.proofs.ChartGrammar.{empty_read, end_read, form_read}
 
 pub one_statement : (version : Version) (line : List ℕ) (one other : Said) → IsFormLine version line one → IsFormLine version line other

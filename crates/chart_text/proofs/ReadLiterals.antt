@@ -1,13 +1,13 @@
 -- The literals of charts that are read from a text.
 use Rattle.std.proofs.Common.{◌≡◌, ◌∙◌, ap, subst, ℕ, zero, suc, List, Some, arith}
-use Rattle.charts.specs.Chart.{Chart}
+use Rattle.chart_lines.specs.ChartsWords.Chart.{Chart}
 use Rattle.chart_text.specs.ChartText.{Reads, ReadsFrom, SaysIn, in_both, in_second, empty_line, form_line, end_line}
 use Rattle.chart_text.specs.Forms.{Says, head, detail_literal, total_literal, coupled_amount}
-use Rattle.charts.specs.Literal.{IsLiteralText}
-use Rattle.charts.specs.Literals.{HaveLiteralTexts, literal_in}
-use Rattle.charts.specs.declared.chart.Line.{Line}
-use Rattle.charts.specs.declared.statement.Statement.{Statement}
-use Rattle.charts.specs.declared.chart.Version.{Version}
+use Rattle.chart_lines.specs.ChartsWords.Literal.{IsLiteralText}
+use Rattle.chart_lines.specs.ChartsWords.Literals.{HaveLiteralTexts, literal_in}
+use Rattle.chart_lines.specs.declared.charts.chart.Line.{Line}
+use Rattle.chart_lines.specs.declared.charts.statement.Statement.{Statement}
+use Rattle.chart_lines.specs.declared.charts.chart.Version.{Version}
 use Rattle.chart_text.specs.declared.forms.Said.{Said}
 
 -- a literal text by another name

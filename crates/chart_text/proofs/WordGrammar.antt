@@ -7,13 +7,13 @@ use Rattle.std.proofs.Math.Seq.{take-append_seam, get_or-append_seam}
 use Rattle.std.proofs.Math.Numerals.{add-one}
 use Rattle.std.specs.List.{list_all, slice_range}
 use Rattle.std.specs.Str.{bytes_eq}
-use Rattle.charts.specs.Name.{begins_with_letter, IsName, HasShape}
-use Rattle.charts.specs.Literal.{is_printable, IsLiteralText}
+use Rattle.chart_lines.specs.ChartsWords.Name.{begins_with_letter, IsName, HasShape}
+use Rattle.chart_lines.specs.ChartsWords.Literal.{is_printable, IsLiteralText}
 use Rattle.chart_text.specs.Forms.{IsLiteral, IsMark, credit, minus}
-use Rattle.charts.specs.declared.statement.Mark.{Mark}
-use Rattle.charts.specs.declared.statement.Mark.TheVariants.{Credit, Minus}
+use Rattle.chart_lines.specs.declared.charts.statement.Mark.{Mark}
+use Rattle.chart_lines.specs.declared.charts.statement.Mark.TheVariants.{Credit, Minus}
 use Rattle.chart_text.specs.HelperWords.{name_of, literal_of, is_literal_text, mark_of}
-use Rattle.tokens.proofs.TokenWord.{is_word}
+use Rattle.chart_lines.proofs.TokensWords.TokenWord.{is_word}
 
 -- a token that is spelled as a name, filled with blanks
 pub has_shape : (token : List ℕ) → begins_with_letter token ≡ true → length token ≤ 8

@@ -1,1 +1,1 @@
-pub use Rattle.charts.specs as charts
+pub use Rattle.chart_lines.specs.ChartsWords as charts

@@ -3,15 +3,15 @@
 use Rattle.std.specs.Prelude.{◌≡◌, ℕ, suc, true, false, List, [], ◌∷◌, ◌++◌, if◌then◌else◌, codes}
 use Rattle.std.specs.List.{AllByRecursion}
 use Rattle.card_code.specs.Lines.{lines_of}
-use Rattle.charts.specs.Chart.{Chart}
-use Rattle.tokens.specs.Frame.{IsEmptyLine, IsEndLine, IsLarger, IsTitleLine}
-use Rattle.tokens.specs.Tokens.{HasTokens}
+use Rattle.chart_lines.specs.ChartsWords.Chart.{Chart}
+use Rattle.chart_lines.specs.TokensWords.Frame.{IsEmptyLine, IsEndLine, IsLarger, IsTitleLine}
+use Rattle.chart_lines.specs.TokensWords.Tokens.{HasTokens}
 use Rattle.chart_text.specs.Forms.{Says, SaysCoupled}
 use Rattle.chart_text.specs.declared.forms.Said.{Said}
-use Rattle.charts.specs.declared.chart.Line.{Line}
-use Rattle.charts.specs.declared.chart.Version.{Version}
-use Rattle.charts.specs.declared.chart.Version.TheVariants.{First, Second}
-use Rattle.charts.specs.declared.statement.Statement.{Statement}
+use Rattle.chart_lines.specs.declared.charts.chart.Line.{Line}
+use Rattle.chart_lines.specs.declared.charts.chart.Version.{Version}
+use Rattle.chart_lines.specs.declared.charts.chart.Version.TheVariants.{First, Second}
+use Rattle.chart_lines.specs.declared.charts.statement.Statement.{Statement}
 
 -- how a version is written
 abbrev pub version_text : Version → List ℕ

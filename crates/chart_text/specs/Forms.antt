@@ -1,29 +1,29 @@
 -- The forms of a chart: what the tokens of a line say.
 use Rattle.std.specs.Prelude.{◌≡◌, ℕ, ◌≤◌, List, [], ◌∷◌, ◌++◌, length, Option, Some, None, codes}
-use Rattle.tokens.specs.Number.{IsNumber, AreNumbers}
-use Rattle.charts.specs.Name.{IsName}
-use Rattle.charts.specs.Literal.{IsLiteralText}
-use Rattle.charts.specs.Levels.{level_number, control_number}
-use Rattle.charts.specs.Headings.{heading_number}
-use Rattle.charts.specs.Spacings.{spacing_number}
-use Rattle.charts.specs.declared.heading.HeadingLine.{HeadingLine}
-use Rattle.charts.specs.declared.level.ControlLevel.{ControlLevel}
-use Rattle.charts.specs.declared.level.Level.{Level}
-use Rattle.charts.specs.declared.spacing.Spacing.{Spacing}
-use Rattle.charts.specs.declared.statement.SignRule.{SignRule}
-use Rattle.charts.specs.declared.statement.SignRule.TheVariants.{X, NX}
-use Rattle.charts.specs.declared.statement.FieldKind.TheVariants as kinds
-use Rattle.charts.specs.declared.statement.Printing.TheVariants as printings
-use Rattle.charts.specs.declared.statement.Mark.{Mark}
-use Rattle.charts.specs.declared.statement.Mark.TheVariants.{Credit, Minus}
-use Rattle.charts.specs.declared.statement.BodyLine.{BodyLine}
-use Rattle.charts.specs.declared.statement.BodyLine.TheVariants as lines
-use Rattle.charts.specs.declared.statement.After.TheVariants.{Page, Skip}
-use Rattle.charts.specs.declared.statement.DetailOption.{DetailOption}
-use Rattle.charts.specs.declared.statement.DetailOption.TheVariants.{Plain, Indicated, Marked}
-use Rattle.charts.specs.declared.statement.Statement.{Statement}
-use Rattle.charts.specs.declared.statement.Statement.TheVariants as says
-use Rattle.charts.specs.declared.statement.TotalLine.{TotalLine}
+use Rattle.chart_lines.specs.TokensWords.Number.{IsNumber, AreNumbers}
+use Rattle.chart_lines.specs.ChartsWords.Name.{IsName}
+use Rattle.chart_lines.specs.ChartsWords.Literal.{IsLiteralText}
+use Rattle.chart_lines.specs.ChartsWords.Levels.{level_number, control_number}
+use Rattle.chart_lines.specs.ChartsWords.Headings.{heading_number}
+use Rattle.chart_lines.specs.ChartsWords.Spacings.{spacing_number}
+use Rattle.chart_lines.specs.declared.charts.heading.HeadingLine.{HeadingLine}
+use Rattle.chart_lines.specs.declared.charts.level.ControlLevel.{ControlLevel}
+use Rattle.chart_lines.specs.declared.charts.level.Level.{Level}
+use Rattle.chart_lines.specs.declared.charts.spacing.Spacing.{Spacing}
+use Rattle.chart_lines.specs.declared.charts.statement.SignRule.{SignRule}
+use Rattle.chart_lines.specs.declared.charts.statement.SignRule.TheVariants.{X, NX}
+use Rattle.chart_lines.specs.declared.charts.statement.FieldKind.TheVariants as kinds
+use Rattle.chart_lines.specs.declared.charts.statement.Printing.TheVariants as printings
+use Rattle.chart_lines.specs.declared.charts.statement.Mark.{Mark}
+use Rattle.chart_lines.specs.declared.charts.statement.Mark.TheVariants.{Credit, Minus}
+use Rattle.chart_lines.specs.declared.charts.statement.BodyLine.{BodyLine}
+use Rattle.chart_lines.specs.declared.charts.statement.BodyLine.TheVariants as lines
+use Rattle.chart_lines.specs.declared.charts.statement.After.TheVariants.{Page, Skip}
+use Rattle.chart_lines.specs.declared.charts.statement.DetailOption.{DetailOption}
+use Rattle.chart_lines.specs.declared.charts.statement.DetailOption.TheVariants.{Plain, Indicated, Marked}
+use Rattle.chart_lines.specs.declared.charts.statement.Statement.{Statement}
+use Rattle.chart_lines.specs.declared.charts.statement.Statement.TheVariants as says
+use Rattle.chart_lines.specs.declared.charts.statement.TotalLine.{TotalLine}
 
 -- the token is the literal of these characters
 pub record IsLiteral (token characters : List ℕ) : Type 0 where

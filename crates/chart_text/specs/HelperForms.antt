@@ -2,24 +2,24 @@
 -- These are steps between the code and the grammar: no public clause speaks of them.
 use Rattle.std.specs.Prelude.{ℕ, ◌&&◌, true, false, List, [], ◌∷◌, length, Option, Some, None, option_map, if◌then◌else◌, nat_le, codes}
 use Rattle.std.specs.Str.{bytes_eq}
-use Rattle.tokens.specs.NumberReading.{number_of, numbers_of}
-use Rattle.tokens.specs.Steps.{◌>>=◌}
+use Rattle.chart_lines.specs.TokensWords.NumberReading.{number_of, numbers_of}
+use Rattle.chart_lines.specs.TokensWords.Steps.{◌>>=◌}
 use Rattle.chart_text.specs.HelperWords.{name_of, literal_of, mark_of, keyword_of, level_of, control_level_of, heading_line_of, spacing_lines_of}
-use Rattle.charts.specs.declared.statement.SignRule.{SignRule}
-use Rattle.charts.specs.declared.statement.SignRule.TheVariants.{X, NX}
-use Rattle.charts.specs.declared.statement.FieldKind.{FieldKind}
-use Rattle.charts.specs.declared.statement.FieldKind.TheVariants as kinds
-use Rattle.charts.specs.declared.statement.Printing.TheVariants as printings
-use Rattle.charts.specs.declared.statement.Mark.{Mark}
-use Rattle.charts.specs.declared.statement.BodyLine.{BodyLine}
-use Rattle.charts.specs.declared.statement.BodyLine.TheVariants as lines
-use Rattle.charts.specs.declared.statement.After.TheVariants.{Page, Skip}
-use Rattle.charts.specs.declared.statement.DetailOption.{DetailOption}
-use Rattle.charts.specs.declared.statement.DetailOption.TheVariants.{Plain, Indicated, Marked}
-use Rattle.charts.specs.declared.statement.Statement.{Statement}
-use Rattle.charts.specs.declared.statement.Statement.TheVariants as says
-use Rattle.charts.specs.declared.chart.Version.{Version}
-use Rattle.charts.specs.declared.chart.Version.TheVariants.{First, Second}
+use Rattle.chart_lines.specs.declared.charts.statement.SignRule.{SignRule}
+use Rattle.chart_lines.specs.declared.charts.statement.SignRule.TheVariants.{X, NX}
+use Rattle.chart_lines.specs.declared.charts.statement.FieldKind.{FieldKind}
+use Rattle.chart_lines.specs.declared.charts.statement.FieldKind.TheVariants as kinds
+use Rattle.chart_lines.specs.declared.charts.statement.Printing.TheVariants as printings
+use Rattle.chart_lines.specs.declared.charts.statement.Mark.{Mark}
+use Rattle.chart_lines.specs.declared.charts.statement.BodyLine.{BodyLine}
+use Rattle.chart_lines.specs.declared.charts.statement.BodyLine.TheVariants as lines
+use Rattle.chart_lines.specs.declared.charts.statement.After.TheVariants.{Page, Skip}
+use Rattle.chart_lines.specs.declared.charts.statement.DetailOption.{DetailOption}
+use Rattle.chart_lines.specs.declared.charts.statement.DetailOption.TheVariants.{Plain, Indicated, Marked}
+use Rattle.chart_lines.specs.declared.charts.statement.Statement.{Statement}
+use Rattle.chart_lines.specs.declared.charts.statement.Statement.TheVariants as says
+use Rattle.chart_lines.specs.declared.charts.chart.Version.{Version}
+use Rattle.chart_lines.specs.declared.charts.chart.Version.TheVariants.{First, Second}
 use Rattle.chart_text.specs.declared.forms.Said.{Said}
 use Rattle.chart_text.specs.declared.words.Keyword.{Keyword}
 use Rattle.chart_text.specs.declared.words.Keyword.TheVariants as words

@@ -2,17 +2,17 @@
 -- This is a step between the code and the grammar: no public clause speaks of it.
 use Rattle.std.specs.Prelude.{◌≡◌, ℕ, Bool, List, [], ◌∷◌, ◌++◌, Option, Some, None, Result, Ok, Err, suc, if◌then◌else◌, codes}
 use Rattle.card_code.specs.Lines.{lines_of}
-use Rattle.charts.specs.Chart.{Chart}
-use Rattle.tokens.specs.Dividing.{tokens_of}
-use Rattle.tokens.specs.FrameReading.{is_larger, is_title_line}
-use Rattle.tokens.specs.HelperLines.{divided_content}
-use Rattle.tokens.specs.declared.frame.Content as frame
-use Rattle.tokens.specs.declared.frame.Content.TheVariants.{Empty, End, Says, NoLine}
+use Rattle.chart_lines.specs.ChartsWords.Chart.{Chart}
+use Rattle.chart_lines.specs.TokensWords.Dividing.{tokens_of}
+use Rattle.chart_lines.specs.TokensWords.FrameReading.{is_larger, is_title_line}
+use Rattle.chart_lines.specs.TokensWords.HelperLines.{divided_content}
+use Rattle.chart_lines.specs.declared.tokens.frame.Content as frame
+use Rattle.chart_lines.specs.declared.tokens.frame.Content.TheVariants.{Empty, End, Says, NoLine}
 use Rattle.chart_text.specs.ChartText.{line_of, number_if_coupled, version_text}
 use Rattle.chart_text.specs.HelperForms.{said_of}
-use Rattle.charts.specs.declared.chart.Line.{Line}
-use Rattle.charts.specs.declared.chart.Version.{Version}
-use Rattle.charts.specs.declared.chart.Version.TheVariants as version
+use Rattle.chart_lines.specs.declared.charts.chart.Line.{Line}
+use Rattle.chart_lines.specs.declared.charts.chart.Version.{Version}
+use Rattle.chart_lines.specs.declared.charts.chart.Version.TheVariants as version
 use Rattle.chart_text.specs.declared.forms.Said.{Said}
 use Rattle.chart_text.specs.declared.fault.TextFault.{TextFault}
 use Rattle.chart_text.specs.declared.fault.TextFault.TheVariants.{TooLarge, NoFirstLine, NotALine, NoEnd, Memory}

@@ -3,19 +3,19 @@
 use Rattle.std.specs.Prelude.{ℕ, ◌-◌, ◌==◌, ◌&&◌, Bool, List, ◌++◌, length, Option, Some, None, if◌then◌else◌, nat_le, slice_index, slice_range, replicate, codes}
 use Rattle.std.specs.List.{list_all}
 use Rattle.std.specs.Str.{bytes_eq}
-use Rattle.tokens.specs.NumberReading.{number_of}
-use Rattle.tokens.specs.Steps.{◌>>=◌}
-use Rattle.charts.specs.Name.{begins_with_letter}
-use Rattle.charts.specs.Literal.{is_printable}
-use Rattle.charts.specs.Levels.{level_with, control_with}
-use Rattle.charts.specs.Headings.{heading_with}
-use Rattle.charts.specs.Spacings.{spacing_with}
-use Rattle.charts.specs.declared.heading.HeadingLine.{HeadingLine}
-use Rattle.charts.specs.declared.level.ControlLevel.{ControlLevel}
-use Rattle.charts.specs.declared.level.Level.{Level}
-use Rattle.charts.specs.declared.spacing.Spacing.{Spacing}
-use Rattle.charts.specs.declared.statement.Mark.{Mark}
-use Rattle.charts.specs.declared.statement.Mark.TheVariants.{Credit, Minus}
+use Rattle.chart_lines.specs.TokensWords.NumberReading.{number_of}
+use Rattle.chart_lines.specs.TokensWords.Steps.{◌>>=◌}
+use Rattle.chart_lines.specs.ChartsWords.Name.{begins_with_letter}
+use Rattle.chart_lines.specs.ChartsWords.Literal.{is_printable}
+use Rattle.chart_lines.specs.ChartsWords.Levels.{level_with, control_with}
+use Rattle.chart_lines.specs.ChartsWords.Headings.{heading_with}
+use Rattle.chart_lines.specs.ChartsWords.Spacings.{spacing_with}
+use Rattle.chart_lines.specs.declared.charts.heading.HeadingLine.{HeadingLine}
+use Rattle.chart_lines.specs.declared.charts.level.ControlLevel.{ControlLevel}
+use Rattle.chart_lines.specs.declared.charts.level.Level.{Level}
+use Rattle.chart_lines.specs.declared.charts.spacing.Spacing.{Spacing}
+use Rattle.chart_lines.specs.declared.charts.statement.Mark.{Mark}
+use Rattle.chart_lines.specs.declared.charts.statement.Mark.TheVariants.{Credit, Minus}
 use Rattle.chart_text.specs.declared.words.Keyword.{Keyword}
 use Rattle.chart_text.specs.declared.words.Keyword.TheVariants as words
 

@@ -1,10 +1,10 @@
 -- The text rules, in the order in which they are asked: the size of the text, its first line, its other lines, its END.
 use Rattle.std.specs.Prelude.{ℕ, ◌<◌, ◌≤◌, List, length, Option, Some, None}
 use Rattle.card_code.specs.Lines.{lines_of}
-use Rattle.tokens.specs.Frame as frame
-use Rattle.tokens.specs.Frame.{LacksEnd, line_at}
+use Rattle.chart_lines.specs.TokensWords.Frame as frame
+use Rattle.chart_lines.specs.TokensWords.Frame.{LacksEnd, line_at}
 use Rattle.chart_text.specs.ChartText.{IsFirstLine, IsFormLine, IsTooLarge}
-use Rattle.charts.specs.declared.chart.Version.{Version}
+use Rattle.chart_lines.specs.declared.charts.chart.Version.{Version}
 use Rattle.chart_text.specs.declared.fault.TextFault.{TextFault}
 use Rattle.chart_text.specs.declared.fault.TextFault.TheVariants.{TooLarge, NoFirstLine, NotALine, NoEnd, Memory}
 

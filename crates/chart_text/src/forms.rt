@@ -1,20 +1,20 @@
 //! The forms of a chart: what the tokens of a line say.
 
 ghost use Rattle.std.specs.Prelude.{◌≡◌, length, IfOk, IfSome, option_map, ◌++◌};
-ghost use Rattle.tokens.specs.NumberReading.{numbers_of};
-ghost use Rattle.tokens.specs.Texts.{texts};
+ghost use Rattle.chart_lines.specs.TokensWords.NumberReading.{numbers_of};
+ghost use Rattle.chart_lines.specs.TokensWords.Texts.{texts};
 ghost use Rattle.chart_text.specs.HelperForms.{sign_of, total_mark_of, option_of, kind_of, stops_of, field_kind_of, field_of, control_of, print_of, head_of, detail_literal_of, detail_field_of, detail_of, total_literal_of, total_amount_of, total_field_of, total_statement, coupled_of, said_coupled, said_of, spacing_of, space_of, follower_of, after_of, form_of, tape_of, said_after, statement_of};
 
 use crate::words::{
     Keyword, read_control_level, read_heading_line, read_keyword, read_level, read_literal,
     read_mark, read_name, read_spacing_lines,
 };
-use charts::{
+use chart_lines::charts::{
     After, BodyLine, DetailOption, Field, FieldKind, Literal, MAX_STOPS, Mark, Printing, SignRule,
     Statement, Stops, TotalLine, Version,
 };
+use chart_lines::tokens::{is, read_number};
 use std::alloc::{AllocError, Global};
-use tokens::{is, read_number};
 
 /// What a line of a chart says.
 #[derive(Drop)]

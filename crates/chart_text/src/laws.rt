@@ -1,12 +1,12 @@
 //! Laws of the grammar: functions without a body, whose contracts are proved.
 
 ghost use Rattle.std.specs.Prelude.{◌≡◌, ℕ, List};
-ghost use Rattle.charts.specs.Chart.{Chart};
-ghost use Rattle.tokens.specs.Frame.{IsEmptyLine, IsEndLine};
+ghost use Rattle.chart_lines.specs.ChartsWords.Chart.{Chart};
+ghost use Rattle.chart_lines.specs.TokensWords.Frame.{IsEmptyLine, IsEndLine};
 ghost use Rattle.chart_text.specs.ChartText.{IsFormLine, Reads};
-ghost use Rattle.charts.specs.Literals.{HaveLiteralTexts};
+ghost use Rattle.chart_lines.specs.ChartsWords.Literals.{HaveLiteralTexts};
 ghost use Rattle.chart_text.specs.TextFaults.{HasTextFault};
-ghost use Rattle.charts.specs.declared.chart.Version.{Version};
+ghost use Rattle.chart_lines.specs.declared.charts.chart.Version.{Version};
 ghost use Rattle.chart_text.specs.declared.forms.Said.{Said};
 ghost use Rattle.chart_text.specs.declared.fault.TextFault.{TextFault};
 

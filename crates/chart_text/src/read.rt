@@ -2,10 +2,10 @@
 
 ghost use Rattle.std.specs.Prelude.{◌≡◌, ◌≢◌, ◌+◌, ◌<◌, ◌≤◌, length, IfOk, IfErr, IfSome, OnOk, None, unwrap_or, ◌⊎◌, ◌++◌, [], ◌∷◌};
 ghost use Rattle.card_code.specs.Lines.{lines_of};
-ghost use Rattle.tokens.specs.HelperLines.{tokens_content};
-ghost use Rattle.tokens.specs.Texts.{texts};
+ghost use Rattle.chart_lines.specs.TokensWords.HelperLines.{tokens_content};
+ghost use Rattle.chart_lines.specs.TokensWords.Texts.{texts};
 ghost use Rattle.chart_text.specs.HelperForms.{said_of};
-ghost use Rattle.charts.specs.Chart.{Chart, NumbersRise};
+ghost use Rattle.chart_lines.specs.ChartsWords.Chart.{Chart, NumbersRise};
 ghost use Rattle.chart_text.specs.ChartText.{Reads, line_of, number_if_coupled};
 ghost use Rattle.chart_text.specs.TextFaults.{HasTextFault};
 ghost use Rattle.chart_text.specs.HelperText.{content_of, version_of, chart_from, chart_of, Answers, TakesLine, RefusesLine};
@@ -13,9 +13,9 @@ ghost use Rattle.chart_text.specs.HelperText.{content_of, version_of, chart_from
 use crate::fault::TextFault;
 use crate::forms::{Said, read_said};
 use card_code::next_line;
-use charts::{Line, RawChart, Version};
+use chart_lines::charts::{Line, RawChart, Version};
+use chart_lines::tokens::{Content, is, is_larger, is_title_line, split_line};
 use std::alloc::{AllocError, Global};
-use tokens::{Content, is, is_larger, is_title_line, split_line};
 
 /// How many lines a chart has at most.
 const MAX_LINES: usize = 500;

@@ -3,13 +3,15 @@
 ghost use Rattle.std.specs.Prelude.{◌≡◌, ◌+◌, ◌-◌, ◌*◌, ◌<◌, ◌≤◌, length, IfSome, IfOk, IsTrue, option_map, ◌++◌, replicate};
 ghost use Rattle.std.specs.List.{list_all};
 ghost use Rattle.chart_text.specs.HelperWords.{name_of, literal_of, is_literal_text, mark_of, keyword_of, level_of, control_level_of, heading_line_of, spacing_lines_of};
-ghost use Rattle.charts.specs.Name.{begins_with_letter, is_letter_or_digit};
-ghost use Rattle.charts.specs.Literal.{is_printable};
+ghost use Rattle.chart_lines.specs.ChartsWords.Name.{begins_with_letter, is_letter_or_digit};
+ghost use Rattle.chart_lines.specs.ChartsWords.Literal.{is_printable};
 
 use card_code::Column;
-use charts::{ControlLevel, HeadingLine, Level, Literal, MAX_LITERAL, Mark, Name, Spacing};
+use chart_lines::charts::{
+    ControlLevel, HeadingLine, Level, Literal, MAX_LITERAL, Mark, Name, Spacing,
+};
+use chart_lines::tokens::{is, read_number};
 use std::alloc::{AllocError, Global};
-use tokens::{is, read_number};
 
 /// The words that forms begin with.
 #[derive(Clone, Copy, Debug, PartialEq, Eq)]

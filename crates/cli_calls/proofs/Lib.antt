@@ -1,2 +1,4 @@
 pub mod Listed
 pub mod Told
+pub mod WholeRuns
+pub mod BrowserPages

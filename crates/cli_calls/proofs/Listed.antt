@@ -2,8 +2,8 @@
 use Rattle.std.proofs.Common.{ℕ, List, [], Option, Some, inl, inr, subst}
 use Rattle.std.specs.Io.KnownBytes.{Appends}
 use Rattle.fault_lists.specs.Endings.{EndsListing, IsBrokenOff, ListsCapacity, ListsRules, ListsText, by_text, by_rules, by_capacity, broken_off}
-use Rattle.faults.specs.declared.fault.Fault.{Fault}
-use Rattle.text_lists.specs.Endings.{EndsText, ListsWiring, planned, wired}
+use Rattle.fault_lines.specs.declared.faults.fault.Fault.{Fault}
+use Rattle.fault_lists.specs.TextLists.Endings.{EndsText, ListsWiring, planned, wired}
 
 -- these bytes were written where nothing was; what takes them all gains them
 taken : (listed bytes : List ℕ) (old new : Option (List ℕ)) → Appends (Some []) (Some listed) bytes → Appends old new listed

@@ -1,11 +1,11 @@
 -- What is told of a check.
 use Rattle.std.proofs.Common.{◌≡◌, ◌≢◌, ◌&&◌, ℕ, Bool, true, false, List, Option, Result, Ok, Err, OnOk, IfErr, inl, inr, sym, ◌∙◌, arith}
-use Rattle.check_calls.specs.Telling.{heads_list}
+use Rattle.cli_decks.specs.CheckCalls.Telling.{heads_list}
 use Rattle.cli_calls.specs.Ends.{DoneOrStopped, IsToldOnce}
-use Rattle.faults.specs.Lines.{IsTold}
-use Rattle.faults.specs.Status.{status_of}
-use Rattle.faults.specs.declared.fault.Fault.{Fault}
-use Rattle.faults.specs.declared.fault.Fault.TheVariants as fault
+use Rattle.fault_lines.specs.FaultsWords.Lines.{IsTold}
+use Rattle.fault_lines.specs.FaultsWords.Status.{status_of}
+use Rattle.fault_lines.specs.declared.faults.fault.Fault.{Fault}
+use Rattle.fault_lines.specs.declared.faults.fault.Fault.TheVariants as fault
 
 -- no fault has the status of what is done
 told_isnt_done : (told : Fault) → status_of told ≢ 0

@@ -2,58 +2,58 @@
 -- is written and told where the writers tell what they hold.
 use Rattle.std.specs.Prelude.{◌≡◌, ◌≢◌, ◌≤◌, ◌⊎◌, ◌-◌, ◌^◌, ℕ, Bool, true, false, List, [], Option, None, Some, codes}
 use Rattle.std.specs.Io.KnownBytes.{Appends}
-use Rattle.browser_pages.specs.ShowEnds.{LeavesUnshown, PrintsPage}
+use Rattle.cli_calls.specs.BrowserPages.ShowEnds.{LeavesUnshown, PrintsPage}
 use Rattle.card_code.specs.Lines.{lines_of}
-use Rattle.check_calls.specs.CheckEnds.{PrintsOk, StopsCheck}
-use Rattle.check_calls.specs.Grouped.{PrintsGrouped, StopsGrouped}
-use Rattle.check_calls.specs.Showing.{ShowsOk, StopsShowing}
+use Rattle.cli_decks.specs.CheckCalls.CheckEnds.{PrintsOk, StopsCheck}
+use Rattle.cli_decks.specs.CheckCalls.Grouped.{PrintsGrouped, StopsGrouped}
+use Rattle.cli_decks.specs.CheckCalls.Showing.{ShowsOk, StopsShowing}
 use Rattle.cli_calls.specs.Ends.{ByStatus, DoneOrAbove, DoneOrRefused, DoneOrStopped, IsToldOnce, IsWordsTold}
 use Rattle.cli_tasks.specs.declared.pages.Pages.{Pages}
 use Rattle.cli_tasks.specs.declared.task.Task.{Task}
 use Rattle.cli_tasks.specs.declared.task.Task.TheVariants as task
-use Rattle.commands.specs.Refusals.{RefusesChart}
-use Rattle.commands.specs.ServedReplays.Answers.{HasOrders}
-use Rattle.commands.specs.ServedReplays.Counted.{counts_line}
-use Rattle.commands.specs.ServedReplays.OrderedEnds.{IsRefusedByOrders, PrintsByOrders}
-use Rattle.commands.specs.Streamed.{EndsRun, HasFailed, HasRefused, HasRunWhole, HasServed}
-use Rattle.fault_guide.specs.GuideTexts.Printed.{PrintsEntry}
-use Rattle.fault_guide.specs.GuideTexts.Unknown.{IsUnknownTold}
-use Rattle.fault_guide.specs.Numbered.{is_numbered}
-use Rattle.faults.specs.Lines.{IsTold}
-use Rattle.faults.specs.Status.{status_of}
-use Rattle.faults.specs.declared.fault.Fault.{Fault}
-use Rattle.faults.specs.declared.fault.Fault.TheVariants as fault
-use Rattle.faults.specs.declared.telling.Ending.{Ending}
-use Rattle.folding.specs.FoldCalls.FoldEnds.{IsRefused, WritesDeck}
-use Rattle.folding.specs.Folded.{folded_text}
-use Rattle.match_calls.specs.ChartCalls.ReadBack.{LeavesUnread, PrintsChart}
-use Rattle.match_calls.specs.Decked.{LeavesOver}
-use Rattle.match_calls.specs.Found.{IsWiredText, Prints}
-use Rattle.match_calls.specs.Matched.{LeavesUnmatched}
-use Rattle.match_calls.specs.Panels.{HasPanels}
-use Rattle.match_calls.specs.Unmatched.{IsToldUnmatched}
-use Rattle.match_calls.specs.declared.match_texts.telling.Telling.{Telling}
-use Rattle.match_calls.specs.declared.match_texts.telling.Telling.TheVariants as telling
-use Rattle.match_calls.specs.declared.unmatched.Unmatched.{Unmatched}
-use Rattle.panel_guides.specs.ExplainEnds.{LeavesUnexplained}
-use Rattle.panel_guides.specs.LedgerCalls.LedgerEnds.{PrintsTelling}
-use Rattle.panel_guides.specs.Legends.{PrintsLegend}
-use Rattle.panel_guides.specs.Panels.{HasPanel, is_wiring_text}
-use Rattle.panel_guides.specs.TraceCalls.TraceEnds.{LeavesUntraced, PrintsTrace}
-use Rattle.panel_guides.specs.Unexplained.{IsToldUnexplained, unexplained_status}
-use Rattle.panel_guides.specs.declared.ledger_calls.telling.Question.{Question}
-use Rattle.panel_guides.specs.declared.ledger_calls.telling.Question.TheVariants as question
-use Rattle.panel_guides.specs.declared.place.Place.{Place}
-use Rattle.panel_guides.specs.declared.unexplained.Unexplained.{Unexplained}
-use Rattle.program_io.specs.Input.{IsDivided}
-use Rattle.program_io.specs.declared.command.Command.{Command}
-use Rattle.program_io.specs.declared.command.Command.TheVariants as command
-use Rattle.served_runs.specs.declared.counts.Counts.{Counts}
-use Rattle.sheets.specs.SheetCalls.CardSheets.{PrintsFields, StopsFields}
-use Rattle.sheets.specs.SheetCalls.Layouts.{PrintsLayout, StopsLayout}
-use Rattle.text_lists.specs.Endings.{AnswersText, EndsText}
-use Rattle.whole_runs.specs.Whole.{HasPrintedChosen, StopsWhole}
-use Rattle.whole_runs.specs.declared.pages.PageRange.{PageRange}
+use Rattle.cli_commands.specs.CommandsWords.Refusals.{RefusesChart}
+use Rattle.cli_commands.specs.CommandsWords.ServedReplays.Answers.{HasOrders}
+use Rattle.cli_commands.specs.CommandsWords.ServedReplays.Counted.{counts_line}
+use Rattle.cli_commands.specs.CommandsWords.ServedReplays.OrderedEnds.{IsRefusedByOrders, PrintsByOrders}
+use Rattle.cli_commands.specs.CommandsWords.Streamed.{EndsRun, HasFailed, HasRefused, HasRunWhole, HasServed}
+use Rattle.fault_lines.specs.FaultGuide.GuideTexts.Printed.{PrintsEntry}
+use Rattle.fault_lines.specs.FaultGuide.GuideTexts.Unknown.{IsUnknownTold}
+use Rattle.fault_lines.specs.FaultGuide.Numbered.{is_numbered}
+use Rattle.fault_lines.specs.FaultsWords.Lines.{IsTold}
+use Rattle.fault_lines.specs.FaultsWords.Status.{status_of}
+use Rattle.fault_lines.specs.declared.faults.fault.Fault.{Fault}
+use Rattle.fault_lines.specs.declared.faults.fault.Fault.TheVariants as fault
+use Rattle.fault_lines.specs.declared.faults.telling.Ending.{Ending}
+use Rattle.cli_decks.specs.FoldingWords.FoldCalls.FoldEnds.{IsRefused, WritesDeck}
+use Rattle.cli_decks.specs.FoldingWords.Folded.{folded_text}
+use Rattle.cli_matching.specs.ChartCalls.ReadBack.{LeavesUnread, PrintsChart}
+use Rattle.cli_matching.specs.Decked.{LeavesOver}
+use Rattle.cli_matching.specs.Found.{IsWiredText, Prints}
+use Rattle.cli_matching.specs.Matched.{LeavesUnmatched}
+use Rattle.cli_matching.specs.Panels.{HasPanels}
+use Rattle.cli_matching.specs.Unmatched.{IsToldUnmatched}
+use Rattle.cli_matching.specs.declared.match_texts.telling.Telling.{Telling}
+use Rattle.cli_matching.specs.declared.match_texts.telling.Telling.TheVariants as telling
+use Rattle.cli_matching.specs.declared.unmatched.Unmatched.{Unmatched}
+use Rattle.cli_commands.specs.PanelGuides.ExplainEnds.{LeavesUnexplained}
+use Rattle.cli_commands.specs.PanelGuides.LedgerCalls.LedgerEnds.{PrintsTelling}
+use Rattle.cli_commands.specs.PanelGuides.Legends.{PrintsLegend}
+use Rattle.cli_commands.specs.PanelGuides.Panels.{HasPanel, is_wiring_text}
+use Rattle.cli_commands.specs.PanelGuides.TraceCalls.TraceEnds.{LeavesUntraced, PrintsTrace}
+use Rattle.cli_commands.specs.PanelGuides.Unexplained.{IsToldUnexplained, unexplained_status}
+use Rattle.cli_commands.specs.declared.panel_guides.ledger_calls.telling.Question.{Question}
+use Rattle.cli_commands.specs.declared.panel_guides.ledger_calls.telling.Question.TheVariants as question
+use Rattle.cli_commands.specs.declared.panel_guides.place.Place.{Place}
+use Rattle.cli_commands.specs.declared.panel_guides.unexplained.Unexplained.{Unexplained}
+use Rattle.fault_lines.specs.ProgramIo.Input.{IsDivided}
+use Rattle.fault_lines.specs.declared.program_io.command.Command.{Command}
+use Rattle.fault_lines.specs.declared.program_io.command.Command.TheVariants as command
+use Rattle.machine_served.specs.declared.served_runs.counts.Counts.{Counts}
+use Rattle.cli_sheets.specs.SheetsWords.SheetCalls.CardSheets.{PrintsFields, StopsFields}
+use Rattle.cli_sheets.specs.SheetsWords.SheetCalls.Layouts.{PrintsLayout, StopsLayout}
+use Rattle.fault_lists.specs.TextLists.Endings.{AnswersText, EndsText}
+use Rattle.cli_calls.specs.WholeRuns.Whole.{HasPrintedChosen, StopsWhole}
+use Rattle.cli_calls.specs.declared.whole_runs.pages.PageRange.{PageRange}
 
 -- the pages that are named, and all pages, as a run takes them
 abbrev pub range_of : Pages → PageRange
@@ -95,7 +95,7 @@ module _ (old new before after : Option (List ℕ)) (Unprinted Untold : Type 0) 
       ((told : Unexplained) × (ending.status ≡ unexplained_status told) × ((left : Option (List ℕ)) × StopsWhole chart deck left pages told Unprinted)
       × IsToldUnexplained told ending.is_told before after)
 
-  -- a command of `commands`
+  -- a command of `serve_command`
   pub record Serves (known : Command) (text : List ℕ) (deck : Option (List ℕ)) (unreadable : Fault) : Type 0 where
     pub done : ending.status ≡ 0 → HasServed known text deck old new × Untold
     pub refused : ending.status ≡ 3 → (told : Fault) × HasRefused known text deck old new told Unprinted × Tells told

@@ -1,9 +1,9 @@
 -- How a task ends, by its status, and what is told of it.
 use Rattle.std.specs.Prelude.{◌≡◌, ◌≤◌, ◌⊎◌, ◌&&◌, ℕ, Bool, true, false, List, Option}
 use Rattle.std.specs.Io.KnownBytes.{Appends}
-use Rattle.check_calls.specs.Telling.{heads_list}
-use Rattle.faults.specs.Lines.{IsTold}
-use Rattle.faults.specs.declared.fault.Fault.{Fault}
+use Rattle.cli_decks.specs.CheckCalls.Telling.{heads_list}
+use Rattle.fault_lines.specs.FaultsWords.Lines.{IsTold}
+use Rattle.fault_lines.specs.declared.faults.fault.Fault.{Fault}
 
 -- what is so by each status: the task is done, its texts are refused, a device failed, or memory ran out
 pub record ByStatus (status : ℕ) (Done Refused Failed Wanting : Type 0) : Type 0 where

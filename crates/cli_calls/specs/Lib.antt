@@ -1,2 +1,4 @@
 pub mod Ends
 pub mod Does
+pub mod WholeRuns
+pub mod BrowserPages

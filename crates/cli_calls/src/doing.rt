@@ -3,26 +3,26 @@
 ghost use Rattle.std.specs.Prelude.{◌≡◌};
 ghost use Rattle.cli_calls.specs.Does.{ChecksDeck, Does, GroupsDeck, RunsTogether, range_of};
 
+use crate::browser_pages::show_to_end;
 use crate::shown::show_deck;
-use browser_pages::show_to_end;
-use check_calls::{print_check, print_grouped, tell_checked};
+use crate::whole_runs::{PageRange, run_whole_to_end};
+use cli_commands::commands::{replay_by_orders_to_end, run_to_end, serve_command};
+use cli_commands::panel_guides::ledger_calls::{Question, tell_to_end};
+use cli_commands::panel_guides::trace_calls::trace_to_end;
+use cli_commands::panel_guides::{Place, legend_to_end};
+use cli_decks::check_calls::{print_check, print_grouped, tell_checked};
+use cli_decks::folding::fold_calls::fold_to_end;
+use cli_matching::chart_calls::chart_to_end;
+use cli_matching::match_texts::Telling;
+use cli_matching::{match_deck_to_end, match_to_end};
+use cli_sheets::sheets::sheet_calls::{fields_to_end, layout_to_end};
 use cli_tasks::{Pages, Task};
-use commands::{replay_by_orders_to_end, run_to_end, serve_command};
-use fault_guide::guides::fault_to_end;
-use faults::{Ending, Fault};
-use folding::fold_calls::fold_to_end;
-use match_calls::chart_calls::chart_to_end;
-use match_calls::match_texts::Telling;
-use match_calls::{match_deck_to_end, match_to_end};
-use panel_guides::ledger_calls::{Question, tell_to_end};
-use panel_guides::trace_calls::trace_to_end;
-use panel_guides::{Place, legend_to_end};
-use program_io::{Command, chart_and_deck};
-use sheets::sheet_calls::{fields_to_end, layout_to_end};
+use fault_lines::fault_guide::guides::fault_to_end;
+use fault_lines::faults::{Ending, Fault};
+use fault_lines::program_io::{Command, chart_and_deck};
+use fault_lists::text_lists::list_text_to_end;
 use std::alloc::Global;
 use std::io::{Read, Write};
-use text_lists::list_text_to_end;
-use whole_runs::{PageRange, run_whole_to_end};
 
 // The pages as a run takes them.
 fn range_of(pages: Pages) -> PageRange

@@ -1,19 +1,19 @@
 //! The faults of a chart, or else the bad cards of a deck, each shown.
 
 ghost use Rattle.std.specs.Prelude.{◌≡◌, [], Some};
-ghost use Rattle.faults.specs.Lines.{IsTold};
-ghost use Rattle.faults.specs.Status.{status_of};
-ghost use Rattle.text_lists.specs.Endings.{EndsText};
+ghost use Rattle.fault_lines.specs.FaultsWords.Lines.{IsTold};
+ghost use Rattle.fault_lines.specs.FaultsWords.Status.{status_of};
+ghost use Rattle.fault_lists.specs.TextLists.Endings.{EndsText};
 ghost use Rattle.cli_calls.specs.Does.{ShowsCards, ShowsDeck, deck_of_wiring};
 ghost use Rattle.cli_calls.specs.Ends.{IsWordsTold};
 
-use check_calls::{print_shown, tell_checked};
-use faults::{Ending, Fault, tell};
-use panel_guides::is_wiring_text;
-use program_io::put;
+use cli_commands::panel_guides::is_wiring_text;
+use cli_decks::check_calls::{print_shown, tell_checked};
+use fault_lines::faults::{Ending, Fault, tell};
+use fault_lines::program_io::put;
+use fault_lists::text_lists::list_text;
 use std::alloc::Global;
 use std::io::{Read, Write};
-use text_lists::list_text;
 
 /// The status of words that can't be obeyed.
 const USAGE: u8 = 2;

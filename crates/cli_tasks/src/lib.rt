@@ -1,6 +1,6 @@
 //! What a command of the command line does, told without any file.
 //!
-//! [`Task`] is a command with its options and numbers: `command_line` makes one of words, and `do_task` of `cli_calls` does it.
+//! [`Task`] is a command with its options and numbers: `cli_words` makes one of words, and `do_task` of `cli_calls` does it.
 //! [`Pages::named`], [`page_named`] and [`Fill::named`] read the options that are words of their own.
 #![tactic(auto)]
 

@@ -15,11 +15,11 @@ use Rattle.chart_rules.proofs.Laws.{AreOnCard-lawful}
 use Rattle.chart_rules.specs.HelperOnCard.{IsOnCard}
 use Rattle.chart_rules.specs.Rules.{IsLawful}
 use Rattle.chart_rules.specs.ValidCard.{IsValidCard, IsValidKind, column_of, digit_count, digit_rows, has_good_zone, is_printed}
-use Rattle.misfits.specs.Below.report.Amounts.{columns_in, digit_in, is_negated, number_in, signed, value_of}
-use Rattle.misfits.specs.Below.report.Groups.{cards_of, groups_of}
-use Rattle.misfits.specs.Below.report.Totals.{Fits, GroupFits, total_of}
-use Rattle.misfits.proofs.Below.report.FittingGroups.{All-parts}
-use Rattle.misfits.proofs.Below.report.GroupLaws.{groups_deck}
+use Rattle.report_misfits.specs.Below.report.Amounts.{columns_in, digit_in, is_negated, number_in, signed, value_of}
+use Rattle.report_misfits.specs.Below.report.Groups.{cards_of, groups_of}
+use Rattle.report_misfits.specs.Below.report.Totals.{Fits, GroupFits, total_of}
+use Rattle.report_misfits.proofs.Below.report.FittingGroups.{All-parts}
+use Rattle.report_misfits.proofs.Below.report.GroupLaws.{groups_deck}
 use Rattle.compile407.specs.Runnable.{BlankDecksAreRunnable, blank_card}
 
 -- no column of a blank card is punched

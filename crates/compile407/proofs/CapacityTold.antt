@@ -1,16 +1,16 @@
 -- What is told of a chart that exceeds a capacity of the machine.
 use Rattle.std.proofs.Common.{◌≢◌, ℕ, List, refl}
 use Rattle.allocate.specs.Exceeded.{HasCapacityFault}
-use Rattle.plans.specs.Below.wanted.Wanted.{wanted_of}
+use Rattle.chart_plans.specs.WantedWords.Wanted.{wanted_of}
 use Rattle.allocate.specs.declared.fault.CapacityFault.{CapacityFault}
 use Rattle.allocate.specs.declared.fault.CapacityFault.TheVariants as exceeds
 use Rattle.capacity.specs.Capacities.{standard}
 use Rattle.chart_rules.specs.Rules.{IsLawful}
 use Rattle.chart_text.specs.Below.charts.Chart.{Chart}
 use Rattle.chart_text.specs.ChartText.{Reads}
-use Rattle.faults.specs.ChartCauses.{of_capacity}
+use Rattle.fault_lines.specs.FaultsWords.ChartCauses.{of_capacity}
 use Rattle.compile407.specs.ChartFaults.{HasChartFault}
-use Rattle.faults.specs.declared.chart.ChartFault.TheVariants as chart
+use Rattle.fault_lines.specs.declared.faults.chart.ChartFault.TheVariants as chart
 
 -- where a chart that is read and lawful exceeds a capacity, the fault of the capacity is the chart's
 pub capacity_told : (bytes : List ℕ) (read : Chart) (fault : CapacityFault) → Reads bytes read → IsLawful read →

@@ -5,7 +5,7 @@ use Rattle.std.proofs.lemmas.List.Elements.{All-get_or}
 use Rattle.std.proofs.lemmas.Option.{slice_get_within, get_or_from_slice_get}
 use Rattle.allocate.proofs.Exclusions.{fitting_charts_have_no_fault}
 use Rattle.allocate.specs.Exceeded.{HasCapacityFault}
-use Rattle.plans.specs.Below.wanted.Wanted.{wanted_of}
+use Rattle.chart_plans.specs.WantedWords.Wanted.{wanted_of}
 use Rattle.capacity.specs.Capacities.{standard}
 use Rattle.chart_text.specs.Below.charts.Chart.{Chart}
 use Rattle.chart_text.specs.declared.fault.TextFault.TheVariants as text
@@ -14,11 +14,11 @@ use Rattle.chart_rules.specs.Rules.{Broken, IsKept, IsLawful}
 use Rattle.chart_rules.specs.Below.line_rules.FieldRules.Fields.{fields_of}
 use Rattle.chart_rules.specs.ValidCard.{IsValidCard, IsFirstInvalid}
 use Rattle.chart_rules.specs.declared.card.CardFault.{CardFault}
-use Rattle.misfits.specs.Below.report.Misfits.{first_of}
-use Rattle.misfits.proofs.Below.report.Fitting.{fit_without_misfits}
-use Rattle.faults.specs.declared.chart.ChartFault.TheVariants as chart
-use Rattle.faults.specs.declared.deck.RunFault.{RunFault}
-use Rattle.faults.specs.declared.deck.RunFault.TheVariants as deck
+use Rattle.report_misfits.specs.Below.report.Misfits.{first_of}
+use Rattle.report_misfits.proofs.Below.report.Fitting.{fit_without_misfits}
+use Rattle.fault_lines.specs.declared.faults.chart.ChartFault.TheVariants as chart
+use Rattle.fault_lines.specs.declared.faults.deck.RunFault.{RunFault}
+use Rattle.fault_lines.specs.declared.faults.deck.RunFault.TheVariants as deck
 use Rattle.compile407.specs.Outcomes.{CompiledTextsHaveNoFault, RunnableDecksHaveNoFault}
 use Rattle.compile407.specs.RunFaults.{IsInvalidDeck}
 

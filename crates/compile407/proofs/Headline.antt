@@ -2,30 +2,30 @@
 use Rattle.std.proofs.Common.{◌≡◌, ◌∙◌, ℕ, ◌≤◌, List, ◌∷◌, length, ap, subst, sym}
 use Rattle.std.specs.List.{All}
 use Rattle.card_code.specs.MostCards.{most_cards}
-use Rattle.plans.specs.Plans.{Lists, ServesChart}
+use Rattle.chart_plans.specs.PlansWords.Plans.{Lists, ServesChart}
 use Rattle.page_text.specs.declared.placed_lines.placed_line.PlacedLine.{PlacedLine}
 use Rattle.chart_rules.specs.Rules.{IsLawful}
 use Rattle.chart_rules.specs.ValidCard.{IsValidCard}
-use Rattle.printed_reports.proofs.Begun.{machines_begin_reports}
-use Rattle.printed_reports.proofs.Reports.{machine_prints_reports}
+use Rattle.proof_reports.proofs.PrintedReports.Begun.{machines_begin_reports}
+use Rattle.proof_reports.proofs.PrintedReports.Reports.{machine_prints_reports}
 use Rattle.chart_text.specs.Below.charts.Chart.{Chart, NumbersRise}
 use Rattle.chart_text.specs.ChartText.{Reads}
 use Rattle.chart_text.specs.Below.charts.declared.chart.Line.{Line}
 use Rattle.chart_text.proofs.ReadLiterals.{read_literals}
-use Rattle.setups.specs.Wiring.{Wiring}
+use Rattle.hubs.specs.SetupsWords.Wiring.{Wiring}
 use Rattle.machine.proofs.SameSetups.{MachineLines-same}
 use Rattle.machine.proofs.SomeOutcome.{FedLines-some, MachineLines-some}
 use Rattle.machine.specs.Machine.{machine_at_start}
 use Rattle.machine.specs.Runs.{MachineLines}
 use Rattle.page_text.specs.Pages.{Pages}
-use Rattle.misfits.specs.Below.report.ChartForm.{form_of}
-use Rattle.misfits.specs.Below.report.Report.{report_lines}
-use Rattle.misfits.specs.Below.report.Totals.{Fits}
+use Rattle.report_misfits.specs.Below.report.ChartForm.{form_of}
+use Rattle.report_misfits.specs.Below.report.Report.{report_lines}
+use Rattle.report_misfits.specs.Below.report.Totals.{Fits}
 use Rattle.wiring_text.proofs.WiringReader.Answered.{one_setup}
 use Rattle.wiring_text.specs.WiringText.{IsSameSetup, ReadsAs}
-use Rattle.printed_reports.specs.Below.wiring_table.WiredFor.{WiredFor}
+use Rattle.wiring_table.specs.WiredFor.{WiredFor}
 use Rattle.compile407.specs.Compilation.{Compilation, IsCompiled}
-use Rattle.streamed_runs.specs.PrintPromises.Promises.{IsDeck}
+use Rattle.report_runs.specs.PrintPromises.Promises.{IsDeck}
 use Rattle.compile407.specs.Headline.{IsSound, ReadSetupsPrintAlike, WiredSetupsBeginReports, WiredSetupsPrintReports}
 use Rattle.compile407.specs.Headline.{WrittenSetupsBeginReports, WrittenSetupsPrintReports}
 

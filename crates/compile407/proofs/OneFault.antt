@@ -8,7 +8,7 @@ use Rattle.std.proofs.lemmas.Option.{slice_get_within, get_or_from_slice_get}
 use Rattle.card_code.specs.MostCards.{most_cards}
 use Rattle.allocate.proofs.OneFault.{charts_exceed_one_capacity}
 use Rattle.allocate.specs.Exceeded.{HasCapacityFault}
-use Rattle.plans.specs.Below.wanted.Wanted.{wanted_of}
+use Rattle.chart_plans.specs.WantedWords.Wanted.{wanted_of}
 use Rattle.allocate.specs.declared.fault.CapacityFault.{CapacityFault}
 use Rattle.capacity.specs.Capacities.{standard}
 use Rattle.chart_text.proofs.ChartGrammar.{one_chart, no_chart, one_fault}
@@ -25,16 +25,16 @@ use Rattle.chart_rules.specs.ValidCard.{IsFirstInvalid, IsValidCard}
 use Rattle.chart_rules.specs.declared.fault.RuleFault.{RuleFault}
 use Rattle.chart_rules.specs.declared.fault.RuleFault.TheVariants as rule
 use Rattle.compile407.proofs.Exclusions.{none_told, none_invalid}
-use Rattle.faults.specs.ChartCauses.{of_text, of_rule}
+use Rattle.fault_lines.specs.FaultsWords.ChartCauses.{of_text, of_rule}
 use Rattle.compile407.specs.ChartFaults.{HasChartFault}
-use Rattle.streamed_runs.specs.PrintPromises.Promises.{IsDeck}
+use Rattle.report_runs.specs.PrintPromises.Promises.{IsDeck}
 use Rattle.compile407.specs.Outcomes.{ChartsHaveOneFault, DecksHaveOneFault}
 use Rattle.compile407.specs.RunFaults.{HasRunFault, IsInvalidDeck, IsMisfit}
-use Rattle.faults.specs.ToldFaults.{of_card}
-use Rattle.faults.specs.declared.chart.ChartFault.{ChartFault}
-use Rattle.faults.specs.declared.chart.ChartFault.TheVariants as chart
-use Rattle.faults.specs.declared.deck.RunFault.{RunFault}
-use Rattle.faults.specs.declared.deck.RunFault.TheVariants as deck
+use Rattle.fault_lines.specs.FaultsWords.ToldFaults.{of_card}
+use Rattle.fault_lines.specs.declared.faults.chart.ChartFault.{ChartFault}
+use Rattle.fault_lines.specs.declared.faults.chart.ChartFault.TheVariants as chart
+use Rattle.fault_lines.specs.declared.faults.deck.RunFault.{RunFault}
+use Rattle.fault_lines.specs.declared.faults.deck.RunFault.TheVariants as deck
 
 -- why a text has a fault: it is no chart, its chart breaks a rule, or its chart exceeds a capacity
 data Cause (bytes : List ℕ) (fault : ChartFault) : Type 0 where

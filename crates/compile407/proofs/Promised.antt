@@ -3,9 +3,9 @@ use Rattle.std.proofs.Common.{◌≡◌, ◌∙◌, ap, sym, subst}
 use Rattle.chart_text.specs.Below.charts.Chart.{Chart}
 use Rattle.compile407.proofs.Headline.{wired_setups_begin_reports, wired_setups_print_reports}
 use Rattle.compile407.specs.Compilation.{Compilation, IsCompiled}
-use Rattle.misfits.specs.Below.report.ChartForm.{form_of}
-use Rattle.setups.specs.Wiring.{Wiring}
-use Rattle.streamed_runs.specs.PrintPromises.Promises.{BeginsReport, PrintsReport}
+use Rattle.report_misfits.specs.Below.report.ChartForm.{form_of}
+use Rattle.hubs.specs.SetupsWords.Wiring.{Wiring}
+use Rattle.report_runs.specs.PrintPromises.Promises.{BeginsReport, PrintsReport}
 
 module _ (chart : Chart) (setup : Wiring) (compiled : Compilation) (same_chart : chart ≡ compiled.chart) (same_setup : setup ≡ compiled.setup)
     (is : IsCompiled compiled) where

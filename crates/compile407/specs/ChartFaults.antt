@@ -1,7 +1,7 @@
 -- What a fault says of the text of a chart.
 use Rattle.std.specs.Prelude.{◌≢◌, ℕ, List}
 use Rattle.allocate.specs.Exceeded.{HasCapacityFault}
-use Rattle.plans.specs.Below.wanted.Wanted.{wanted_of}
+use Rattle.chart_plans.specs.WantedWords.Wanted.{wanted_of}
 use Rattle.allocate.specs.declared.fault.CapacityFault.{CapacityFault}
 use Rattle.allocate.specs.declared.fault.CapacityFault.TheVariants as capacity
 use Rattle.capacity.specs.Capacities.{standard}
@@ -11,8 +11,8 @@ use Rattle.chart_text.specs.TextFaults.{HasTextFault}
 use Rattle.chart_text.specs.declared.fault.TextFault.TheVariants as text
 use Rattle.chart_rules.specs.Rules.{IsLawful, IsFirstBroken}
 use Rattle.chart_rules.specs.declared.rule.Rule.{Rule}
-use Rattle.faults.specs.declared.chart.ChartFault.{ChartFault}
-use Rattle.faults.specs.declared.chart.ChartFault.TheVariants as chart
+use Rattle.fault_lines.specs.declared.faults.chart.ChartFault.{ChartFault}
+use Rattle.fault_lines.specs.declared.faults.chart.ChartFault.TheVariants as chart
 
 -- the text reads as a chart whose lowest broken rule and line these are
 pub record BreaksRule (bytes : List ℕ) (broken : Rule) (line : ℕ) : Type 0 where

@@ -1,12 +1,12 @@
 -- A chart with its plan and the setup of the panel that is wired for it.
 use Rattle.allocate.specs.Exceeded.{FitsMachine}
-use Rattle.plans.specs.Plans.{Lists, ServesChart}
+use Rattle.chart_plans.specs.PlansWords.Plans.{Lists, ServesChart}
 use Rattle.allocate.specs.Allocated.{IsPlanOf}
-use Rattle.plans.specs.Below.wanted.Wanted.{wanted_of}
+use Rattle.chart_plans.specs.WantedWords.Wanted.{wanted_of}
 use Rattle.capacity.specs.Capacities.{standard}
 use Rattle.chart_text.specs.Below.charts.Chart.{Chart}
-use Rattle.setups.specs.Wiring.{Wiring}
-use Rattle.printed_reports.specs.Below.wiring_table.WiredFor.{WiredFor}
+use Rattle.hubs.specs.SetupsWords.Wiring.{Wiring}
+use Rattle.wiring_table.specs.WiredFor.{WiredFor}
 use Rattle.compile407.specs.Headline.{IsSound}
 
 -- a chart, its plan and a setup

@@ -2,8 +2,8 @@
 use Rattle.std.specs.Prelude.{◌≡◌, ℕ, List}
 use Rattle.chart_text.specs.Below.charts.Chart.{Chart}
 use Rattle.chart_text.specs.ChartText.{Reads}
-use Rattle.faults.specs.declared.chart.ChartFault.{ChartFault}
-use Rattle.faults.specs.declared.deck.RunFault.{RunFault}
+use Rattle.fault_lines.specs.declared.faults.chart.ChartFault.{ChartFault}
+use Rattle.fault_lines.specs.declared.faults.deck.RunFault.{RunFault}
 use Rattle.compile407.specs.ChartFaults.{HasChartFault}
 use Rattle.compile407.specs.Compilation.{Compilation, IsCompiled}
 use Rattle.compile407.specs.RunFaults.{HasRunFault}

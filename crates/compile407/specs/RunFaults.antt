@@ -5,11 +5,11 @@ use Rattle.chart_text.specs.Below.charts.Chart.{Chart}
 use Rattle.chart_rules.specs.Below.line_rules.FieldRules.Fields.{fields_of}
 use Rattle.chart_rules.specs.ValidCard.{IsValidCard, IsFirstInvalid}
 use Rattle.chart_rules.specs.declared.card.CardFault.{CardFault}
-use Rattle.misfits.specs.Below.report.Misfits.{Misfit, first_of, misfits}
-use Rattle.faults.specs.ToldFaults.{of_card}
-use Rattle.faults.specs.declared.deck.RunFault.{RunFault}
-use Rattle.faults.specs.declared.deck.RunFault.TheVariants as deck
-use Rattle.streamed_runs.specs.PrintPromises.Promises.{IsDeck}
+use Rattle.report_misfits.specs.Below.report.Misfits.{Misfit, first_of, misfits}
+use Rattle.fault_lines.specs.FaultsWords.ToldFaults.{of_card}
+use Rattle.fault_lines.specs.declared.faults.deck.RunFault.{RunFault}
+use Rattle.fault_lines.specs.declared.faults.deck.RunFault.TheVariants as deck
+use Rattle.report_runs.specs.PrintPromises.Promises.{IsDeck}
 
 -- the fault tells of the first card of the deck that is not valid, by its number from 1
 pub record IsInvalidDeck (chart : Chart) (cards : List (List ℕ)) (fault : RunFault) : Type 0 where

@@ -3,8 +3,8 @@ use Rattle.std.specs.Prelude.{ℕ, ◌≤◌, List, replicate}
 use Rattle.card_code.specs.MostCards.{most_cards}
 use Rattle.chart_rules.specs.Rules.{IsLawful}
 use Rattle.chart_text.specs.Below.charts.Chart.{Chart}
-use Rattle.misfits.specs.Below.report.Totals.{Fits}
-use Rattle.streamed_runs.specs.PrintPromises.Promises.{IsDeck}
+use Rattle.report_misfits.specs.Below.report.Totals.{Fits}
+use Rattle.report_runs.specs.PrintPromises.Promises.{IsDeck}
 
 -- the deck can be run
 pub record IsRunnable (chart : Chart) (cards : List (List ℕ)) : Type 0 where

@@ -3,9 +3,9 @@
 use Rattle.std.specs.Prelude.{◌≡◌, ◌↔◌, ℕ, List}
 use Rattle.chart_text.specs.Below.charts.declared.chart.Line.{Line}
 use Rattle.chart_rules.specs.Versions.{in_first, in_second, AreCoupled}
-use Rattle.plans.specs.Plans.{Lists}
-use Rattle.misfits.specs.Below.report.Report.{Report}
-use Rattle.setups.specs.Wiring.{Wiring}
+use Rattle.chart_plans.specs.PlansWords.Plans.{Lists}
+use Rattle.report_misfits.specs.Below.report.Report.{Report}
+use Rattle.hubs.specs.SetupsWords.Wiring.{Wiring}
 use Rattle.compile407.specs.Compilation.{IsCompiled}
 use Rattle.compile407.specs.Runnable.{IsRunnable}
 

@@ -1,8 +1,8 @@
 //! Charts with the setups that are wired for them.
 
+use chart_plans::plans::Plan;
 use chart_rules::Chart;
-use plans::Plan;
-use setups::Setup;
+use hubs::setups::Setup;
 use std::marker::Model;
 
 /// A planning chart with its plan, which says what of the machine serves what of the chart, and the setup of the panel that is

@@ -4,15 +4,15 @@ ghost use Rattle.std.specs.Prelude.{◌≡◌, ◌≢◌, IfOk, IfErr};
 ghost use Rattle.chart_text.specs.ChartText.{Reads};
 ghost use Rattle.compile407.specs.Compilation.{IsCompiled};
 ghost use Rattle.compile407.specs.ChartFaults.{HasChartFault};
-ghost use Rattle.faults.specs.declared.chart.ChartFault.TheVariants as chart;
-ghost use Rattle.streamed_runs.specs.PrintPromises.Promises.{BeginsReport, PrintsReport};
+ghost use Rattle.fault_lines.specs.declared.faults.chart.ChartFault.TheVariants as chart;
+ghost use Rattle.report_runs.specs.PrintPromises.Promises.{BeginsReport, PrintsReport};
 
 use crate::compiled::Compiled;
 use allocate::allocate;
 use capacity::Profile;
 use chart_rules::check;
 use chart_text::read_chart;
-use faults::ChartFault;
+use fault_lines::faults::ChartFault;
 use std::alloc::Global;
 use wire_gen::wire;
 

@@ -15,14 +15,14 @@ mod streaming;
 
 pub use compiled::Compiled;
 pub use compiling::compile;
-pub use faults::{ChartFault, RunFault};
+pub use fault_lines::faults::{ChartFault, RunFault};
 pub use laws::{
     blank_decks_are_runnable, charts_have_one_fault, compiled_texts_have_no_fault,
     decks_have_one_fault, read_setups_print_alike, runnable_decks_have_no_fault,
     versions_say_the_same, wired_setups_begin_reports, wired_setups_print_reports,
     written_setups_begin_reports, written_setups_print_reports,
 };
-pub use misfits::Misfit;
+pub use report_misfits::Misfit;
+pub use report_runs::{StreamCause, StreamFault};
 pub use running::{check_run, first_misfit, run};
-pub use streamed_runs::{StreamCause, StreamFault};
 pub use streaming::run_stream;

@@ -2,22 +2,22 @@
 
 ghost use Rattle.std.specs.Prelude.{◌≡◌, ◌≢◌, ◌≤◌, ◌<◌, ◌+◌, length, IfOk, IfErr, OnOk, All, option_map};
 ghost use Rattle.card_code.specs.MostCards.{most_cards};
-ghost use Rattle.misfits.specs.ToldMisfits.{told};
-ghost use Rattle.misfits.specs.Below.report.Misfits.{first_of, misfits};
-ghost use Rattle.misfits.specs.Below.report.Totals.{Fits};
+ghost use Rattle.report_misfits.specs.ToldMisfits.{told};
+ghost use Rattle.report_misfits.specs.Below.report.Misfits.{first_of, misfits};
+ghost use Rattle.report_misfits.specs.Below.report.Totals.{Fits};
 ghost use Rattle.compile407.specs.RunFaults.{HasRunFault, IsInvalidDeck, IsMisfit};
-ghost use Rattle.faults.specs.declared.deck.RunFault.TheVariants as deck;
-ghost use Rattle.misfits.specs.Below.report.Report.{Report};
+ghost use Rattle.fault_lines.specs.declared.faults.deck.RunFault.TheVariants as deck;
+ghost use Rattle.report_misfits.specs.Below.report.Report.{Report};
 ghost use Rattle.compile407.specs.Runnable.{IsRunnable};
 ghost use Rattle.chart_rules.specs.ValidCard.{IsValidCard};
 
 use crate::compiled::Compiled;
 use card_code::{Card, MOST_CARDS};
 use chart_rules::{Chart, valid_card};
-use faults::RunFault;
+use fault_lines::faults::RunFault;
 use machine::simulate;
-use misfits::Misfit;
 use page_text::page_bytes;
+use report_misfits::Misfit;
 use std::alloc::Global;
 
 // Refuses a deck with an invalid card, by the first such card.
@@ -40,7 +40,7 @@ pub fn first_misfit(compiled: &Compiled, cards: &[Card]) -> Option<Misfit>
     requires { length cards.now ≤ most_cards }
     ensures { option_map told result ≡ first_of (misfits compiled.now.chart.lines cards.now) }
 {
-    misfits::first_misfit(compiled.chart(), cards)
+    report_misfits::first_misfit(compiled.chart(), cards)
 }
 
 // Refuses a deck with a total that doesn't fit, by the first such total.

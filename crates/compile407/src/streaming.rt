@@ -1,14 +1,14 @@
 //! Running a deck that comes card by card, from a source of bytes to a sink.
 
 ghost use Rattle.std.specs.Prelude.{◌≡◌, ℕ, true, IfErr, MatchResult, OnOk};
-ghost use Rattle.streamed_runs.specs.Below.card_lines.declared.fault.ReadFault.TheVariants as read;
-ghost use Rattle.streamed_runs.specs.Runs.{RunsToEnd, StopsShort};
-ghost use Rattle.streamed_runs.specs.declared.fault.StreamCause.TheVariants as cause;
+ghost use Rattle.report_runs.specs.Below.card_lines.declared.fault.ReadFault.TheVariants as read;
+ghost use Rattle.report_runs.specs.Runs.{RunsToEnd, StopsShort};
+ghost use Rattle.report_runs.specs.declared.fault.StreamCause.TheVariants as cause;
 
 use crate::compiled::Compiled;
-use devices::{Sink, Source};
+use report_runs::StreamFault;
+use report_streams::devices::{Sink, Source};
 use std::alloc::Global;
-use streamed_runs::StreamFault;
 
 /// Runs a deck through the machine, wired as compiled: its cards come one by one from the source, and the pages of its report go to the
 /// sink. Answers how many cards there were; then no byte of the source is left, exactly the report was written, and the sink was flushed.
@@ -44,5 +44,5 @@ pub fn run_stream<S: Source, W: Sink>(
 {
     let chart = compiled.chart();
     let setup = compiled.setup();
-    streamed_runs::run_stream(alloc, chart, setup, source, sink)
+    report_runs::run_stream(alloc, chart, setup, source, sink)
 }

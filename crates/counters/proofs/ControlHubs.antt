@@ -3,7 +3,7 @@ use Rattle.std.proofs.Common.{◌≡◌, ◌∙◌, refl, sym, ap, ℕ, ◌+◌,
 use Rattle.std.specs.Prelude.{option_map}
 use Rattle.std.proofs.lemmas.Bool.Decides.{nat_tests}
 use Rattle.hubs.specs.Hubs.{number_of}
-use Rattle.hub_table.specs.Places.{group_place}
+use Rattle.hubs.specs.HubTable.Places.{group_place}
 use Rattle.hubs.specs.declared.hub.Hub.{Hub}
 use Rattle.hubs.specs.declared.hub.Hub.TheVariants.{PL, MI, RO, BT}
 use Rattle.net.specs.HubSets.{is_bit}

@@ -9,8 +9,8 @@ use Rattle.hubs.specs.declared.hub.Hub.TheVariants.{CI, CO}
 use Rattle.net.specs.Impulsed.{IsImpulsed}
 use Rattle.net.specs.Impulsed.IsImpulsed.{emitting, led_on}
 use Rattle.net.specs.Panel.{contact_of}
-use Rattle.setups.proofs.WiredLemmas.{HasWire-is_wired}
-use Rattle.setups.specs.Wiring.{HasWire, LeadsToEntries, Wiring, is_wired}
+use Rattle.hubs.proofs.SetupsWords.WiredLemmas.{HasWire-is_wired}
+use Rattle.hubs.specs.SetupsWords.Wiring.{HasWire, LeadsToEntries, Wiring, is_wired}
 use Rattle.counters.specs.Rings.{CarriesBy, IsFedAlone, WiredGroupsAreRings, WiredPairsAreCoupled}
 use Rattle.counters.specs.Wheels.{Wheel, all_nines, carries_in, carries_out}
 use Rattle.counters.proofs.Carries.{carries_out-again, carries_out-append, carries_out-split}

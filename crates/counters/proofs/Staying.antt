@@ -4,7 +4,7 @@ use Rattle.std.proofs.lemmas.Bool.Decides.{nat_tests}
 use Rattle.std.proofs.lemmas.List.{length-replicate}
 use Rattle.std.proofs.lemmas.List.Elements.{All-cons, All-head, All-nil, All-tail, All-replicate}
 use Rattle.card_code.specs.Rows.{row_number}
-use Rattle.hub_table.specs.Places.{is_width}
+use Rattle.hubs.specs.HubTable.Places.{is_width}
 use Rattle.hubs.specs.declared.hub.Hub.{Hub}
 use Rattle.hubs.specs.declared.hub.Hub.TheVariants.{GE}
 use Rattle.net.specs.declared.cycle.Cycle.{Cycle}

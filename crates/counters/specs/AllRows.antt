@@ -1,7 +1,7 @@
 -- Digits by sets of rows, and how many positions come before those of a group. Bit r of a set tells of the row at place r among the points.
 use Rattle.std.specs.Prelude.{ℕ, ◌+◌, ◌-◌, ◌*◌, ◌==◌, if◌then◌else◌}
 use Rattle.card_code.specs.Rows.{passing_place}
-use Rattle.hub_table.specs.Places.{positions_before}
+use Rattle.hubs.specs.HubTable.Places.{positions_before}
 use Rattle.hubs.specs.declared.hub.Group.{Group}
 use Rattle.net.specs.HubSets.{is_bit}
 use Rattle.counters.specs.WholeCycles.{digit_rows, first_digit}

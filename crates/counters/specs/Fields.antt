@@ -1,7 +1,7 @@
 -- What contracts see of the fields of a counter group.
 use Rattle.std.specs.Prelude.{◌≡◌, ◌≤◌, true, All, reverse, take}
-use Rattle.hub_table.specs.Places.{is_width}
-use Rattle.hub_table.specs.Ranges.{is_within}
+use Rattle.hubs.specs.HubTable.Places.{is_width}
+use Rattle.hubs.specs.HubTable.Ranges.{is_within}
 use Rattle.counters.specs.Counters.{Counter, group_of_unit}
 use Rattle.counters.specs.Laws.{IsDigit}
 use Rattle.counters.specs.declared.group.Group.TheInside.{Inside}

@@ -1,8 +1,8 @@
 -- What can be said of every counter group: it keeps its shape, its cycles are sums, and two groups through which one carry goes
 -- are one counter.
 use Rattle.std.specs.Prelude.{◌≡◌, ℕ, ◌+◌, ◌*◌, ◌^◌, ◌≤◌, Bool, true, List, All, ◌++◌, length, map, if◌then◌else◌}
-use Rattle.hub_table.specs.Places.{is_width}
-use Rattle.hub_table.specs.Ranges.{is_within}
+use Rattle.hubs.specs.HubTable.Places.{is_width}
+use Rattle.hubs.specs.HubTable.Ranges.{is_within}
 use Rattle.hubs.specs.declared.hub.Hub.{Hub}
 use Rattle.net.specs.declared.cycle.Cycle.{Cycle}
 use Rattle.net.specs.declared.cycle.Point.{Point}

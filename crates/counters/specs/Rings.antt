@@ -8,7 +8,7 @@ use Rattle.hubs.specs.declared.hub.Group.{Group}
 use Rattle.hubs.specs.declared.hub.Hub.{Hub}
 use Rattle.hubs.specs.declared.hub.Hub.TheVariants.{CI, CO}
 use Rattle.net.specs.Impulsed.{IsPicture}
-use Rattle.setups.specs.Wiring.{HasWire, LeadsToEntries, Wiring, is_wired}
+use Rattle.hubs.specs.SetupsWords.Wiring.{HasWire, LeadsToEntries, Wiring, is_wired}
 use Rattle.counters.specs.Wheels.{Wheel, all_nines, carries_in, carries_out}
 
 -- At the carry hubs of a group its wheels alone emit and close contacts.

@@ -1,8 +1,8 @@
 //! What a counter group emits and senses at its positions.
 
 ghost use Rattle.std.specs.Prelude.{◌≡◌, ℕ, Bool, ◌≤◌, ◌<◌, ◌+◌, ◌==◌, ◌&&◌, true, All, length, reverse, slice_index_or};
-ghost use Rattle.hub_table.specs.Places.{is_width};
-ghost use Rattle.hub_table.specs.Ranges.{is_within};
+ghost use Rattle.hubs.specs.HubTable.Places.{is_width};
+ghost use Rattle.hubs.specs.HubTable.Ranges.{is_within};
 ghost use Rattle.hubs.specs.declared.hub.Hub.{Hub};
 ghost use Rattle.hubs.specs.declared.hub.Hub.TheVariants.{PL};
 ghost use Rattle.net.specs.HubSets.{GainsHubs, has_hub, is_bit};

@@ -4,13 +4,13 @@ use Rattle.std.proofs.KnownBytes.{Appends-trans}
 use Rattle.std.specs.Io.KnownBytes.{Appends}
 use Rattle.allocate.specs.Exceeded.{FitsMachine, HasCapacityFault, in_order}
 use Rattle.capacity.specs.Capacities.{standard}
-use Rattle.plans.specs.Below.wanted.Wanted.{wanted_of}
+use Rattle.chart_plans.specs.WantedWords.Wanted.{wanted_of}
 use Rattle.fault_lists.specs.CapacityFaults.AllOver.{AreAllOver}
 use Rattle.fault_lists.proofs.CapacityFaults.First.{first_is}
-use Rattle.charts.specs.Chart.{Chart}
-use Rattle.chart_faults.specs.Listed.{BeginsAsChecked, ComesBefore, HasAllListed}
-use Rattle.chart_faults.specs.declared.listing.BrokenRule.{BrokenRule}
-use Rattle.chart_faults.proofs.Exact.{broken_of}
+use Rattle.chart_lines.specs.ChartsWords.Chart.{Chart}
+use Rattle.fault_chart_words.specs.Listed.{BeginsAsChecked, ComesBefore, HasAllListed}
+use Rattle.fault_chart_words.specs.declared.listing.BrokenRule.{BrokenRule}
+use Rattle.fault_chart_words.proofs.Exact.{broken_of}
 use Rattle.chart_rules.specs.RuleFaults.{IsTold}
 use Rattle.chart_rules.specs.Rules.{IsKept, IsLawful}
 use Rattle.chart_rules.specs.declared.fault.RuleFault.{RuleFault}
@@ -19,10 +19,10 @@ use Rattle.chart_text.specs.ChartText.{Reads}
 use Rattle.chart_text.specs.TextFaults.{HasTextFault}
 use Rattle.chart_text.specs.declared.fault.TextFault.{TextFault}
 use Rattle.chart_text.specs.declared.fault.TextFault.TheVariants as text
-use Rattle.chart_faults.specs.FaultWords.Entries.{entries_text}
-use Rattle.faults.specs.ChartCauses.{of_rule, of_text}
-use Rattle.faults.specs.ToldFaults.{chart_told}
-use Rattle.faults.specs.declared.fault.Fault.{Fault}
+use Rattle.fault_chart_words.specs.FaultWords.Entries.{entries_text}
+use Rattle.fault_lines.specs.FaultsWords.ChartCauses.{of_rule, of_text}
+use Rattle.fault_lines.specs.FaultsWords.ToldFaults.{chart_told}
+use Rattle.fault_lines.specs.declared.faults.fault.Fault.{Fault}
 use Rattle.fault_lists.specs.Endings.{AnswersOk, EndsCapacity, EndsListing, HasListed, WritesBehind, WritesText, by_capacity, by_rules, by_text, broken_off}
 use Rattle.fault_lists.specs.CapacityEntries.{capacities_text}
 use Rattle.fault_lists.specs.TextEntries.{text_entry}

@@ -4,31 +4,31 @@ use Rattle.std.proofs.lemmas.Bool.{le-leb, lt-ltb}
 use Rattle.chart_text.specs.ChartText.{SaysIn, in_both, in_second}
 use Rattle.chart_text.specs.Forms.{IsLiteral, IsMark, credit, minus, SaysSign, unsigned, by_row, by_absence, SaysMark, unmarked, total_marked, SaysOption, as_it_is, indicated, item_marked, SaysKind, detail_line, total_line, Says, text_field, amount_field, control, print_detail, print_group, head, detail_literal, detail_field, total_literal, total_text, total_amount, SaysCoupled, coupled_amount, space, page_after, skip_after, form, tape}
 use Rattle.chart_text.specs.declared.forms.Said.{Said}
-use Rattle.charts.specs.Headings.{heading_number}
-use Rattle.charts.specs.Levels.{control_number, level_number}
-use Rattle.charts.specs.Name.{IsName}
-use Rattle.charts.specs.Spacings.{spacing_number}
-use Rattle.charts.specs.declared.chart.Version.{Version}
-use Rattle.charts.specs.declared.heading.HeadingLine.{HeadingLine}
-use Rattle.charts.specs.declared.heading.HeadingLine.TheVariants as heading
-use Rattle.charts.specs.declared.level.ControlLevel.{ControlLevel}
-use Rattle.charts.specs.declared.level.ControlLevel.TheVariants as minor
-use Rattle.charts.specs.declared.level.Level.{Level}
-use Rattle.charts.specs.declared.level.Level.TheVariants as level
-use Rattle.charts.specs.declared.spacing.Spacing.{Spacing}
-use Rattle.charts.specs.declared.spacing.Spacing.TheVariants as spacing
-use Rattle.charts.specs.declared.statement.BodyLine.{BodyLine}
-use Rattle.charts.specs.declared.statement.DetailOption.{DetailOption}
-use Rattle.charts.specs.declared.statement.Mark.{Mark}
-use Rattle.charts.specs.declared.statement.SignRule.{SignRule}
-use Rattle.charts.specs.declared.statement.Statement.{Statement}
-use Rattle.tokens.proofs.NumberGrammar.{number_read, number_to_read}
-use Rattle.tokens.specs.Number.{AreNumbers, IsNumber}
-use Rattle.tokens.specs.Number as numbers
-use Rattle.word_slips.specs.Stages.{behind, behind_item, behind_stop, first_stage, if_fits}
-use Rattle.word_slips.specs.Words.{is_literal, is_name, is_number, is_up_to}
-use Rattle.word_slips.specs.declared.stage.Stage.{Stage}
-use Rattle.word_slips.specs.declared.stage.Stage.TheVariants as stage
+use Rattle.chart_lines.specs.ChartsWords.Headings.{heading_number}
+use Rattle.chart_lines.specs.ChartsWords.Levels.{control_number, level_number}
+use Rattle.chart_lines.specs.ChartsWords.Name.{IsName}
+use Rattle.chart_lines.specs.ChartsWords.Spacings.{spacing_number}
+use Rattle.chart_lines.specs.declared.charts.chart.Version.{Version}
+use Rattle.chart_lines.specs.declared.charts.heading.HeadingLine.{HeadingLine}
+use Rattle.chart_lines.specs.declared.charts.heading.HeadingLine.TheVariants as heading
+use Rattle.chart_lines.specs.declared.charts.level.ControlLevel.{ControlLevel}
+use Rattle.chart_lines.specs.declared.charts.level.ControlLevel.TheVariants as minor
+use Rattle.chart_lines.specs.declared.charts.level.Level.{Level}
+use Rattle.chart_lines.specs.declared.charts.level.Level.TheVariants as level
+use Rattle.chart_lines.specs.declared.charts.spacing.Spacing.{Spacing}
+use Rattle.chart_lines.specs.declared.charts.spacing.Spacing.TheVariants as spacing
+use Rattle.chart_lines.specs.declared.charts.statement.BodyLine.{BodyLine}
+use Rattle.chart_lines.specs.declared.charts.statement.DetailOption.{DetailOption}
+use Rattle.chart_lines.specs.declared.charts.statement.Mark.{Mark}
+use Rattle.chart_lines.specs.declared.charts.statement.SignRule.{SignRule}
+use Rattle.chart_lines.specs.declared.charts.statement.Statement.{Statement}
+use Rattle.chart_lines.proofs.TokensWords.NumberGrammar.{number_read, number_to_read}
+use Rattle.chart_lines.specs.TokensWords.Number.{AreNumbers, IsNumber}
+use Rattle.chart_lines.specs.TokensWords.Number as numbers
+use Rattle.fault_slips.specs.WordSlips.Stages.{behind, behind_item, behind_stop, first_stage, if_fits}
+use Rattle.fault_slips.specs.WordSlips.Words.{is_literal, is_name, is_number, is_up_to}
+use Rattle.fault_slips.specs.declared.word_slips.stage.Stage.{Stage}
+use Rattle.fault_slips.specs.declared.word_slips.stage.Stage.TheVariants as stage
 
 -- the stage behind some words, from a stage on
 abbrev pub walk : List (List ℕ) → Option Stage → Option Stage

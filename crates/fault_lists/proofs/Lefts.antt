@@ -3,7 +3,7 @@ use Rattle.std.proofs.Common.{◌≡◌, ◌∙◌, ap, ℕ, suc, ◌+◌, ◌<�
 use Rattle.std.proofs.Math.ListN.{drop_of_length-le}
 use Rattle.std.proofs.Math.Seq.{drop-cons}
 use Rattle.fault_lists.specs.Behind.{emptied_lines}
-use Rattle.line_marks.specs.Emptied.{emptied}
+use Rattle.fault_slips.specs.LineMarks.Emptied.{emptied}
 
 -- the lines from a place on
 pub emptied_at : (lines : List ℕ) (place other : ℕ) (text : List ℕ) → place < length lines

@@ -6,3 +6,4 @@ pub mod MisreadLines
 pub mod CapacityFaults
 pub mod FormStages
 pub mod MarkedWords
+pub mod TextLists

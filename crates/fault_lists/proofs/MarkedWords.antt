@@ -4,14 +4,14 @@ use Rattle.std.proofs.lemmas.List.{drop_more}
 use Rattle.std.proofs.lemmas.Option.{none-some, same_Some}
 use Rattle.fault_lists.proofs.FormStages.{forms_go_on, walk}
 use Rattle.fault_lists.specs.MarkedWords.{BeginNoForm, MarkedWordsStandInNoForm}
-use Rattle.line_marks.proofs.Spans.{word_at}
-use Rattle.line_marks.specs.Spans.{word}
-use Rattle.line_slips.specs.Slips.{slip_of}
-use Rattle.tokens.proofs.TokenGrammar.{read_what_it_has}
-use Rattle.word_slips.specs.Halts.{halt_among, halt_behind, halt_of, halt_unless, is_other, places}
-use Rattle.word_slips.specs.Stages.{behind, first_stage}
-use Rattle.word_slips.specs.declared.halt.Halt.{Halt}
-use Rattle.word_slips.specs.declared.stage.Stage.{Stage}
+use Rattle.fault_slips.proofs.LineMarks.Spans.{word_at}
+use Rattle.fault_slips.specs.LineMarks.Spans.{word}
+use Rattle.fault_slips.specs.LineSlips.Slips.{slip_of}
+use Rattle.chart_lines.proofs.TokensWords.TokenGrammar.{read_what_it_has}
+use Rattle.fault_slips.specs.WordSlips.Halts.{halt_among, halt_behind, halt_of, halt_unless, is_other, places}
+use Rattle.fault_slips.specs.WordSlips.Stages.{behind, first_stage}
+use Rattle.fault_slips.specs.declared.word_slips.halt.Halt.{Halt}
+use Rattle.fault_slips.specs.declared.word_slips.stage.Stage.{Stage}
 
 -- words behind which no stage is left go on to none
 stops_there : (words others : List (List ℕ)) (from : Option Stage) → walk words from ≡ None → walk (words ++ others) from ≡ None

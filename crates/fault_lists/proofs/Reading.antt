@@ -4,7 +4,7 @@ use Rattle.chart_text.specs.ChartText.{Reads}
 use Rattle.chart_text.specs.TextFaults.{HasTextFault}
 use Rattle.chart_text.specs.declared.fault.TextFault.{TextFault}
 use Rattle.chart_text.specs.declared.fault.TextFault.TheVariants as text
-use Rattle.charts.specs.Chart.{Chart}
+use Rattle.chart_lines.specs.ChartsWords.Chart.{Chart}
 
 -- each fault of the text is told, or that memory ran out
 abbrev OnlyFault : List ℕ → {R : Type 0} → Result R TextFault → Type 0

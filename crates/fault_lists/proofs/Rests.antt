@@ -2,16 +2,16 @@
 use Rattle.std.proofs.Common.{◌≡◌, refl, sym, ap, subst, ℕ, List, ◌++◌, Option, Result, Ok, Err, OnOk, filter, AllPairs}
 use Rattle.std.proofs.KnownBytes.{Appends-trans}
 use Rattle.std.specs.Io.KnownBytes.{Appends}
-use Rattle.chart_faults.specs.Listed.{ComesBefore, HasAllListed}
-use Rattle.chart_faults.specs.declared.listing.BrokenRule.{BrokenRule}
+use Rattle.fault_chart_words.specs.Listed.{ComesBefore, HasAllListed}
+use Rattle.fault_chart_words.specs.declared.listing.BrokenRule.{BrokenRule}
 use Rattle.chart_text.specs.ChartText.{Reads}
 use Rattle.chart_text.specs.TextFaults.{HasTextFault}
 use Rattle.chart_text.specs.declared.fault.TextFault.{TextFault}
 use Rattle.chart_text.specs.declared.fault.TextFault.TheVariants as text
-use Rattle.charts.specs.Chart.{Chart}
+use Rattle.chart_lines.specs.ChartsWords.Chart.{Chart}
 use Rattle.fault_lists.specs.Behind.{ListsOwn, TellsOthers, WritesOthers, WritesRest, WritesUnended, by_rules, emptied_lines, ended, is_own, no_end_told, unended, with_end}
 use Rattle.fault_lists.specs.Endings.{TellsBehind, WritesBehind}
-use Rattle.chart_faults.specs.FaultWords.Entries.{entries_text}
+use Rattle.fault_chart_words.specs.FaultWords.Entries.{entries_text}
 
 module _ {U E : Type 0} (result : Result U E) (source : List ℕ) where
   -- the rules that lines break whatever other lines say

@@ -3,24 +3,24 @@
 use Rattle.std.specs.Prelude.{◌≡◌, ℕ, Bool, true, false, ◌==◌, ◌&&◌, ◌||◌, not, List, [], ◌∷◌, ◌++◌, Option, codes, filter, AllPairs, if◌then◌else◌}
 use Rattle.std.specs.Io.KnownBytes.{Appends}
 use Rattle.std.specs.List.{list_any}
-use Rattle.chart_faults.specs.Listed.{ComesBefore, HasAllListed}
-use Rattle.chart_faults.specs.declared.listing.BrokenRule.{BrokenRule}
+use Rattle.fault_chart_words.specs.Listed.{ComesBefore, HasAllListed}
+use Rattle.fault_chart_words.specs.declared.listing.BrokenRule.{BrokenRule}
 use Rattle.chart_rules.specs.declared.rule.Rule.{Rule}
 use Rattle.chart_rules.specs.declared.rule.Rule.TheVariants as rule
 use Rattle.chart_text.specs.ChartText.{Reads}
 use Rattle.chart_text.specs.TextFaults.{HasTextFault}
 use Rattle.chart_text.specs.declared.fault.TextFault.TheVariants as text
-use Rattle.charts.specs.Chart.{Chart}
-use Rattle.charts.specs.declared.chart.Line.{Line}
-use Rattle.charts.specs.declared.statement.After.TheVariants as after
-use Rattle.charts.specs.declared.statement.Statement.{Statement}
-use Rattle.charts.specs.declared.statement.Statement.TheVariants as says
+use Rattle.chart_lines.specs.ChartsWords.Chart.{Chart}
+use Rattle.chart_lines.specs.declared.charts.chart.Line.{Line}
+use Rattle.chart_lines.specs.declared.charts.statement.After.TheVariants as after
+use Rattle.chart_lines.specs.declared.charts.statement.Statement.{Statement}
+use Rattle.chart_lines.specs.declared.charts.statement.Statement.TheVariants as says
 use Rattle.fault_lists.specs.TextEntries.{no_end_entry}
-use Rattle.chart_faults.specs.FaultWords.Entries.{entries_text}
-use Rattle.chart_faults.specs.FaultWords.Parts.{has_stops}
-use Rattle.line_marks.specs.Below.card_code.Deck.{line_at}
-use Rattle.line_marks.specs.Emptied.{emptied}
-use Rattle.line_marks.specs.Spans.{word}
+use Rattle.fault_chart_words.specs.FaultWords.Entries.{entries_text}
+use Rattle.fault_chart_words.specs.FaultWords.Parts.{has_stops}
+use Rattle.card_code.specs.Deck.{line_at}
+use Rattle.fault_slips.specs.LineMarks.Emptied.{emptied}
+use Rattle.fault_slips.specs.LineMarks.Spans.{word}
 
 -- a text without what stands on some lines
 abbrev pub emptied_lines : List ℕ → List ℕ → List ℕ

@@ -3,21 +3,21 @@ use Rattle.std.specs.Prelude.{ℕ, ◌==◌, Bool, List, [], ◌++◌, Option, S
 use Rattle.std.specs.List.{flat_map, list_any}
 use Rattle.allocate.specs.declared.fault.CapacityFault.{CapacityFault}
 use Rattle.allocate.specs.declared.fault.CapacityFault.TheVariants as exceeded
-use Rattle.charts.specs.Levels.{control_number}
-use Rattle.charts.specs.Name.{is_same_name}
-use Rattle.charts.specs.declared.chart.Line.{Line}
-use Rattle.charts.specs.declared.level.ControlLevel.{ControlLevel}
-use Rattle.charts.specs.declared.statement.DetailOption.TheVariants.{Indicated}
-use Rattle.charts.specs.declared.statement.Statement.{Statement}
-use Rattle.charts.specs.declared.statement.Statement.TheVariants as says
-use Rattle.faults.specs.Lines.{fault_line}
-use Rattle.faults.specs.ToldFaults.{capacity_told}
-use Rattle.line_marks.specs.Below.card_code.Deck.{line_at}
-use Rattle.line_marks.specs.Entries.{below, shown}
-use Rattle.line_marks.specs.Spans.{span_of}
-use Rattle.wanted.specs.Totals.{is_at_least, takes_two}
-use Rattle.wanted.specs.Wanted.{Parts}
-use Rattle.wanted.specs.declared.total.Total.{Total}
+use Rattle.chart_lines.specs.ChartsWords.Levels.{control_number}
+use Rattle.chart_lines.specs.ChartsWords.Name.{is_same_name}
+use Rattle.chart_lines.specs.declared.charts.chart.Line.{Line}
+use Rattle.chart_lines.specs.declared.charts.level.ControlLevel.{ControlLevel}
+use Rattle.chart_lines.specs.declared.charts.statement.DetailOption.TheVariants.{Indicated}
+use Rattle.chart_lines.specs.declared.charts.statement.Statement.{Statement}
+use Rattle.chart_lines.specs.declared.charts.statement.Statement.TheVariants as says
+use Rattle.fault_lines.specs.FaultsWords.Lines.{fault_line}
+use Rattle.fault_lines.specs.FaultsWords.ToldFaults.{capacity_told}
+use Rattle.card_code.specs.Deck.{line_at}
+use Rattle.fault_slips.specs.LineMarks.Entries.{below, shown}
+use Rattle.fault_slips.specs.LineMarks.Spans.{span_of}
+use Rattle.chart_plans.specs.WantedWords.Totals.{is_at_least, takes_two}
+use Rattle.chart_plans.specs.WantedWords.Wanted.{Parts}
+use Rattle.chart_plans.specs.declared.wanted.total.Total.{Total}
 
 -- what is wrong where a capacity is exceeded
 abbrev pub capacity_words : CapacityFault → List ℕ

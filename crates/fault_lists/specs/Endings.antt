@@ -5,22 +5,22 @@ use Rattle.allocate.specs.Exceeded.{FitsMachine, HasCapacityFault, in_order}
 use Rattle.allocate.specs.declared.fault.CapacityFault.{CapacityFault}
 use Rattle.capacity.specs.Capacities.{standard}
 use Rattle.fault_lists.specs.CapacityFaults.AllOver.{AreAllOver}
-use Rattle.charts.specs.Chart.{Chart}
-use Rattle.plans.specs.Below.wanted.Wanted.{wanted_of}
-use Rattle.chart_faults.specs.Listed.{BeginsAsChecked, ComesBefore, HasAllListed, IsFirstByRule}
-use Rattle.chart_faults.specs.declared.listing.BrokenRule.{BrokenRule}
+use Rattle.chart_lines.specs.ChartsWords.Chart.{Chart}
+use Rattle.chart_plans.specs.WantedWords.Wanted.{wanted_of}
+use Rattle.fault_chart_words.specs.Listed.{BeginsAsChecked, ComesBefore, HasAllListed, IsFirstByRule}
+use Rattle.fault_chart_words.specs.declared.listing.BrokenRule.{BrokenRule}
 use Rattle.chart_rules.specs.Rules.{IsFirstBroken, IsLawful, rule_number}
 use Rattle.chart_rules.specs.declared.rule.Rule.{Rule}
 use Rattle.chart_text.specs.ChartText.{Reads}
 use Rattle.chart_text.specs.TextFaults.{HasTextFault}
 use Rattle.chart_text.specs.declared.fault.TextFault.{TextFault}
 use Rattle.chart_text.specs.declared.fault.TextFault.TheVariants as text
-use Rattle.chart_faults.specs.FaultWords.Entries.{entries_text}
+use Rattle.fault_chart_words.specs.FaultWords.Entries.{entries_text}
 use Rattle.fault_lists.specs.MisreadLines.Misread.{AreMisread}
-use Rattle.faults.specs.ChartCauses.{of_text}
-use Rattle.faults.specs.ToldFaults.{capacity_told, chart_told}
-use Rattle.faults.specs.declared.fault.Fault.{Fault}
-use Rattle.faults.specs.declared.fault.Fault.TheVariants as told
+use Rattle.fault_lines.specs.FaultsWords.ChartCauses.{of_text}
+use Rattle.fault_lines.specs.FaultsWords.ToldFaults.{capacity_told, chart_told}
+use Rattle.fault_lines.specs.declared.faults.fault.Fault.{Fault}
+use Rattle.fault_lines.specs.declared.faults.fault.Fault.TheVariants as told
 use Rattle.fault_lists.specs.Behind.{TellsRest}
 use Rattle.fault_lists.specs.CapacityEntries.{capacities_text}
 use Rattle.fault_lists.specs.TextEntries.{text_entry}

@@ -6,3 +6,4 @@ pub mod Endings
 pub mod MisreadLines
 pub mod CapacityFaults
 pub mod Below
+pub mod TextLists

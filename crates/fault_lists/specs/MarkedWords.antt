@@ -2,11 +2,11 @@
 use Rattle.std.specs.Prelude.{◌≡◌, ◌≢◌, ℕ, ◌+◌, List, [], ◌++◌, Some, take}
 use Rattle.chart_text.specs.ChartText.{SaysIn}
 use Rattle.chart_text.specs.declared.forms.Said.{Said}
-use Rattle.charts.specs.declared.chart.Version.{Version}
-use Rattle.line_marks.specs.Spans.{word}
-use Rattle.tokens.specs.Tokens.{HasTokens}
-use Rattle.word_slips.specs.Halts.{halt_of}
-use Rattle.word_slips.specs.declared.halt.Halt.{Halt}
+use Rattle.chart_lines.specs.declared.charts.chart.Version.{Version}
+use Rattle.fault_slips.specs.LineMarks.Spans.{word}
+use Rattle.chart_lines.specs.TokensWords.Tokens.{HasTokens}
+use Rattle.fault_slips.specs.WordSlips.Halts.{halt_of}
+use Rattle.fault_slips.specs.declared.word_slips.halt.Halt.{Halt}
 
 -- no words of a form begin with these, in no version of the language
 abbrev pub BeginNoForm : List (List ℕ) → Type 0

@@ -3,12 +3,12 @@ use Rattle.std.specs.Prelude.{ℕ, List, [], ◌++◌, Option, Some, None, codes
 use Rattle.std.specs.List.{flat_map}
 use Rattle.chart_text.specs.declared.fault.TextFault.{TextFault}
 use Rattle.chart_text.specs.declared.fault.TextFault.TheVariants as text
-use Rattle.line_marks.specs.Below.card_code.Deck.{line_at}
-use Rattle.line_marks.specs.Entries.{below}
-use Rattle.line_marks.specs.FirstLines.{first_line, is_end}
-use Rattle.line_slips.specs.LineEntries.{behind_entry}
-use Rattle.program_io.specs.Printable.{printable}
-use Rattle.word_slips.specs.Entries.{misread_entry}
+use Rattle.card_code.specs.Deck.{line_at}
+use Rattle.fault_slips.specs.LineMarks.Entries.{below}
+use Rattle.fault_slips.specs.LineMarks.FirstLines.{first_line, is_end}
+use Rattle.fault_slips.specs.LineSlips.LineEntries.{behind_entry}
+use Rattle.fault_lines.specs.ProgramIo.Printable.{printable}
+use Rattle.fault_slips.specs.WordSlips.Entries.{misread_entry}
 
 -- the entry of a line that no form derives, by the line of END: one behind END is told by that
 unfoldable pub placed_entry : Option ℕ → ℕ → List ℕ → List ℕ

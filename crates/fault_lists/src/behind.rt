@@ -9,12 +9,12 @@ ghost use Rattle.fault_lists.specs.Endings.{IsBrokenOff};
 
 use crate::entries::write_no_end;
 use crate::rules::write_rules;
-use chart_faults::{BrokenRule, broken_rules};
+use chart_lines::charts::{After, Line, RawChart, Statement};
 use chart_rules::Rule;
 use chart_text::{TextFault, read_chart};
-use charts::{After, Line, RawChart, Statement};
-use faults::{Fault, unprinted};
-use line_marks::{emptied, line_numbered, word};
+use fault_chart_words::{BrokenRule, broken_rules};
+use fault_lines::faults::{Fault, unprinted};
+use fault_slips::line_marks::{emptied, line_numbered, word};
 use std::alloc::{AllocError, Global};
 use std::io::Write;
 

@@ -3,16 +3,16 @@
 ghost use Rattle.std.specs.Prelude.{◌≡◌, OnOk};
 ghost use Rattle.std.specs.Io.KnownBytes.{Appends};
 ghost use Rattle.fault_lists.specs.CapacityEntries as law;
-ghost use Rattle.wanted.specs.Totals.{class_of, is_at_least};
+ghost use Rattle.chart_plans.specs.WantedWords.Totals.{class_of, is_at_least};
 
 use allocate::CapacityFault;
-use charts::{ControlLevel, DetailOption, Line, Name, Statement};
-use faults::{Fault, write_line};
-use line_marks::{line_numbered, token_span, write_below, write_shown};
-use numerals::{write_between, write_numbered};
+use chart_lines::charts::{ControlLevel, DetailOption, Line, Name, Statement};
+use chart_numerals::{write_between, write_numbered};
+use chart_plans::wanted::{Parts, Total, takes_two};
+use fault_lines::faults::{Fault, write_line};
+use fault_slips::line_marks::{line_numbered, token_span, write_below, write_shown};
 use std::io;
 use std::io::Write;
-use wanted::{Parts, Total, takes_two};
 
 /// A chart with its text.
 #[derive(Drop)]

@@ -5,12 +5,12 @@ ghost use Rattle.std.specs.Io.KnownBytes.{Appends};
 ghost use Rattle.fault_lists.specs.TextEntries as law;
 
 use chart_text::TextFault;
-use line_marks::{end_line, line_numbered};
-use line_slips::write_behind_entry;
-use program_io::write_printable;
+use fault_lines::program_io::write_printable;
+use fault_slips::line_marks::{end_line, line_numbered};
+use fault_slips::line_slips::write_behind_entry;
+use fault_slips::word_slips::write_misread_entry;
 use std::io;
 use std::io::Write;
-use word_slips::write_misread_entry;
 
 /// Writes the entry of a text without a first line.
 fn write_first_line<W: Write>(out: &mut W, source: &[u8]) -> io::Result<()>

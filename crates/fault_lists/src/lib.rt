@@ -6,10 +6,11 @@
 //! exceeds, with the lines that ask for it.
 //!
 //! `specs/Endings.antt` says what is listed and told in each case, `Behind.antt` what is listed behind lines of no form, and `TextEntries.antt`
-//! and `CapacityEntries.antt` the entries that `fault_words` of `chart_faults` doesn't have.
+//! and `CapacityEntries.antt` the entries that `fault_chart_words` doesn't have.
 //!
 //! - `misread_lines`: all lines of a chart's text that no form derives
 //! - `capacity_faults`: all capacities of a machine that a chart exceeds
+//! - `text_lists`: the same of a wiring chart, or of whichever of the two a text is
 #![tactic(auto)]
 
 mod behind;
@@ -20,6 +21,7 @@ mod laws;
 mod listing;
 pub mod misread_lines;
 mod rules;
+pub mod text_lists;
 
 pub use laws::marked_words_stand_in_no_form;
 pub use listing::{list_chart, list_chart_to_end};

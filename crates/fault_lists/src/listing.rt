@@ -4,13 +4,13 @@ ghost use Rattle.std.specs.Prelude.{◌≡◌, ◌≢◌, ◌⊎◌, IfErr, OnOk
 ghost use Rattle.std.specs.Io.KnownBytes.{Appends};
 ghost use Rattle.allocate.specs.Exceeded.{FitsMachine, HasCapacityFault};
 ghost use Rattle.capacity.specs.Capacities.{standard};
-ghost use Rattle.plans.specs.Below.wanted.Wanted.{wanted_of};
+ghost use Rattle.chart_plans.specs.WantedWords.Wanted.{wanted_of};
 ghost use Rattle.chart_text.specs.ChartText.{Reads};
 ghost use Rattle.chart_text.specs.TextFaults.{HasTextFault};
-ghost use Rattle.faults.specs.ChartCauses.{of_rule, of_text};
-ghost use Rattle.faults.specs.Lines.{IsTold};
-ghost use Rattle.faults.specs.Status.{status_of};
-ghost use Rattle.faults.specs.ToldFaults.{chart_told};
+ghost use Rattle.fault_lines.specs.FaultsWords.ChartCauses.{of_rule, of_text};
+ghost use Rattle.fault_lines.specs.FaultsWords.Lines.{IsTold};
+ghost use Rattle.fault_lines.specs.FaultsWords.Status.{status_of};
+ghost use Rattle.fault_lines.specs.FaultsWords.ToldFaults.{chart_told};
 ghost use Rattle.fault_lists.specs.Endings.{AnswersOk, EndsCapacity, EndsListing, HasListed, IsBrokenOff, WritesBehind, WritesText};
 
 use crate::behind::list_behind;
@@ -21,15 +21,15 @@ use crate::misread_lines::misread_lines;
 use crate::rules::write_rules;
 use allocate::{CapacityFault, allocate};
 use capacity::Profile;
-use chart_faults::broken_rules;
+use chart_lines::charts::RawChart;
+use chart_plans::wanted::Wanted;
 use chart_rules::{Chart, RuleFault, check};
 use chart_text::{TextFault, read_chart};
-use charts::RawChart;
-use faults::{ChartFault, Ending, Fault, tell, unprinted};
-use program_io::put;
+use fault_chart_words::broken_rules;
+use fault_lines::faults::{ChartFault, Ending, Fault, tell, unprinted};
+use fault_lines::program_io::put;
 use std::alloc::Global;
 use std::io::Write;
-use wanted::Wanted;
 
 // What is told of a text that is no chart.
 fn text_told<'a>(cause: TextFault) -> Fault<'a>

@@ -3,13 +3,13 @@
 ghost use Rattle.std.specs.Prelude.{IfErr, OnOk};
 ghost use Rattle.std.specs.Io.KnownBytes.{Appends};
 ghost use Rattle.fault_lists.specs.Endings.{IsBrokenOff};
-ghost use Rattle.chart_faults.specs.FaultWords.Entries.{entries_text};
+ghost use Rattle.fault_chart_words.specs.FaultWords.Entries.{entries_text};
 
-use chart_faults::BrokenRule;
-use chart_faults::fault_words::write_entries;
-use charts::RawChart;
-use faults::{Fault, unprinted};
-use line_rules::field_rules::Fields;
+use chart_line_rules::field_rules::Fields;
+use chart_lines::charts::RawChart;
+use fault_chart_words::BrokenRule;
+use fault_chart_words::fault_words::write_entries;
+use fault_lines::faults::{Fault, unprinted};
 use std::alloc::Global;
 use std::io::Write;
 

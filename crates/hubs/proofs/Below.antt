@@ -1,1 +1,1 @@
-pub use Rattle.hub_table.proofs as hub_table
+pub use Rattle.hubs.proofs.HubTable as hub_table

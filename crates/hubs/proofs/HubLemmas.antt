@@ -3,17 +3,17 @@ use Rattle.std.proofs.Common.{◌≡◌, ◌↔◌, ◌≤◌, ◌+◌, ◌-◌,
 use Rattle.std.specs.Prelude.{option_map, is_some, nat_le, IfSome}
 use Rattle.std.proofs.lemmas.Bool.{and_parts, and_from, false≢true}
 use Rattle.std.proofs.lemmas.Bool.Decides.{nat_tests}
-use Rattle.hub_table.proofs.KindLemmas.{HasNumber-same, HasNumber-some, exits_end, entries_start, kinds_have_small_lasts}
-use Rattle.hub_table.proofs.PlaceLemmas.{place-range, place-injective, numbers_at, numbers_at-place, small_numbers}
-use Rattle.hub_table.specs.HubTable.{row_of, HasNumber}
+use Rattle.hubs.proofs.HubTable.KindLemmas.{HasNumber-same, HasNumber-some, exits_end, entries_start, kinds_have_small_lasts}
+use Rattle.hubs.proofs.HubTable.PlaceLemmas.{place-range, place-injective, numbers_at, numbers_at-place, small_numbers}
+use Rattle.hubs.specs.HubTable.HubTable.{row_of, HasNumber}
 use Rattle.hubs.specs.Hubs.{letters_of, numbers_of, hub_named, number_of, is_hub_in_range, is_exit_hub, is_entry_hub}
-use Rattle.hub_table.specs.Places.{place_of, AreSmall}
+use Rattle.hubs.specs.HubTable.Places.{place_of, AreSmall}
 use Rattle.hubs.specs.declared.hub.Hub.{Hub}
 use Rattle.hubs.specs.declared.hub.Hub.TheVariants.{FR, SR, W}
-use Rattle.hub_table.specs.declared.letters.Letters.{Letters}
-use Rattle.hub_table.specs.declared.letters.Letters.TheVariants as kind
-use Rattle.hub_table.specs.declared.shape.Numbers.{Numbers}
-use Rattle.hub_table.specs.declared.shape.Numbers.TheVariants.{Bare, One, Two, Three}
+use Rattle.hubs.specs.declared.hub_table.letters.Letters.{Letters}
+use Rattle.hubs.specs.declared.hub_table.letters.Letters.TheVariants as kind
+use Rattle.hubs.specs.declared.hub_table.shape.Numbers.{Numbers}
+use Rattle.hubs.specs.declared.hub_table.shape.Numbers.TheVariants.{Bare, One, Two, Three}
 
 -- a hub is the one with its letters and its numbers
 pub hub_named-own : (hub : Hub) → hub_named (letters_of hub) (numbers_of hub) ≡ Some hub

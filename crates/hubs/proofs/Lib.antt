@@ -1,3 +1,5 @@
 pub mod Below
 pub mod HubLemmas
 pub mod JackLemmas
+pub mod HubTable
+pub mod SetupsWords

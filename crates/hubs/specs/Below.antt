@@ -1,1 +1,1 @@
-pub use Rattle.hub_table.specs as hub_table
+pub use Rattle.hubs.specs.HubTable as hub_table

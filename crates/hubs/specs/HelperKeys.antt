@@ -1,8 +1,8 @@
 -- What tells a hub from every other: how many hubs stand before those of its kind, which no other kind has, and its numbers.
 use Rattle.std.specs.Prelude.{ℕ, List, [], ◌∷◌}
-use Rattle.hub_table.specs.HubTable.{row_of}
-use Rattle.hub_table.specs.declared.shape.Numbers.{Numbers}
-use Rattle.hub_table.specs.declared.shape.Numbers.TheVariants.{Bare, One, Two, Three}
+use Rattle.hubs.specs.HubTable.HubTable.{row_of}
+use Rattle.hubs.specs.declared.hub_table.shape.Numbers.{Numbers}
+use Rattle.hubs.specs.declared.hub_table.shape.Numbers.TheVariants.{Bare, One, Two, Three}
 use Rattle.hubs.specs.Hubs.{letters_of, numbers_of}
 use Rattle.hubs.specs.declared.hub.Hub.{Hub}
 

@@ -1,15 +1,15 @@
 -- The hubs of the panel: their letters, their numbers, and their hub numbers by the hub table.
 use Rattle.std.specs.Prelude.{ℕ, ◌+◌, ◌&&◌, not, Bool, Option, Some, None, option_map, is_some}
-pub use Rattle.hub_table.specs.Ranges.{is_within}
-use Rattle.hub_table.specs.HubTable.{row_of}
-use Rattle.hub_table.specs.Places.{place_of}
+pub use Rattle.hubs.specs.HubTable.Ranges.{is_within}
+use Rattle.hubs.specs.HubTable.HubTable.{row_of}
+use Rattle.hubs.specs.HubTable.Places.{place_of}
 use Rattle.hubs.specs.declared.hub.Group.{Group}
 use Rattle.hubs.specs.declared.hub.Hub.{Hub}
 use Rattle.hubs.specs.declared.hub.Hub.TheVariants.{FR, SR, CX, GX, CO, BAN, BAT, PIN, PIT, SX, IX, CSD, CSZ, EM, CC, PX, HX, CA, CB, GE, PL, MI, RO, BT, CI, BAC, PIC, PIX, SE, SI, SO, IE, CSE, W, ST, SP, SK, RS}
-use Rattle.hub_table.specs.declared.letters.Letters.{Letters}
-use Rattle.hub_table.specs.declared.letters.Letters.TheVariants as kind
-use Rattle.hub_table.specs.declared.shape.Numbers.{Numbers}
-use Rattle.hub_table.specs.declared.shape.Numbers.TheVariants.{Bare, One, Two, Three}
+use Rattle.hubs.specs.declared.hub_table.letters.Letters.{Letters}
+use Rattle.hubs.specs.declared.hub_table.letters.Letters.TheVariants as kind
+use Rattle.hubs.specs.declared.hub_table.shape.Numbers.{Numbers}
+use Rattle.hubs.specs.declared.hub_table.shape.Numbers.TheVariants.{Bare, One, Two, Three}
 
 -- the letters of a hub, and its numbers in the order in which they are written
 abbrev pub name_of_hub : Hub → Letters × Numbers

@@ -4,3 +4,5 @@ pub mod HelperKeys
 pub mod HubText
 pub mod Hubs
 pub mod Jacks
+pub mod HubTable
+pub mod SetupsWords

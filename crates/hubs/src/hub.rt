@@ -7,10 +7,10 @@ ghost use Rattle.std.specs.Cmp.Rules.{comparing};
 ghost use Rattle.std.proofs.Common.{rules};
 ghost use Rattle.hubs.specs.Hubs.{hub_named};
 ghost use Rattle.hubs.specs.HelperKeys.{hub_key};
-ghost use Rattle.hub_table.specs.Places.{AreSmall};
-ghost use Rattle.hub_table.specs.declared.shape.Numbers.TheVariants.{Bare, One, Two, Three};
+ghost use Rattle.hubs.specs.HubTable.Places.{AreSmall};
+ghost use Rattle.hubs.specs.declared.hub_table.shape.Numbers.TheVariants.{Bare, One, Two, Three};
 
-use hub_table::{Letters, Numbers};
+use crate::hub_table::{Letters, Numbers};
 use std::fmt;
 
 /// A counter group: its width, 3, 4, 6 or 8 positions, and its number among those of its width, 1 to 8.

@@ -1,7 +1,7 @@
 //! The jacks of the panel.
 
 ghost use Rattle.std.specs.Prelude.{◌≡◌};
-ghost use Rattle.hub_table.specs.Ranges.{is_within};
+ghost use Rattle.hubs.specs.HubTable.Ranges.{is_within};
 
 /// How many jacks the panel has.
 pub const JACKS: usize = 368;

@@ -5,8 +5,8 @@ ghost use Rattle.std.specs.String.{string_bytes};
 ghost use Rattle.hubs.specs.HubText.{hub_text, numbers_text, pointed};
 
 use crate::hub::Hub;
-use hub_table::Numbers;
-use numerals::push_numbered;
+use crate::hub_table::Numbers;
+use chart_numerals::push_numbered;
 use std::alloc::AllocError;
 
 /// Writes a hub: its letters, and its numbers with a point before each, as `GX.8.1.3`. Fails only where no memory is left; a front of the

@@ -9,7 +9,7 @@ use Rattle.program_unit.specs.Program.{ProgramState, program_sensed}
 use Rattle.selectors.specs.Pilots.{pilots_sensed}
 use Rattle.print_unit.specs.Wheels.{collected, wheel_sensed, wheels_sensed}
 use Rattle.print_unit.specs.ZeroControl.{Wheel}
-use Rattle.setups.specs.Wiring.{Wiring}
+use Rattle.hubs.specs.SetupsWords.Wiring.{Wiring}
 use Rattle.hubs.specs.Hubs.{is_hub_in_range}
 use Rattle.hubs.specs.declared.hub.Group.{Group}
 use Rattle.hubs.specs.declared.hub.Hub.{Hub}

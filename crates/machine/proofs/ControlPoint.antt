@@ -16,7 +16,7 @@ use Rattle.net.specs.declared.cycle.Point.TheVariants.{C, K}
 use Rattle.net.specs.declared.orders.Orders.{Orders}
 use Rattle.program_unit.specs.Program.{ProgramState, program_sensed}
 use Rattle.selectors.specs.Pilots.{PilotStates, pilots_sensed}
-use Rattle.setups.specs.Wiring.{Wiring}
+use Rattle.hubs.specs.SetupsWords.Wiring.{Wiring}
 use Rattle.stations.specs.Comparing.{Compared, comparing_emits, comparing_sensed}
 use Rattle.stations.specs.Stations.{StationCards, stations_emits}
 use Rattle.storage_units.specs.Storage.{storage_sensed}

@@ -1,7 +1,7 @@
 -- A run over a deck, feed by feed from its start.
 use Rattle.std.proofs.Common.{ℕ, List, [], ◌∷◌, ◌++◌, Some, None, append_assoc, refl, sym, subst, ap, ◌∙◌}
 use Rattle.page_text.specs.declared.placed_lines.placed_line.PlacedLine.{PlacedLine}
-use Rattle.setups.specs.Wiring.{Wiring}
+use Rattle.hubs.specs.SetupsWords.Wiring.{Wiring}
 use Rattle.net.specs.Nets.{NetRows, IsNetOf}
 use Rattle.machine.specs.Feeds.{Feeds, LinesFrom}
 use Rattle.machine.specs.Gains.{GainsFeed}

@@ -9,7 +9,7 @@ use Rattle.counters.specs.Counters.{Counter, counter_emits, counter_sensed, show
 use Rattle.hubs.specs.declared.hub.Group.{Group}
 use Rattle.hubs.specs.declared.hub.Hub.{Hub}
 use Rattle.hubs.specs.declared.hub.Hub.TheVariants.{EM, FR, GX, RO, SO, SR, SX}
-use Rattle.setups.specs.Wiring.{Wiring}
+use Rattle.hubs.specs.SetupsWords.Wiring.{Wiring}
 use Rattle.net.proofs.ImpulsedLaws.{impulsed_more}
 use Rattle.net.proofs.Rows.{is_hub-same}
 use Rattle.net.specs.Cycles.{emitter_of}

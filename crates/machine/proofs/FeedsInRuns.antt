@@ -2,7 +2,7 @@
 use Rattle.std.proofs.Common.{◌≡◌, ℕ, Bool, true, false, not, ◌||◌, List, [], ◌∷◌, ◌++◌, Option, Some, None, is_some, if◌then◌else◌, append_assoc, refl, sym, ap, ◌∙◌, subst}
 use Rattle.std.proofs.lemmas.List.{append-nil}
 use Rattle.page_text.specs.declared.placed_lines.placed_line.PlacedLine.{PlacedLine}
-use Rattle.setups.specs.Wiring.{Wiring}
+use Rattle.hubs.specs.SetupsWords.Wiring.{Wiring}
 use Rattle.net.specs.declared.cycle.Cycle.{Cycle}
 use Rattle.net.specs.declared.cycle.Cycle.TheVariants.{RunIn, Card, Prog, Head}
 use Rattle.program_unit.specs.CycleOrder.{card_over, cycle_after, is_fresh, is_over_at}

@@ -1,7 +1,7 @@
 -- How many cycles a run has.
 use Rattle.std.proofs.Common.{◌≡◌, ℕ, ◌+◌, ◌*◌, ◌<◌, ◌≤◌, Bool, true, false, not, ◌||◌, List, [], ◌∷◌, Some, None, is_some, length, if◌then◌else◌, refl, sym, ap, ◌∙◌, subst, arith}
 use Rattle.page_text.specs.declared.placed_lines.placed_line.PlacedLine.{PlacedLine}
-use Rattle.setups.specs.Wiring.{Wiring}
+use Rattle.hubs.specs.SetupsWords.Wiring.{Wiring}
 use Rattle.net.specs.declared.cycle.Cycle.{Cycle}
 use Rattle.net.specs.declared.cycle.Cycle.TheVariants.{RunIn, Card, Prog, Head}
 use Rattle.program_unit.specs.CycleOrder.{cycle_after, is_over_at}

@@ -3,7 +3,7 @@ use Rattle.std.proofs.Common.{◌≡◌, subst, refl, ℕ, List, [], ◌++◌, O
 use Rattle.std.specs.Prelude.{All}
 use Rattle.std.proofs.lemmas.List.Elements.{All-append, All-nil}
 use Rattle.page_text.specs.declared.placed_lines.placed_line.PlacedLine.{PlacedLine}
-use Rattle.setups.specs.Wiring.{Wiring}
+use Rattle.hubs.specs.SetupsWords.Wiring.{Wiring}
 use Rattle.net.specs.Nets.{NetRows, IsNetOf}
 use Rattle.net.specs.declared.cycle.Cycle.{Cycle}
 use Rattle.machine.specs.Cycles.{line_of}

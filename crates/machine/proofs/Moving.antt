@@ -9,7 +9,7 @@ use Rattle.page_text.specs.PlacedLines.InOrder.{IsAfter, FollowInOrder}
 use Rattle.carriage.specs.Moves.{down_by, next_page, next_stop, skipped, skipped_to, restored, latched, at_first_line}
 use Rattle.page_text.specs.declared.placed_lines.placed_line.PlacedLine.{PlacedLine}
 use Rattle.carriage.specs.declared.spot.Spot.{Spot}
-use Rattle.setups.specs.Tapes.{CarriageTape, IsCarriageTape}
+use Rattle.hubs.specs.SetupsWords.Tapes.{CarriageTape, IsCarriageTape}
 use Rattle.net.specs.Printing.{prints}
 use Rattle.net.specs.declared.cycle.Cycle.{Cycle}
 use Rattle.net.specs.declared.cycle.Cycle.TheVariants.{RunIn, Card, Prog, Head}

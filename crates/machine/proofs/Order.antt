@@ -3,8 +3,8 @@ use Rattle.std.proofs.Common.{◌≡◌, ℕ, suc, ◌+◌, ◌^◌, ◌≤◌, 
 use Rattle.carriage.specs.Carriage.{CarriageState, carriage_ended}
 use Rattle.page_text.specs.PlacedLines.InOrder.{FollowInOrder, IsInOrder}
 use Rattle.page_text.specs.declared.placed_lines.placed_line.PlacedLine.{PlacedLine}
-use Rattle.setups.specs.Tapes.{CarriageTape, IsCarriageTape}
-use Rattle.setups.specs.Wiring.{Wiring}
+use Rattle.hubs.specs.SetupsWords.Tapes.{CarriageTape, IsCarriageTape}
+use Rattle.hubs.specs.SetupsWords.Wiring.{Wiring}
 use Rattle.net.specs.Printing.{prints}
 use Rattle.net.specs.declared.cycle.Cycle.{Cycle}
 use Rattle.net.specs.declared.cycle.Cycle.TheVariants.{RunIn, Card, Prog, Head}

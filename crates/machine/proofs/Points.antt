@@ -1,7 +1,7 @@
 -- Cycles, point by point.
 use Rattle.std.proofs.Common.{ℕ, ◌+◌, ◌<◌, get_or, refl, subst, sym, add-one}
 use Rattle.std.proofs.lemmas.List.{get_or_default}
-use Rattle.setups.specs.Wiring.{Wiring}
+use Rattle.hubs.specs.SetupsWords.Wiring.{Wiring}
 use Rattle.net.specs.Cycles.{points}
 use Rattle.net.specs.declared.cycle.Cycle.{Cycle}
 use Rattle.net.specs.declared.cycle.Point.{Point}

@@ -1,7 +1,7 @@
 -- A run is cut by feeds: both place the same lines.
 use Rattle.std.proofs.Common.{ℕ, List, subst}
 use Rattle.page_text.specs.declared.placed_lines.placed_line.PlacedLine.{PlacedLine}
-use Rattle.setups.specs.Wiring.{Wiring}
+use Rattle.hubs.specs.SetupsWords.Wiring.{Wiring}
 use Rattle.machine.specs.Feeds.{LinesFrom}
 use Rattle.machine.specs.Laws.{FeedsCutRuns}
 use Rattle.machine.specs.Machine.{machine_at_start}

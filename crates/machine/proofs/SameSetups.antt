@@ -4,9 +4,9 @@ use Rattle.std.specs.List.{range_with_len}
 use Rattle.carriage.specs.Asked.{nothing_asked}
 use Rattle.page_text.specs.declared.placed_lines.placed_line.PlacedLine.{PlacedLine}
 use Rattle.counters.specs.Counters.{counter_at_start}
-use Rattle.setups.proofs.SameTapes.{SameTape-same}
-use Rattle.setups.specs.Tapes.{IsCarriageTape, SameTape}
-use Rattle.setups.specs.Wiring.{Wiring, SameWires, SameJacks}
+use Rattle.hubs.proofs.SetupsWords.SameTapes.{SameTape-same}
+use Rattle.hubs.specs.SetupsWords.Tapes.{IsCarriageTape, SameTape}
+use Rattle.hubs.specs.SetupsWords.Wiring.{Wiring, SameWires, SameJacks}
 use Rattle.hubs.specs.declared.hub.Hub.{Hub}
 use Rattle.hubs.specs.declared.jack.Jack.TheVariants as jack
 use Rattle.net.specs.Impulsed.{IsPicture, IsImpulsed, LeadsOn, emitting, led_on}

@@ -2,7 +2,7 @@
 -- for ever.
 use Rattle.std.proofs.Common.{◌≡◌, ℕ, zero, suc, ◌≤◌, List, [], ◌∷◌, ◌++◌, Option, Some, None, ◌⊎◌, inl, inr, refl, arith}
 use Rattle.page_text.specs.declared.placed_lines.placed_line.PlacedLine.{PlacedLine}
-use Rattle.setups.specs.Wiring.{Wiring}
+use Rattle.hubs.specs.SetupsWords.Wiring.{Wiring}
 use Rattle.net.proofs.EachPicture.{each_picture}
 use Rattle.net.specs.declared.cycle.Cycle.{Cycle}
 use Rattle.net.specs.declared.cycle.Point.{Point}

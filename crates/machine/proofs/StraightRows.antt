@@ -7,7 +7,7 @@ use Rattle.counters.specs.Counters.{counter_sensed}
 use Rattle.hubs.specs.Hubs.{is_hub_in_range}
 use Rattle.hubs.specs.declared.hub.Hub.{Hub}
 use Rattle.hubs.specs.declared.hub.Hub.TheVariants.{CC, HX, PX, SR, W}
-use Rattle.setups.specs.Wiring.{HasWire, Wiring}
+use Rattle.hubs.specs.SetupsWords.Wiring.{HasWire, Wiring}
 use Rattle.net.proofs.ImpulsedLaws.{wires_make}
 use Rattle.net.proofs.StraightRows.{brought-listed, brought-wired}
 use Rattle.net.specs.HubRows.{has_at}

@@ -1,5 +1,5 @@
 -- Helper words: the points of the rows, all at once.
-use Rattle.setups.specs.Wiring.{Wiring}
+use Rattle.hubs.specs.SetupsWords.Wiring.{Wiring}
 use Rattle.net.specs.declared.cycle.Cycle.{Cycle}
 use Rattle.machine.specs.Cycles.{Reached}
 use Rattle.machine.specs.Machine.{MachineState}

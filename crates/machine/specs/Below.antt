@@ -8,6 +8,6 @@ pub use Rattle.page_text.specs as page_text
 pub use Rattle.print_unit.specs as print_unit
 pub use Rattle.program_unit.specs as program_unit
 pub use Rattle.selectors.specs as selectors
-pub use Rattle.setups.specs as setups
+pub use Rattle.hubs.specs.SetupsWords as setups
 pub use Rattle.stations.specs as stations
 pub use Rattle.storage_units.specs as storage_units

@@ -3,7 +3,7 @@
 use Rattle.std.specs.Prelude.{◌≡◌, ℕ, zero, suc, Bool, List}
 pub use Rattle.page_text.specs.PlacedLines.Lines.{line_at}
 use Rattle.page_text.specs.declared.placed_lines.placed_line.PlacedLine.{PlacedLine}
-use Rattle.setups.specs.Wiring.{Wiring}
+use Rattle.hubs.specs.SetupsWords.Wiring.{Wiring}
 use Rattle.hubs.specs.declared.hub.Hub.{Hub}
 pub use Rattle.net.specs.Cycles.{point_at}
 use Rattle.net.specs.Impulsed.{IsPicture}

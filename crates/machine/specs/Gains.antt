@@ -1,7 +1,7 @@
 -- Helper words: what a feed adds to the lines that stand already.
 use Rattle.std.specs.Prelude.{◌≡◌, List, ◌++◌, Option, ℕ}
 use Rattle.page_text.specs.declared.placed_lines.placed_line.PlacedLine.{PlacedLine}
-use Rattle.setups.specs.Wiring.{Wiring}
+use Rattle.hubs.specs.SetupsWords.Wiring.{Wiring}
 use Rattle.net.specs.Nets.{NetRows, IsNetOf}
 use Rattle.machine.specs.Feeds.{Feeds}
 use Rattle.machine.specs.Machine.{MachineState}

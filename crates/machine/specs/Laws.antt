@@ -4,8 +4,8 @@ use Rattle.card_code.specs.MostCards.{most_cards}
 use Rattle.page_text.specs.PlacedLines.InOrder.{IsInOrder}
 use Rattle.page_text.specs.declared.placed_lines.placed_line.PlacedLine.{PlacedLine}
 use Rattle.hubs.specs.declared.hub.Hub.{Hub}
-use Rattle.setups.specs.Tapes.{IsCarriageTape, SameTape}
-use Rattle.setups.specs.Wiring.{Wiring, SameWires, SameJacks}
+use Rattle.hubs.specs.SetupsWords.Tapes.{IsCarriageTape, SameTape}
+use Rattle.hubs.specs.SetupsWords.Wiring.{Wiring, SameWires, SameJacks}
 use Rattle.net.specs.declared.cycle.Cycle.{Cycle}
 use Rattle.net.specs.declared.cycle.Point.{Point}
 use Rattle.selectors.specs.Contacts.{closed_contacts}

@@ -4,7 +4,7 @@ use Rattle.std.specs.Prelude.{ℕ, Bool, ◌||◌, List, [], ◌∷◌, map}
 use Rattle.std.specs.List.{list_any}
 use Rattle.carriage.specs.Carriage.{CarriageState, carriage_at_start, carriage_sensed, carriage_ended}
 use Rattle.counters.specs.Counters.{Counter, counter_at_start, counter_emits, counter_closes, counter_sensed, counter_ended}
-use Rattle.setups.specs.Wiring.{Wiring}
+use Rattle.hubs.specs.SetupsWords.Wiring.{Wiring}
 use Rattle.hubs.specs.declared.hub.Hub.{Hub}
 use Rattle.net.specs.declared.cycle.Cycle.{Cycle}
 use Rattle.net.specs.declared.cycle.Point.{Point}

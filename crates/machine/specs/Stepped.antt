@@ -1,6 +1,6 @@
 -- A machine that its caller takes through its cycles one by one: its wires and its units.
 use Rattle.std.specs.Prelude.{◌≡◌}
-use Rattle.setups.specs.Wiring.{Wiring}
+use Rattle.hubs.specs.SetupsWords.Wiring.{Wiring}
 use Rattle.net.specs.Nets.{NetRows, IsNetOf}
 use Rattle.machine.specs.Machine.{MachineState, machine_at_start}
 

@@ -14,7 +14,7 @@ impl Units {
     ghost use Rattle.net.specs.Orders.{AreToldBy};
     ghost use Rattle.net.specs.declared.cycle.Point.TheVariants.{C, K};
     ghost use Rattle.std.specs.Option.{ForSome};
-    ghost use Rattle.setups.specs.Wiring.{Wiring};
+    ghost use Rattle.hubs.specs.SetupsWords.Wiring.{Wiring};
     ghost use Rattle.net.specs.Nets.{IsNetOf};
     ghost use Rattle.net.specs.HubSets.{has_hub, is_bit};
     ghost use Rattle.net.specs.Impulsed.{IsPicture};

@@ -8,7 +8,7 @@ use std::alloc::AllocError;
 
 impl Units {
     ghost use Rattle.std.specs.Prelude.{◌≡◌, Some, OnOk, OnErr};
-    ghost use Rattle.setups.specs.Wiring.{Wiring};
+    ghost use Rattle.hubs.specs.SetupsWords.Wiring.{Wiring};
     ghost use Rattle.net.specs.Nets.{IsNetOf};
     ghost use Rattle.machine.specs.Ends.{GoesOn};
     ghost use Rattle.machine.specs.Gains.{GainsFeed, GainsPrefix};

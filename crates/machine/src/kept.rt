@@ -38,7 +38,7 @@ pub struct KeptCycle {
 impl Units {
     ghost use Rattle.std.specs.Prelude.{◌≡◌, Some, None, IfSome, All, OnOk, OnErr, [], ◌∷◌, option_to_list};
     ghost use Rattle.std.specs.List.{filter};
-    ghost use Rattle.setups.specs.Wiring.{Wiring};
+    ghost use Rattle.hubs.specs.SetupsWords.Wiring.{Wiring};
     ghost use Rattle.net.specs.Nets.{IsNetOf};
     ghost use Rattle.machine.specs.Cycles.{CycleRun, Reached, line_of};
     ghost use Rattle.machine.specs.Feeds.{FeedStep, due_in, taken};

@@ -4,9 +4,9 @@ use crate::fault::FeedFault;
 use crate::kept::KeptCycle;
 use crate::units::Units;
 use card_code::{Card, MOST_CARDS};
+use hubs::setups::Setup;
 use net::{Net, RowSets};
 use page_text::placed_lines::PlacedLine;
-use setups::Setup;
 use std::alloc::{AllocError, Global};
 use std::marker::Model;
 
@@ -64,7 +64,7 @@ impl Machine {
     ghost use Rattle.machine.specs.Gains.{GainsFeed, GainsPrefix};
     ghost use Rattle.machine.specs.Kept.{FeedsPast, GainsKept, GainsSome, PlacedInFeed};
     ghost use Rattle.net.specs.Nets.{IsNetOf};
-    ghost use Rattle.setups.specs.Wiring.{Wiring};
+    ghost use Rattle.hubs.specs.SetupsWords.Wiring.{Wiring};
     ghost use Rattle.machine.specs.declared.fault.FeedFault.{FeedFault};
     ghost use Rattle.machine.specs.declared.fault.FeedFault.TheVariants.{Memory};
 

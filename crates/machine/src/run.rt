@@ -7,9 +7,9 @@ ghost use Rattle.machine.specs.Runs.{MachineLines};
 
 use crate::units::Units;
 use card_code::Card;
+use hubs::setups::Setup;
 use net::{Net, RowSets};
 use page_text::placed_lines::PlacedLine;
-use setups::Setup;
 use std::alloc::{AllocError, Global};
 
 /// Runs a deck of at most 999,999 cards through a setup of the panel, and answers the printed lines in order with their

@@ -4,10 +4,10 @@ use crate::kept::KeptPoint;
 use crate::units::Units;
 use card_code::Card;
 use counters::Group;
+use hubs::setups::Setup;
 use net::{Cycle, Net, RowSets};
 use page_text::placed_lines::PlacedLine;
 use selectors::Pilots;
-use setups::Setup;
 use std::alloc::{AllocError, Global};
 use std::marker::Model;
 use storage_units::Storage;
@@ -41,7 +41,7 @@ impl Model for SteppedMachine {
 
 impl SteppedMachine {
     ghost use Rattle.std.specs.Prelude.{◌≡◌, IfOk, option_to_list};
-    ghost use Rattle.setups.specs.Wiring.{Wiring};
+    ghost use Rattle.hubs.specs.SetupsWords.Wiring.{Wiring};
     ghost use Rattle.net.specs.Nets.{IsNetOf};
     ghost use Rattle.machine.specs.Cycles.{Reached, line_of};
     ghost use Rattle.machine.specs.Kept.{KeepsPoints};

@@ -6,9 +6,9 @@ use crate::storage_rows::{
     control_storage, emit_storage, emit_storage_rows, sense_storage, sense_storage_rows,
 };
 use crate::unit_set::UnitSet;
+use hubs::setups::Setup;
 use net::{Cycle, Orders, Picture, Point, RowSets, Unit};
 use selectors::{BalanceLatches, GROUPS};
-use setups::Setup;
 use std::marker::Model;
 
 // The 45 units, and what is noted of the counter groups, so that those that have nothing to do are left alone.

@@ -1,1 +1,1 @@
-pub use Rattle.bit_sets.proofs as bit_sets
+pub use Rattle.machine_sets.proofs.BitSets as bit_sets

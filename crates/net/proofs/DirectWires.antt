@@ -9,16 +9,16 @@ use Rattle.hubs.proofs.HubLemmas.{is_entry-number, is_exit-number}
 use Rattle.hubs.specs.Hubs.{number_of}
 use Rattle.hubs.specs.declared.hub.Hub.{Hub}
 use Rattle.hubs.specs.declared.hub.Hub.TheVariants.{CO, BAN, BAT, PIN, PIT, IX, CSD, CSZ, CI, BAC, PIC, IE, CSE}
-use Rattle.setups.specs.Wiring.{HasWire, LeadsToEntries, Wiring}
-use Rattle.bit_sets.specs.Bits.{has_place}
-use Rattle.bit_sets.specs.Contacts.{AreCommons}
-use Rattle.bit_sets.specs.Rows.{leads}
-use Rattle.spreads.specs.Links.{IsInRange, is_link, is_linked}
+use Rattle.hubs.specs.SetupsWords.Wiring.{HasWire, LeadsToEntries, Wiring}
+use Rattle.machine_sets.specs.BitSets.Bits.{has_place}
+use Rattle.machine_sets.specs.BitSets.Contacts.{AreCommons}
+use Rattle.machine_sets.specs.BitSets.Rows.{leads}
+use Rattle.machine_sets.specs.SpreadsWords.Links.{IsInRange, is_link, is_linked}
 use Rattle.net.specs.Nets.{IsNetOf, NetRows, leads_by}
 use Rattle.net.specs.Panel.{contact_of}
 use Rattle.net.specs.RowSets.{LeadsToNoContact}
 use Rattle.net.specs.declared.contacts.TheConstants.{CONTACTS}
-use Rattle.spreads.specs.declared.links.Link.{Link}
+use Rattle.machine_sets.specs.declared.spreads.links.Link.{Link}
 use Rattle.net.proofs.PanelContacts.{contact_numbered, of_runs}
 
 -- hubs of two kinds with the same numbers are both in range

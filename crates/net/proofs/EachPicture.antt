@@ -4,12 +4,12 @@ use Rattle.std.specs.Prelude.{option_map, is_some}
 use Rattle.std.proofs.lemmas.Bool.{and_from, and_parts, cases_lt, or_cases, false≢true, or_right, or_left}
 use Rattle.std.proofs.lemmas.Option.{same_Some}
 use Rattle.hubs.proofs.HubLemmas.{hub_numbered, in_range, number_of-injective, number_of-range}
-use Rattle.setups.proofs.WiredLemmas.{HasWire-is_wired}
+use Rattle.hubs.proofs.SetupsWords.WiredLemmas.{HasWire-is_wired}
 use Rattle.hubs.specs.Hubs.{is_hub_in_range, number_of}
-use Rattle.setups.specs.Wiring.{Wiring, is_wired}
+use Rattle.hubs.specs.SetupsWords.Wiring.{Wiring, is_wired}
 use Rattle.hubs.specs.declared.hub.Hub.{Hub}
 use Rattle.hubs.specs.declared.hub.Hub.TheVariants.{CO, BAN, BAT, PIN, PIT, IX, CSD, CSZ, CI, BAC, PIC, IE, CSE, RS}
-use Rattle.bit_sets.specs.Contacts.{is_any_contact}
+use Rattle.machine_sets.specs.BitSets.Contacts.{is_any_contact}
 use Rattle.net.specs.Impulsed.{IsImpulsed, IsPicture, LeadsOn}
 use Rattle.net.specs.Impulsed.IsImpulsed.{emitting, led_on}
 use Rattle.net.specs.Panel.{contact_of}

@@ -1,9 +1,9 @@
 -- Laws of impulsed hubs, for those who show hubs impulsed or not.
 use Rattle.std.proofs.Common.{◌≡◌, ◌∙◌, refl, sym, Bool, true, false, not, ◌&&◌, ◌↔◌, Some, inl, inr}
 use Rattle.std.proofs.lemmas.Bool.{and_parts, false≢true}
-use Rattle.hub_table.specs.HubTable.{row_of}
+use Rattle.hubs.specs.HubTable.HubTable.{row_of}
 use Rattle.hubs.specs.Hubs.{is_entry_hub, is_exit_hub, is_hub_in_range, letters_of}
-use Rattle.setups.specs.Wiring.{LeadsToEntries, Wiring}
+use Rattle.hubs.specs.SetupsWords.Wiring.{LeadsToEntries, Wiring}
 use Rattle.hubs.specs.declared.hub.Hub.{Hub}
 use Rattle.net.specs.Impulsed.{IsImpulsed, IsPicture}
 use Rattle.net.specs.Impulsed.IsImpulsed.{emitting, led_on}

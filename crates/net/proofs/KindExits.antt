@@ -8,15 +8,15 @@ use Rattle.std.proofs.lemmas.List.{get_or-replicate}
 use Rattle.std.proofs.lemmas.Nat.{one_shl}
 use Rattle.std.proofs.lemmas.Nat.Bits.{bit_at_ones}
 use Rattle.std.proofs.lemmas.Option.{same_Some}
-use Rattle.hub_table.specs.Places.{is_width, part_place, positions_before, row_place, up_to}
-use Rattle.hub_table.specs.Ranges.{is_within}
+use Rattle.hubs.specs.HubTable.Places.{is_width, part_place, positions_before, row_place, up_to}
+use Rattle.hubs.specs.HubTable.Ranges.{is_within}
 use Rattle.hubs.proofs.HubLemmas.{number_of-range}
 use Rattle.hubs.specs.Hubs.{group_of, is_hub_in_range, number_of}
 use Rattle.hubs.specs.declared.hub.Hub.{Hub}
 use Rattle.hubs.specs.declared.hub.Hub.TheVariants.{FR, SR, GX, SX, EM, PL, RO, SI, SO}
-use Rattle.setups.specs.Wiring.{LeadsToEntries, Wiring}
-use Rattle.bit_sets.proofs.PlaceLemmas.{has_place-word}
-use Rattle.bit_sets.specs.Bits.{has_place, is_bit}
+use Rattle.hubs.specs.SetupsWords.Wiring.{LeadsToEntries, Wiring}
+use Rattle.machine_sets.proofs.BitSets.PlaceLemmas.{has_place-word}
+use Rattle.machine_sets.specs.BitSets.Bits.{has_place, is_bit}
 use Rattle.net.specs.HubSets.{GainsHubs, HubSet, has_hub, is_bit_from, is_in_reach, is_in_row, is_near}
 use Rattle.net.specs.Kinds.{HasEmitter, HasEmitting, HasGroups, HasOrders, HasUnits, HasUntold, KeepsHubs, MayBeTold}
 use Rattle.net.specs.Nets.{IsNetOf}

@@ -2,8 +2,8 @@
 use Rattle.std.proofs.Common.{◌≡◌, ⊎_elim, ℕ, ◌+◌, ◌<◌, ◌++◌, List, [], ◌∷◌, arith, get_or, length, refl, subst, sym}
 use Rattle.std.proofs.lemmas.Grind.{common_steps}
 use Rattle.std.proofs.lemmas.Bool.{cases_lt}
-use Rattle.spreads.specs.Paths.{PathLinks}
-use Rattle.spreads.specs.declared.links.Link.{Link}
+use Rattle.machine_sets.specs.SpreadsWords.Paths.{PathLinks}
+use Rattle.machine_sets.specs.declared.spreads.links.Link.{Link}
 use Rattle.net.specs.CyclePaths.{ArePathsOfKind}
 use Rattle.net.specs.declared.tellings.Telling.{Telling}
 

@@ -4,8 +4,8 @@ use Rattle.std.proofs.Common.{◌≡◌, ◌≢◌, ◌∙◌, ap, refl, ℕ, �
 use Rattle.std.specs.Prelude.{if◌then◌else◌, option_map}
 use Rattle.std.proofs.lemmas.Bool.Decides.{nat_tests}
 use Rattle.hubs.specs.Hubs.{number_of}
-use Rattle.hub_table.specs.Places.{up_to, part_place, position_place, positions_before, group_place, is_width}
-use Rattle.hub_table.specs.Ranges.{is_within}
+use Rattle.hubs.specs.HubTable.Places.{up_to, part_place, position_place, positions_before, group_place, is_width}
+use Rattle.hubs.specs.HubTable.Ranges.{is_within}
 use Rattle.hubs.specs.declared.hub.Group.{Group}
 use Rattle.hubs.specs.declared.hub.Hub.{Hub}
 use Rattle.hubs.specs.declared.hub.Hub.TheVariants.{FR, SR, CX, GX, BAN, BAT, PIN, PIT, SX, IX, CA, CB, GE, PIC, PIX, SE, IE, W}

@@ -9,8 +9,8 @@ use Rattle.std.proofs.lemmas.Grind.{take_at_read}
 use Rattle.hubs.proofs.HubLemmas.{hub_numbered, number_of-injective, number_of-range, is_exit-number}
 use Rattle.hubs.specs.declared.hub.Hub.{Hub}
 use Rattle.hubs.specs.Hubs.{number_of}
-use Rattle.setups.specs.Wiring.{Wiring, HasWire, IsLawfulWiring}
-use Rattle.bit_sets.specs.Rows.{leads}
+use Rattle.hubs.specs.SetupsWords.Wiring.{Wiring, HasWire, IsLawfulWiring}
+use Rattle.machine_sets.specs.BitSets.Rows.{leads}
 use Rattle.net.specs.AddedWires.{Adds, AddsRow}
 use Rattle.net.specs.Nets.{IsNetOf, NetRows, leads_by}
 

@@ -8,8 +8,8 @@ use Rattle.hubs.proofs.HubLemmas.{number_of-injective, number_of-kind}
 use Rattle.hubs.specs.Hubs.{number_of}
 use Rattle.hubs.specs.declared.hub.Hub.{Hub}
 use Rattle.hubs.specs.declared.hub.Hub.TheVariants.{CO, BAN, BAT, PIN, PIT, IX, CSD, CSZ, CI, BAC, PIC, IE, CSE}
-use Rattle.bit_sets.specs.Contacts.{is_any_contact, is_contact}
-use Rattle.bit_sets.specs.declared.contacts.Run.{Run}
+use Rattle.machine_sets.specs.BitSets.Contacts.{is_any_contact, is_contact}
+use Rattle.machine_sets.specs.declared.bit_sets.contacts.Run.{Run}
 use Rattle.net.specs.Panel.{contact_of}
 use Rattle.net.specs.declared.contacts.TheConstants.{CONTACTS}
 

@@ -9,31 +9,31 @@ use Rattle.card_code.specs.declared.row.Row.TheVariants.{Zero, One, Two, Three, 
 use Rattle.hubs.proofs.HubLemmas.{hub_numbered, in_range, number_of-range}
 use Rattle.hubs.specs.Hubs.{number_of}
 use Rattle.hubs.specs.declared.hub.Hub.{Hub}
-use Rattle.setups.specs.Wiring.{HasWire, Wiring}
-use Rattle.bit_sets.specs.Contacts.{is_any_contact}
-use Rattle.bit_sets.specs.declared.contacts.Run.{Run}
-use Rattle.bit_sets.specs.Rows.{leads}
+use Rattle.hubs.specs.SetupsWords.Wiring.{HasWire, Wiring}
+use Rattle.machine_sets.specs.BitSets.Contacts.{is_any_contact}
+use Rattle.machine_sets.specs.declared.bit_sets.contacts.Run.{Run}
+use Rattle.machine_sets.specs.BitSets.Rows.{leads}
 use Rattle.net.specs.HubSets.{HubSet, has_hub, has_number}
-use Rattle.bit_sets.specs.Bits.{has_place}
-use Rattle.spreads.specs.Paths.{AreParted, PathLinks}
+use Rattle.machine_sets.specs.BitSets.Bits.{has_place}
+use Rattle.machine_sets.specs.SpreadsWords.Paths.{AreParted, PathLinks}
 use Rattle.net.specs.Kinds.{HasEmitting, MayHaveRows}
 use Rattle.net.specs.Laws.{EmitsOrIsFed}
 use Rattle.net.specs.declared.cycle.Cycle.{Cycle}
 use Rattle.net.proofs.RowsFed.{row-fed}
-use Rattle.spreads.proofs.LinkLemmas.{fed-found, fed-from}
+use Rattle.machine_sets.proofs.SpreadsWords.LinkLemmas.{fed-found, fed-from}
 use Rattle.net.specs.HubRows.{has_at_number, has_row_at}
-use Rattle.spreads.specs.Links.{HasRoom, IsEight, IsInRange, Spreads, is_fed_at, has_at, is_led_to, is_linked}
+use Rattle.machine_sets.specs.SpreadsWords.Links.{HasRoom, IsEight, IsInRange, Spreads, is_fed_at, has_at, is_led_to, is_linked}
 use Rattle.net.specs.Nets.{IsNetOf, NetRows, leads_by}
 use Rattle.net.specs.Panel.{contact_of}
 use Rattle.net.specs.Passing.{closes_at_row}
-use Rattle.spreads.specs.Passing.{Passes, RunsPass, is_closed_at, is_passed_in}
+use Rattle.machine_sets.specs.SpreadsWords.Passing.{Passes, RunsPass, is_closed_at, is_passed_in}
 use Rattle.net.specs.declared.contacts.TheConstants.{CONTACTS}
-use Rattle.spreads.specs.declared.links.Link.{Link}
+use Rattle.machine_sets.specs.declared.spreads.links.Link.{Link}
 use Rattle.net.proofs.DirectWires.{exit_numbered}
 use Rattle.net.proofs.PassedSets.{IsPassedAt, PassesBehind, PassesOn, SpreadsOn, SpreadsRow}
 use Rattle.net.proofs.PanelContacts.{IsInRuns, contact_by_place, contact_numbered, in_runs, of_runs}
-use Rattle.spreads.proofs.PassLemmas.{linked-led, passed-from}
-use Rattle.spreads.proofs.ContactRuns.{run-found, run-from}
+use Rattle.machine_sets.proofs.SpreadsWords.PassLemmas.{linked-led, passed-from}
+use Rattle.machine_sets.proofs.SpreadsWords.ContactRuns.{run-found, run-from}
 
 -- whether a contact is closed at a row, by the number of its exit
 closes-number : (digits zones : HubSet) (row : CardRow) (hub : Hub) (n : ℕ) → number_of hub ≡ Some n

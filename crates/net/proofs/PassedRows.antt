@@ -6,18 +6,18 @@ use Rattle.card_code.specs.declared.row.Row.{Row as CardRow}
 use Rattle.hubs.proofs.HubLemmas.{in_range}
 use Rattle.hubs.specs.Hubs.{is_hub_in_range, number_of}
 use Rattle.hubs.specs.declared.hub.Hub.{Hub}
-use Rattle.setups.specs.Wiring.{HasWire, LeadsToEntries, Wiring}
+use Rattle.hubs.specs.SetupsWords.Wiring.{HasWire, LeadsToEntries, Wiring}
 use Rattle.net.proofs.ImpulsedLaws.{impulsed_within, no_exit_is_entry}
 use Rattle.net.specs.HubSets.{HubSet}
 use Rattle.net.specs.Impulsed.{IsImpulsed, IsPicture}
 use Rattle.net.specs.Impulsed.IsImpulsed.{emitting, led_on}
 use Rattle.net.specs.Laws.{EmitsOrIsFed, FollowsLeads}
 use Rattle.net.specs.HubRows.{has_at_number, has_row_at}
-use Rattle.spreads.specs.Links.{has_at}
+use Rattle.machine_sets.specs.SpreadsWords.Links.{has_at}
 use Rattle.net.specs.Panel.{contact_of}
 use Rattle.net.specs.Passing.{AreContactsSilent, closes_at_row}
 use Rattle.net.proofs.PassedSets.{IsPassedAt, PassesBehind, PassesOn, SpreadsOn, SpreadsRows}
-use Rattle.spreads.specs.Passing.{SameSets}
+use Rattle.machine_sets.specs.SpreadsWords.Passing.{SameSets}
 use Rattle.net.specs.RowSets.{pictures_of}
 use Rattle.net.specs.declared.cycle.Point.TheVariants.{Row}
 

@@ -3,7 +3,7 @@ use Rattle.std.specs.Prelude.{◌≡◌, ◌↔◌, ◌⊎◌, ℕ, Bool, true, 
 use Rattle.card_code.specs.Rows.{passing_place}
 use Rattle.card_code.specs.declared.row.Row.{Row as CardRow}
 use Rattle.hubs.specs.declared.hub.Hub.{Hub}
-use Rattle.setups.specs.Wiring.{HasWire, Wiring}
+use Rattle.hubs.specs.SetupsWords.Wiring.{HasWire, Wiring}
 use Rattle.net.specs.HubSets.{HubSet}
 use Rattle.net.specs.HubRows.{has_row_at}
 use Rattle.net.specs.Laws.{EmitsOrIsFed}

@@ -4,13 +4,13 @@ use Rattle.std.specs.Prelude.{is_some}
 use Rattle.std.proofs.lemmas.Bool.{cases_lt, false≢true}
 use Rattle.hubs.proofs.HubLemmas.{hub_numbered, in_range, number_of-range}
 use Rattle.hubs.specs.Hubs.{number_of}
-use Rattle.setups.specs.Wiring.{Wiring}
+use Rattle.hubs.specs.SetupsWords.Wiring.{Wiring}
 use Rattle.hubs.specs.declared.hub.Hub.{Hub}
-use Rattle.bit_sets.proofs.LedLemmas.{leads-past}
-use Rattle.bit_sets.specs.Bits.{has_place}
-use Rattle.bit_sets.specs.Reached.{IsReached}
-use Rattle.bit_sets.specs.Reached.IsReached.{emitting as emits, by_row, by_contact}
-use Rattle.bit_sets.specs.Rows.{leads}
+use Rattle.machine_sets.proofs.BitSets.LedLemmas.{leads-past}
+use Rattle.machine_sets.specs.BitSets.Bits.{has_place}
+use Rattle.machine_sets.specs.BitSets.Reached.{IsReached}
+use Rattle.machine_sets.specs.BitSets.Reached.IsReached.{emitting as emits, by_row, by_contact}
+use Rattle.machine_sets.specs.BitSets.Rows.{leads}
 use Rattle.net.specs.HubSets.{HubSet, has_hub, has_number}
 use Rattle.net.specs.Impulsed.{IsImpulsed, IsPicture}
 use Rattle.net.specs.Impulsed.IsImpulsed.{emitting, led_on}

@@ -7,7 +7,7 @@ use Rattle.std.proofs.Math.Bool.{and-false}
 use Rattle.hubs.proofs.HubLemmas.{number_of-injective}
 use Rattle.hubs.specs.Hubs.{number_of}
 use Rattle.hubs.specs.declared.hub.Hub.{Hub}
-use Rattle.bit_sets.proofs.BitLemmas.{is_bit-above}
+use Rattle.machine_sets.proofs.BitSets.BitLemmas.{is_bit-above}
 use Rattle.net.specs.Orders.{IsRowOf}
 use Rattle.net.specs.HubSets.{GainsHubs, HubSet, has_hub, is_bit, is_bit_from, is_hub, is_in_reach, is_in_row, is_near, is_same_number}
 

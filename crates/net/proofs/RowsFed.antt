@@ -5,14 +5,14 @@ use Rattle.std.proofs.lemmas.Bool.{false≢true, or_cases, or_left, or_right}
 use Rattle.hubs.proofs.HubLemmas.{hub_numbered, in_range}
 use Rattle.hubs.specs.Hubs.{number_of}
 use Rattle.hubs.specs.declared.hub.Hub.{Hub}
-use Rattle.setups.specs.Wiring.{Wiring, HasWire}
-use Rattle.bit_sets.specs.Rows.{leads}
+use Rattle.hubs.specs.SetupsWords.Wiring.{Wiring, HasWire}
+use Rattle.machine_sets.specs.BitSets.Rows.{leads}
 use Rattle.net.specs.Laws.{EmitsOrIsFed}
 use Rattle.net.specs.HubRows.{has_at_number, has_row_at}
-use Rattle.spreads.specs.Links.{IsInRange, has_at, is_fed_at, is_linked}
+use Rattle.machine_sets.specs.SpreadsWords.Links.{IsInRange, has_at, is_fed_at, is_linked}
 use Rattle.net.specs.Nets.{IsNetOf, NetRows, leads_by}
-use Rattle.spreads.specs.declared.links.Link.{Link}
-use Rattle.spreads.proofs.LinkLemmas.{fed-found, fed-from}
+use Rattle.machine_sets.specs.declared.spreads.links.Link.{Link}
+use Rattle.machine_sets.proofs.SpreadsWords.LinkLemmas.{fed-found, fed-from}
 
 -- a row that is spread along the links of a setup's net comes along its wires
 pub row-fed : (wiring : Wiring) (net : NetRows) (links : List Link) (old new : List ℕ) (row : ℕ) → IsNetOf wiring net

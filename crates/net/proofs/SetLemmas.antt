@@ -4,12 +4,12 @@ use Rattle.std.specs.Prelude.{nat_le}
 use Rattle.std.proofs.Math.Bool.{or-false}
 use Rattle.std.proofs.lemmas.Bool.Decides.{nat_tests}
 use Rattle.std.proofs.lemmas.List.{get_or-drop}
-use Rattle.bit_sets.specs.Bits.{is_bit}
+use Rattle.machine_sets.specs.BitSets.Bits.{is_bit}
 use Rattle.hubs.specs.Hubs.{number_of}
 use Rattle.hubs.specs.declared.hub.Hub.{Hub}
 use Rattle.net.specs.HubSets.{is_bit_from, is_in_row}
 use Rattle.net.specs.HubRows.{has_at_number, has_row_at}
-use Rattle.spreads.specs.Links.{has_at}
+use Rattle.machine_sets.specs.SpreadsWords.Links.{has_at}
 use Rattle.net.specs.RowSets.{GainsRows, is_in_sets, is_set_from}
 use Rattle.card_code.specs.declared.row.Row.{Row as CardRow}
 

@@ -6,9 +6,9 @@ use Rattle.std.proofs.lemmas.Bool.{cases_eq}
 use Rattle.std.proofs.lemmas.Bool.Decides.{nat_tests}
 use Rattle.std.proofs.lemmas.Grind.{common_steps}
 use Rattle.std.proofs.Math.Bool.{and-false, and-true}
-use Rattle.bit_sets.specs.Bits.{GainsPlaces, has_place, is_in_run}
-use Rattle.bit_sets.proofs.BitLemmas.{is_bit-and, is_bit-ones}
-use Rattle.bit_sets.proofs.PlaceLemmas.{has_place-past, has_place-word, has_place-zeros}
+use Rattle.machine_sets.specs.BitSets.Bits.{GainsPlaces, has_place, is_in_run}
+use Rattle.machine_sets.proofs.BitSets.BitLemmas.{is_bit-and, is_bit-ones}
+use Rattle.machine_sets.proofs.BitSets.PlaceLemmas.{has_place-past, has_place-word, has_place-zeros}
 use Rattle.net.specs.HubSets.{HoldsHubsAlone, HubSet, has_number, is_bit, is_bit_from, is_near, is_same_number}
 
 -- the numbers of hubs are 1 to 1936

@@ -4,15 +4,15 @@ use Rattle.std.specs.Prelude.{nat_le, nat_lt}
 use Rattle.std.proofs.lemmas.Bool.{and_parts, and_from, false≢true, or_cases, or_left, or_right}
 use Rattle.std.proofs.lemmas.Bool.Decides.{nat_tests}
 use Rattle.std.proofs.lemmas.List.Elements.{All-head, All-tail}
-use Rattle.hub_table.specs.HubTable.{HasNumber}
+use Rattle.hubs.specs.HubTable.HubTable.{HasNumber}
 use Rattle.hubs.proofs.HubLemmas.{number_of-injective, number_of-kind}
 use Rattle.hubs.specs.Hubs.{letters_of, number_of}
 use Rattle.hubs.specs.declared.hub.Hub.{Hub}
 use Rattle.hubs.specs.declared.hub.Hub.TheVariants.{SR, W, CC, PX, HX}
-use Rattle.setups.specs.Wiring.{HasWire, Wiring}
-use Rattle.bit_sets.specs.Rows.{leads}
-use Rattle.spreads.specs.Links.{IsInRange, is_linked}
-use Rattle.spreads.specs.declared.links.Link.{Link}
+use Rattle.hubs.specs.SetupsWords.Wiring.{HasWire, Wiring}
+use Rattle.machine_sets.specs.BitSets.Rows.{leads}
+use Rattle.machine_sets.specs.SpreadsWords.Links.{IsInRange, is_linked}
+use Rattle.machine_sets.specs.declared.spreads.links.Link.{Link}
 use Rattle.net.specs.HubRows.{has_at}
 use Rattle.net.specs.Nets.{IsNetOf, NetRows, leads_by}
 use Rattle.net.specs.Straight.{AreRunsOf, AreStraight, IsInside, IsRunWire, IsStraightWire, is_brought, is_brought_by, is_in_run, is_straight, tells_of_cycles}

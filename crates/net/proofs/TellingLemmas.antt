@@ -13,14 +13,14 @@ use Rattle.std.specs.List.{list_any}
 use Rattle.hubs.proofs.HubLemmas.{number_of-injective, number_of-range}
 use Rattle.hubs.specs.Hubs.{number_of}
 use Rattle.hubs.specs.declared.hub.Hub.{Hub}
-use Rattle.bit_sets.proofs.BitLemmas.{is_bit-or, is_bit-zero}
-use Rattle.bit_sets.proofs.LedLemmas.{leads-past}
-use Rattle.bit_sets.proofs.PlaceLemmas.{has_place-past}
-use Rattle.bit_sets.specs.Bits.{has_place}
-use Rattle.bit_sets.specs.Contacts.{AreCommons, ArePlacesApart}
-use Rattle.bit_sets.specs.Reached.{IsReached}
-use Rattle.bit_sets.specs.Reached.IsReached.{emitting, by_row, by_contact}
-use Rattle.bit_sets.specs.Rows.{leads}
+use Rattle.machine_sets.proofs.BitSets.BitLemmas.{is_bit-or, is_bit-zero}
+use Rattle.machine_sets.proofs.BitSets.LedLemmas.{leads-past}
+use Rattle.machine_sets.proofs.BitSets.PlaceLemmas.{has_place-past}
+use Rattle.machine_sets.specs.BitSets.Bits.{has_place}
+use Rattle.machine_sets.specs.BitSets.Contacts.{AreCommons, ArePlacesApart}
+use Rattle.machine_sets.specs.BitSets.Reached.{IsReached}
+use Rattle.machine_sets.specs.BitSets.Reached.IsReached.{emitting, by_row, by_contact}
+use Rattle.machine_sets.specs.BitSets.Rows.{leads}
 use Rattle.net.specs.HubSets.{has_hub, has_number, is_bit, is_bit_from, is_in_row, is_same_number}
 use Rattle.net.specs.Nets.{leads_by}
 use Rattle.net.specs.Orders.{AreOrdersOf, IsRowOf, ordered}

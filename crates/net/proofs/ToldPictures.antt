@@ -9,8 +9,8 @@ use Rattle.std.proofs.lemmas.Option.{same_Some}
 use Rattle.hubs.proofs.HubLemmas.{hub_numbered, in_range, number_of-injective}
 use Rattle.hubs.specs.Hubs.{number_of}
 use Rattle.hubs.specs.declared.hub.Hub.{Hub}
-use Rattle.setups.specs.Wiring.{HasWire, LeadsToEntries, Wiring}
-use Rattle.bit_sets.specs.Bits.{has_place}
+use Rattle.hubs.specs.SetupsWords.Wiring.{HasWire, LeadsToEntries, Wiring}
+use Rattle.machine_sets.specs.BitSets.Bits.{has_place}
 use Rattle.net.specs.HubSets.{HubSet, has_hub, has_number, is_same_number}
 use Rattle.net.specs.Impulsed.{IsImpulsed, IsPicture}
 use Rattle.net.specs.Impulsed.IsImpulsed.{emitting, led_on}

@@ -6,10 +6,10 @@ use Rattle.hubs.proofs.HubLemmas.{number_of-kind, number_of-range}
 use Rattle.hubs.specs.Hubs.{number_of}
 use Rattle.hubs.specs.declared.hub.Hub.{Hub}
 use Rattle.hubs.specs.declared.hub.Hub.TheVariants.{CO, BAN, BAT, PIN, PIT, IX, CSD, CSZ, CI}
-use Rattle.setups.specs.Wiring.{Wiring}
-use Rattle.bit_sets.proofs.PlaceLemmas.{has_place-past}
-use Rattle.bit_sets.specs.Bits.{has_place}
-use Rattle.bit_sets.specs.Contacts.{AreCommons, ArePlacesApart}
+use Rattle.hubs.specs.SetupsWords.Wiring.{Wiring}
+use Rattle.machine_sets.proofs.BitSets.PlaceLemmas.{has_place-past}
+use Rattle.machine_sets.specs.BitSets.Bits.{has_place}
+use Rattle.machine_sets.specs.BitSets.Contacts.{AreCommons, ArePlacesApart}
 use Rattle.net.specs.HubSets.{has_hub, has_number}
 use Rattle.net.specs.Impulsed.{IsPicture}
 use Rattle.net.specs.Panel.{contact_of}

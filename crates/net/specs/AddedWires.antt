@@ -1,8 +1,8 @@
 -- Rows while a net is made: helper words for its loops.
 use Rattle.std.specs.Prelude.{◌≡◌, ◌↔◌, ℕ, ◌+◌, Bool, true, ◌⊎◌, List, Contains}
-use Rattle.bit_sets.specs.Rows.{leads}
-use Rattle.spreads.specs.Links.{is_linked}
-use Rattle.spreads.specs.declared.links.Link.{Link}
+use Rattle.machine_sets.specs.BitSets.Rows.{leads}
+use Rattle.machine_sets.specs.SpreadsWords.Links.{is_linked}
+use Rattle.machine_sets.specs.declared.spreads.links.Link.{Link}
 
 -- new leads where old does, and from a place to those whose numbers are listed
 abbrev pub Adds : (ℕ → ℕ → Bool) → (ℕ → ℕ → Bool) → ℕ → List ℕ → Type 0

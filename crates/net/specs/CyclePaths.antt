@@ -1,10 +1,10 @@
 -- The paths of rows in each kind of cycle.
 use Rattle.std.specs.Prelude.{◌≡◌, ℕ, ◌+◌, ◌<◌, All, List, Some, length, slice_index_or}
-use Rattle.bit_sets.specs.Rows.{leads}
-use Rattle.setups.specs.Wiring.{Wiring}
-use Rattle.spreads.specs.Links.{IsInRange, is_linked}
-use Rattle.spreads.specs.Paths.{AreParted, PathLinks}
-use Rattle.spreads.specs.declared.links.Link.{Link}
+use Rattle.machine_sets.specs.BitSets.Rows.{leads}
+use Rattle.hubs.specs.SetupsWords.Wiring.{Wiring}
+use Rattle.machine_sets.specs.SpreadsWords.Links.{IsInRange, is_linked}
+use Rattle.machine_sets.specs.SpreadsWords.Paths.{AreParted, PathLinks}
+use Rattle.machine_sets.specs.declared.spreads.links.Link.{Link}
 use Rattle.net.specs.Kinds.{HasEmitting}
 use Rattle.net.specs.Nets.{IsNetOf, NetRows}
 use Rattle.net.specs.Tellings.{IsTelling}

@@ -2,7 +2,7 @@
 use Rattle.std.specs.Prelude.{ℕ, ◌-◌, Bool, false, List, Option, Some, None}
 use Rattle.hubs.specs.Hubs.{number_of}
 use Rattle.hubs.specs.declared.hub.Hub.{Hub}
-pub use Rattle.spreads.specs.Links.{has_at}
+pub use Rattle.machine_sets.specs.SpreadsWords.Links.{has_at}
 
 -- whether the set of a hub's number has a row; none where there is no number
 abbrev pub has_at_number : List ℕ → ℕ → Option ℕ → Bool

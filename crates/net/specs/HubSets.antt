@@ -2,8 +2,8 @@
 use Rattle.std.specs.Prelude.{◌≡◌, ℕ, ◌≤◌, ◌+◌, ◌-◌, ◌==◌, ◌&&◌, ◌||◌, nat_le, nat_lt, Bool, false, List, Option, Some, None}
 use Rattle.hubs.specs.declared.hub.Hub.{Hub}
 use Rattle.hubs.specs.Hubs.{number_of}
-unfoldable pub use Rattle.bit_sets.specs.Bits.{is_bit}
-use Rattle.bit_sets.specs.Bits.{has_place}
+unfoldable pub use Rattle.machine_sets.specs.BitSets.Bits.{is_bit}
+use Rattle.machine_sets.specs.BitSets.Bits.{has_place}
 
 -- A stored set: 31 words of 64 bits. The hub with the number h is bit h - 1, counted through the words.
 pub record HubSet : Type 0 where

@@ -3,7 +3,7 @@
 use Rattle.std.specs.Prelude.{◌≡◌, Bool, true, Some, ◌⊎◌, ◌↔◌}
 use Rattle.hubs.specs.declared.hub.Hub.{Hub}
 use Rattle.hubs.specs.Hubs.{is_hub_in_range}
-use Rattle.setups.specs.Wiring.{Wiring, HasWire}
+use Rattle.hubs.specs.SetupsWords.Wiring.{Wiring, HasWire}
 use Rattle.net.specs.Panel.{contact_of}
 
 -- one hub leads on to another: a wire goes there, or a contact that is closed

@@ -3,7 +3,7 @@ use Rattle.std.specs.Prelude.{◌≡◌, ℕ, ◌<◌, ◌||◌, Bool, true, fal
 use Rattle.hubs.specs.Hubs.{group_of, is_hub_in_range}
 use Rattle.hubs.specs.declared.hub.Hub.{Hub}
 use Rattle.hubs.specs.declared.hub.Hub.TheVariants.{FR, SR, GX, SX, EM, PL, RO, SI, SO}
-use Rattle.setups.specs.Wiring.{Wiring}
+use Rattle.hubs.specs.SetupsWords.Wiring.{Wiring}
 use Rattle.net.specs.Cycles.{emitter_of}
 use Rattle.net.specs.HubSets.{HubSet, has_hub, is_in_reach}
 use Rattle.card_code.specs.Rows.{passing_place}

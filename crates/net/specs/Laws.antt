@@ -2,7 +2,7 @@
 use Rattle.std.specs.Prelude.{◌≡◌, ◌↔◌, Bool, true, false, ◌⊎◌, Some}
 use Rattle.hubs.specs.declared.hub.Hub.{Hub}
 use Rattle.hubs.specs.Hubs.{is_hub_in_range}
-use Rattle.setups.specs.Wiring.{Wiring, HasWire, LeadsToEntries}
+use Rattle.hubs.specs.SetupsWords.Wiring.{Wiring, HasWire, LeadsToEntries}
 use Rattle.net.specs.Impulsed.{IsImpulsed, IsPicture, LeadsOn}
 use Rattle.net.specs.Panel.{contact_of}
 

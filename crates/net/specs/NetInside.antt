@@ -1,13 +1,13 @@
 -- What a net holds beside its rows.
 use Rattle.std.specs.Prelude.{◌≡◌, ℕ, All, false, List, Option, IfSome, Vec, drop}
 use Rattle.std.specs.Global.{Global}
-use Rattle.setups.specs.Wiring.{Wiring}
-use Rattle.bit_sets.specs.Bits.{has_place}
-use Rattle.bit_sets.specs.Contacts.{AreCommons}
-use Rattle.bit_sets.specs.Rows.{leads}
-use Rattle.bit_sets.specs.declared.contacts.Run.{Run}
+use Rattle.hubs.specs.SetupsWords.Wiring.{Wiring}
+use Rattle.machine_sets.specs.BitSets.Bits.{has_place}
+use Rattle.machine_sets.specs.BitSets.Contacts.{AreCommons}
+use Rattle.machine_sets.specs.BitSets.Rows.{leads}
+use Rattle.machine_sets.specs.declared.bit_sets.contacts.Run.{Run}
 use Rattle.net.specs.Nets.{IsNetOf}
-use Rattle.spreads.specs.declared.links.Link.{Link}
+use Rattle.machine_sets.specs.declared.spreads.links.Link.{Link}
 use Rattle.net.specs.CyclePaths.{AreCyclePaths, AreLinks}
 use Rattle.net.specs.declared.kinds.CyclePaths.{CyclePaths}
 use Rattle.net.specs.Straight.{AreRunsOf}

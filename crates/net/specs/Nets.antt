@@ -1,9 +1,9 @@
 -- A net has the wires of a setup. It keeps them as rows, one for each exit, of the entries that its wires lead to.
 use Rattle.std.specs.Prelude.{◌≡◌, ◌↔◌, ℕ, ◌-◌, Bool, true, false, List, Option, Some}
 use Rattle.hubs.specs.Hubs.{number_of}
-use Rattle.setups.specs.Wiring.{Wiring, HasWire}
+use Rattle.hubs.specs.SetupsWords.Wiring.{Wiring, HasWire}
 use Rattle.hubs.specs.declared.hub.Hub.{Hub}
-use Rattle.bit_sets.specs.Rows.{leads}
+use Rattle.machine_sets.specs.BitSets.Rows.{leads}
 
 -- What a net holds. Read it through leads_on alone.
 pub record NetRows : Type 0 where

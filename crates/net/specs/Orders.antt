@@ -1,6 +1,6 @@
 -- What a picture of the control point tells the units: rows of the hubs that they sense there.
 use Rattle.std.specs.Prelude.{◌≡◌, ℕ, ◌&&◌, ◌||◌, Bool, true}
-use Rattle.setups.specs.Wiring.{Wiring}
+use Rattle.hubs.specs.SetupsWords.Wiring.{Wiring}
 use Rattle.hubs.specs.declared.hub.Hub.{Hub}
 use Rattle.hubs.specs.declared.hub.Hub.TheVariants.{PL, SI, SP}
 use Rattle.net.specs.HubSets.{is_in_reach, is_in_row}

@@ -1,6 +1,6 @@
 -- The panel's tables: which contact leads to an exit, which unit emits at an exit, and which unit senses an entry.
 use Rattle.std.specs.Prelude.{ℕ, ◌+◌, Option, Some, None}
-use Rattle.hub_table.specs.Places.{group_place}
+use Rattle.hubs.specs.HubTable.Places.{group_place}
 use Rattle.hubs.specs.declared.hub.Group.{Group}
 use Rattle.hubs.specs.declared.hub.Hub.{Hub}
 use Rattle.hubs.specs.declared.hub.Hub.TheVariants.{FR, SR, CX, GX, CO, BAN, BAT, PIN, PIT, SX, IX, CSD, CSZ, EM, CC, PX, HX, CA, CB, GE, PL, MI, RO, BT, CI, PIX, SE, SI, SO, W, ST, SP, SK, RS}

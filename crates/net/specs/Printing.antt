@@ -1,7 +1,7 @@
 -- Which cycles print. A card cycle prints where the jack LIST is plugged, the third program cycle of a level where TOTAL
 -- of the level is, and a heading cycle where HEAD of its number is. No other cycle prints.
 use Rattle.std.specs.Prelude.{Bool, false}
-use Rattle.setups.specs.Wiring.{Wiring, is_plugged}
+use Rattle.hubs.specs.SetupsWords.Wiring.{Wiring, is_plugged}
 use Rattle.hubs.specs.declared.jack.Jack.TheVariants as jack
 use Rattle.net.specs.declared.cycle.Cycle.{Cycle}
 use Rattle.net.specs.declared.cycle.Cycle.TheVariants.{RunIn, Card, Prog, Head}

@@ -2,11 +2,11 @@
 use Rattle.std.specs.Prelude.{◌≡◌, ℕ, ◌-◌, ◌&&◌, ◌||◌, nat_le, Bool, false, List, map, Option, Some}
 use Rattle.card_code.specs.Rows.{passing_place, rows}
 use Rattle.card_code.specs.declared.row.Row.{Row as CardRow}
-use Rattle.setups.specs.Wiring.{HasWire, LeadsToEntries, Wiring}
+use Rattle.hubs.specs.SetupsWords.Wiring.{HasWire, LeadsToEntries, Wiring}
 use Rattle.hubs.specs.Hubs.{number_of}
 use Rattle.hubs.specs.declared.hub.Hub.{Hub}
 use Rattle.net.specs.HubRows.{has_row_at}
-use Rattle.spreads.specs.Links.{has_at}
+use Rattle.machine_sets.specs.SpreadsWords.Links.{has_at}
 use Rattle.net.specs.Panel.{contact_of}
 use Rattle.net.specs.WholeCycles.{after_points}
 use Rattle.net.specs.declared.cycle.Cycle.{Cycle}

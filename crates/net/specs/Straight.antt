@@ -3,7 +3,7 @@ use Rattle.std.specs.Prelude.{◌≡◌, ◌⊎◌, ℕ, ◌+◌, ◌-◌, ◌<�
 use Rattle.std.specs.List.{list_any}
 use Rattle.hubs.specs.declared.hub.Hub.{Hub}
 use Rattle.hubs.specs.declared.hub.Hub.TheVariants.{SR, W, CC, PX, HX}
-use Rattle.setups.specs.Wiring.{HasWire, Wiring}
+use Rattle.hubs.specs.SetupsWords.Wiring.{HasWire, Wiring}
 use Rattle.net.specs.HubRows.{has_at}
 use Rattle.net.specs.declared.straight.Straight.{Straight}
 

@@ -1,6 +1,6 @@
 //! The contacts of the panel, as runs of hubs that follow one another.
 
-use bit_sets::Run;
+use machine_sets::bit_sets::Run;
 
 /// The contacts, by places: the hub with the number h is the place h - 1.
 pub(crate) const CONTACTS: [Run; 7] = [

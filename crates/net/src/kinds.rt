@@ -1,10 +1,10 @@
 //! What may emit at the rows in each kind of cycle, whichever contacts are closed at its control point.
 
 ghost use Rattle.std.specs.Prelude.{◌≡◌, ℕ, ◌+◌, ◌<◌, ◌≤◌, All, List, Bool, IfOk, IfSome, Some, length, true};
-ghost use Rattle.spreads.specs.Links.{IsInRange};
+ghost use Rattle.machine_sets.specs.SpreadsWords.Links.{IsInRange};
 ghost use Rattle.net.specs.CyclePaths.{AreCyclePaths, ArePathsOfKinds};
 ghost use Rattle.hubs.specs.declared.hub.Hub.{Hub};
-ghost use Rattle.setups.specs.Wiring.{LeadsToEntries, Wiring};
+ghost use Rattle.hubs.specs.SetupsWords.Wiring.{LeadsToEntries, Wiring};
 ghost use Rattle.net.specs.Cycles.{emitter_of};
 ghost use Rattle.net.specs.Kinds.{HasEmitter, HasEmitting, HasGroups, HasOrders, HasUnits, HasUntold, KeepsHubs, MayBeTold};
 ghost use Rattle.net.specs.Nets.{IsNetOf};
@@ -18,9 +18,9 @@ use crate::contacts::CONTACTS;
 use crate::orders::{FIRST_GROUP, Orders};
 use crate::picture::Picture;
 use crate::tellings::{Telling, told_through};
-use bit_sets::WORDS;
 use hubs::{Group, Hub};
-use spreads::{Link, Paths};
+use machine_sets::bit_sets::WORDS;
+use machine_sets::spreads::{Link, Paths};
 use std::alloc::{AllocError, Global};
 
 // The most wires that are followed one by one. If there are more, it takes less time to make one picture after another.

@@ -1,7 +1,7 @@
 //! Laws of impulsed hubs. The functions do nothing: the contract of each is the law.
 
 ghost use Rattle.std.specs.Prelude.{Bool, ◌↔◌};
-ghost use Rattle.setups.specs.Wiring.{Wiring, LeadsToEntries};
+ghost use Rattle.hubs.specs.SetupsWords.Wiring.{Wiring, LeadsToEntries};
 ghost use Rattle.hubs.specs.declared.hub.Hub.{Hub};
 ghost use Rattle.net.specs.Impulsed.{IsImpulsed};
 ghost use Rattle.net.specs.Laws.{AreAllOpen, EmitsOrIsFed, ExitsHaveAPicture, IsLeastSet, WiresMakeThePicture};

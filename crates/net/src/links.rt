@@ -1,13 +1,13 @@
 //! The wires of a setup one by one.
 
 ghost use Rattle.std.specs.Prelude.{◌≡◌, ℕ, ◌<◌, ◌≤◌, All, OnOk, false};
-ghost use Rattle.bit_sets.specs.Bits.{has_place};
-ghost use Rattle.setups.specs.Wiring.{IsEntryNumber};
-ghost use Rattle.spreads.specs.Links.{IsInRange, is_linked};
+ghost use Rattle.machine_sets.specs.BitSets.Bits.{has_place};
+ghost use Rattle.hubs.specs.SetupsWords.Wiring.{IsEntryNumber};
+ghost use Rattle.machine_sets.specs.SpreadsWords.Links.{IsInRange, is_linked};
 ghost use Rattle.net.specs.AddedWires.{AddsLinks};
 
-use bit_sets::WORDS;
-use spreads::Link;
+use machine_sets::bit_sets::WORDS;
+use machine_sets::spreads::Link;
 use std::alloc::AllocError;
 
 // Adds the links from a place to the places of the entries with these numbers.
@@ -36,7 +36,7 @@ pub(crate) fn leads_to_any(links: &[Link], places: &[u64; WORDS]) -> bool
     ensures { result ≡ false → All (λ link. has_place places.now link.to ≡ false) links.now }
 {
     for link in links {
-        if bit_sets::has(places, link.to as usize) {
+        if machine_sets::bit_sets::has(places, link.to as usize) {
             return true;
         }
     }

@@ -1,11 +1,11 @@
 //! The wires of a setup, made ready for pictures.
 
 ghost use Rattle.std.specs.Prelude.{◌≡◌, ◌<◌, All, IfOk, length, true};
-ghost use Rattle.setups.specs.Wiring.{IsEntryNumber};
+ghost use Rattle.hubs.specs.SetupsWords.Wiring.{IsEntryNumber};
 ghost use Rattle.net.specs.NetInside.{IsWiredFor};
 ghost use Rattle.net.specs.AddedWires.{AddsRow};
 ghost use Rattle.card_code.specs.declared.row.Row.{Row as CardRow};
-ghost use Rattle.setups.specs.Wiring.{Wiring};
+ghost use Rattle.hubs.specs.SetupsWords.Wiring.{Wiring};
 ghost use Rattle.net.specs.Impulsed.{IsPicture};
 ghost use Rattle.net.specs.Kinds.{MayHaveRows};
 ghost use Rattle.net.specs.Nets.{IsNetOf, NetRows};
@@ -24,10 +24,10 @@ use crate::picture::{Contacts, Picture, cut_after_hubs};
 use crate::row_sets::RowSets;
 use crate::straight::{Straight, straight_of};
 use crate::tellings::{Telling, kind_of, tellings_of, told_through};
-use bit_sets::{EXITS, Rows, WORDS, commons_of, meet, reach, reach_by_rows};
 use hubs::Hub;
-use setups::Setup;
-use spreads::{Link, Paths};
+use hubs::setups::Setup;
+use machine_sets::bit_sets::{EXITS, Rows, WORDS, commons_of, meet, reach, reach_by_rows};
+use machine_sets::spreads::{Link, Paths};
 use std::alloc::{AllocError, Global};
 use std::marker::Model;
 
@@ -76,7 +76,7 @@ impl Model for Net {
 
 impl Net {
     ghost use Rattle.std.specs.Prelude.{◌≡◌, ℕ, All, Bool, IfOk, IfSome, false, true};
-    ghost use Rattle.setups.specs.Wiring.{LeadsToEntries, Wiring};
+    ghost use Rattle.hubs.specs.SetupsWords.Wiring.{LeadsToEntries, Wiring};
     ghost use Rattle.net.specs.HubSets.{has_hub};
     ghost use Rattle.net.specs.Orders.{AreToldBy};
     ghost use Rattle.net.specs.Impulsed.{IsPicture};

@@ -1,11 +1,11 @@
 //! Sets of hubs: pictures of the panel, and the closed contacts.
 
 ghost use Rattle.std.specs.Prelude.{◌≡◌, ℕ, ◌<◌};
-ghost use Rattle.bit_sets.specs.Bits.{has_place};
+ghost use Rattle.machine_sets.specs.BitSets.Bits.{has_place};
 ghost use Rattle.net.specs.HubSets.{HoldsHubsAlone};
 
-use bit_sets::WORDS;
 use hubs::Hub;
+use machine_sets::bit_sets::WORDS;
 use std::marker::Model;
 
 /// How many hubs the panel has.
@@ -67,7 +67,7 @@ impl Picture {
         ensures { GainsHubs (λ other. test && is_hub hub other) self.old self.new }
     {
         if let Some(number) = hub.number() {
-            bit_sets::put_where(&mut self.words, number as usize - 1, test);
+            machine_sets::bit_sets::put_where(&mut self.words, number as usize - 1, test);
         }
     }
 
@@ -78,7 +78,7 @@ impl Picture {
         ensures { GainsHubs (is_in_row first bits) self.old self.new }
     {
         if let Some(number) = first.number() {
-            bit_sets::put_run(&mut self.words, number as usize - 1, bits);
+            machine_sets::bit_sets::put_run(&mut self.words, number as usize - 1, bits);
             cut_after_hubs(&mut self.words);
         }
     }
@@ -89,7 +89,7 @@ impl Picture {
         ensures { result ≡ has_hub self.now hub }
     {
         match hub.number() {
-            Some(number) => bit_sets::has(&self.words, number as usize - 1),
+            Some(number) => machine_sets::bit_sets::has(&self.words, number as usize - 1),
             None => false,
         }
     }
@@ -104,7 +104,7 @@ impl Picture {
         ensures none { number_of first ≡ None → result ≡ 0 }
     {
         match first.number() {
-            Some(number) => bit_sets::run(&self.words, number as usize - 1),
+            Some(number) => machine_sets::bit_sets::run(&self.words, number as usize - 1),
             None => 0,
         }
     }

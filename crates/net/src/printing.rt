@@ -2,7 +2,7 @@
 
 use crate::cycle::{Cycle, Ordinal, ProgramLevel};
 use hubs::Jack;
-use setups::Setup;
+use hubs::setups::Setup;
 
 /// The cycles of a setup that print, as the jacks LIST, TOTAL and HEAD say.
 #[derive(Clone, Copy, Debug, PartialEq, Eq)]

@@ -1,7 +1,7 @@
 //! Sets of rows, one for each hub: the pictures of all twelve rows at once.
 
 use hubs::Hub;
-use spreads::PlaceSets;
+use machine_sets::spreads::PlaceSets;
 use std::marker::Model;
 
 /// For each hub the set of the rows at whose points it emits, or is impulsed: bit r of a set tells of the row at place r among the

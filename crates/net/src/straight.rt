@@ -1,14 +1,14 @@
 //! Wires that lead straight from columns of the card at second reading to print wheels.
 
 ghost use Rattle.std.specs.Prelude.{◌≡◌, ◌+◌, ◌-◌, ◌<◌, ◌==◌, ◌&&◌, All, IfOk, IfSome, OnOk, false, true};
-ghost use Rattle.bit_sets.specs.Bits.{has_place};
-ghost use Rattle.spreads.specs.Links.{is_linked};
+ghost use Rattle.machine_sets.specs.BitSets.Bits.{has_place};
+ghost use Rattle.machine_sets.specs.SpreadsWords.Links.{is_linked};
 ghost use Rattle.net.specs.Straight.{AreRunsOf, IsColumnToWheel, IsInside, JoinsWire};
 
 use crate::links::leads_to_any;
 use crate::tellings::FIRST_TELLING;
-use bit_sets::WORDS;
-use spreads::Link;
+use machine_sets::bit_sets::WORDS;
+use machine_sets::spreads::Link;
 use std::alloc::{AllocError, Global};
 
 // Places of hubs: the exits of second reading are those from FIRST_COLUMN on and before AFTER_COLUMNS, the print wheels those from

@@ -2,9 +2,9 @@
 //! looked up once.
 
 ghost use Rattle.std.specs.Prelude.{◌≡◌, ℕ, ◌+◌, ◌<◌, ◌≤◌, ◌&&◌, Bool, All, IfOk, IfSome, OnOk, Some, false, true};
-ghost use Rattle.bit_sets.specs.Bits.{has_place};
-ghost use Rattle.bit_sets.specs.Contacts.{AreCommons};
-ghost use Rattle.bit_sets.specs.Rows.{leads};
+ghost use Rattle.machine_sets.specs.BitSets.Bits.{has_place};
+ghost use Rattle.machine_sets.specs.BitSets.Contacts.{AreCommons};
+ghost use Rattle.machine_sets.specs.BitSets.Rows.{leads};
 ghost use Rattle.hubs.specs.Hubs.{number_of};
 ghost use Rattle.hubs.specs.declared.hub.Hub.{Hub};
 ghost use Rattle.net.specs.HubSets.{has_hub};
@@ -17,8 +17,8 @@ ghost use Rattle.net.specs.declared.contacts.TheConstants.{CONTACTS};
 use crate::cycle::Cycle;
 use crate::orders::Orders;
 use crate::picture::{Picture, cut_after_hubs};
-use bit_sets::{EXITS, Rows, WORDS, meet, reach_by_rows};
 use hubs::Hub;
+use machine_sets::bit_sets::{EXITS, Rows, WORDS, meet, reach_by_rows};
 use std::alloc::{AllocError, Global};
 
 // CC, PX and HX tell of cycles. They are the last exits, and emit at control points alone. This is the place of the first of them.
@@ -169,7 +169,7 @@ fn led_from(rows: &Rows, place: usize) -> Picture
     ensures { (hub : Hub) → has_hub result hub ≡ is_led_at rows.now place hub }
 {
     let mut exit = [0; WORDS];
-    bit_sets::put_where(&mut exit, place, true);
+    machine_sets::bit_sets::put_where(&mut exit, place, true);
     let mut words = [0; WORDS];
     reach_by_rows(rows, &exit, &mut words);
     cut_after_hubs(&mut words);
@@ -189,7 +189,7 @@ pub(crate) fn told_through(
 {
     let mut orders = *base;
     for branch in branches {
-        if !bit_sets::has(closed, branch.place) {
+        if !machine_sets::bit_sets::has(closed, branch.place) {
             continue;
         }
         if !branch.is_last {

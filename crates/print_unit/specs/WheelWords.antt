@@ -2,7 +2,7 @@
 -- word for each kind of jack. What is said here is for proofs: the wheels' rules stand in Wheels and ZeroControl.
 use Rattle.std.specs.Prelude.{◌≡◌, ℕ, zero, suc, ◌+◌, ◌<◌, ◌&&◌, ◌||◌, not, nat_le, Bool, false, List, length, map, slice_index_or, if◌then◌else◌}
 use Rattle.std.specs.List.{range_with_len}
-use Rattle.setups.specs.Wiring.{Wiring, is_plugged}
+use Rattle.hubs.specs.SetupsWords.Wiring.{Wiring, is_plugged}
 use Rattle.hubs.specs.declared.jack.Jack.{Jack}
 use Rattle.hubs.specs.declared.jack.Jack.TheVariants as jack
 use Rattle.net.specs.HubSets.{is_bit}

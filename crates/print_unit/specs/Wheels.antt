@@ -4,7 +4,7 @@ use Rattle.std.specs.Prelude.{ℕ, ◌+◌, Bool, false, ◌||◌, List, [], ◌
 use Rattle.std.specs.List.{range_with_len}
 use Rattle.card_code.specs.Rows.{passing_place}
 use Rattle.card_code.specs.declared.row.Row.{Row as CardRow}
-use Rattle.setups.specs.Wiring.{Wiring, is_plugged}
+use Rattle.hubs.specs.SetupsWords.Wiring.{Wiring, is_plugged}
 use Rattle.hubs.specs.declared.hub.Hub.{Hub}
 use Rattle.hubs.specs.declared.hub.Hub.TheVariants.{W}
 use Rattle.hubs.specs.declared.jack.Jack.TheVariants.{Link, Suppress, Symbol}

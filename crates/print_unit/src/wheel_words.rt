@@ -5,7 +5,7 @@ ghost use Rattle.net.specs.HubSets.{is_bit};
 ghost use Rattle.print_unit.specs.WheelWords.{ArePlugged};
 
 use hubs::Jack;
-use setups::Setup;
+use hubs::setups::Setup;
 
 /// How many print wheels there are.
 pub const WHEELS: usize = 120;

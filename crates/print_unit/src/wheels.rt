@@ -11,8 +11,8 @@ use crate::wheel_words::{WHEELS, WheelJack, plugged};
 use crate::zero_control::hidden;
 use card_code::CARD_COLUMNS;
 use hubs::Hub;
+use hubs::setups::Setup;
 use net::{Cycle, Picture, Point, RowSets, Straight, Unit};
-use setups::Setup;
 use std::marker::Model;
 
 /// The print wheels 1 to 120.

@@ -2,7 +2,7 @@
 -- heading cycles. At the closing point of card cycles it senses which levels are called for, by their hubs ST. It keeps
 -- how far the card has come.
 use Rattle.std.specs.Prelude.{ℕ, Bool, false, Option, Some, None, if◌then◌else◌}
-use Rattle.setups.specs.Wiring.{Wiring}
+use Rattle.hubs.specs.SetupsWords.Wiring.{Wiring}
 use Rattle.hubs.specs.declared.hub.Hub.{Hub}
 use Rattle.hubs.specs.declared.hub.Hub.TheVariants.{ST}
 use Rattle.net.specs.Printing.{printing_of}

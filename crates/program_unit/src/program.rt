@@ -7,8 +7,8 @@ ghost use Rattle.net.specs.HubSets.{GainsHubs, has_hub};
 
 use crate::stage::Stage;
 use hubs::Hub;
+use hubs::setups::Setup;
 use net::{Cycle, Ordinal, Picture, Point, Printing, ProgramLevel, Unit};
-use setups::Setup;
 use std::marker::Model;
 
 /// The program unit: it says which cycle follows, and tells of each cycle at its control point.

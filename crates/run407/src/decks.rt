@@ -1,9 +1,9 @@
 //! The deck of a task.
 
 use crate::files::{Input, open, open_input};
+use cli_commands::commands::Fault;
 use cli_tasks::Task;
-use commands::Fault;
-use decks_in_row::DecksInRow;
+use report_streams::decks_in_row::DecksInRow;
 use std::collections::VecDeque;
 use std::io;
 use std::io::Read;

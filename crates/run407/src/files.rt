@@ -3,7 +3,7 @@
 ghost use Rattle.std.specs.Prelude.{◌≡◌, ◌≢◌, ◌⊎◌, IfErr};
 ghost use Rattle.std.specs.IoError.{error_kind};
 
-use commands::{Fault, read_whole};
+use cli_commands::commands::{Fault, read_whole};
 use std::fs::File;
 use std::io::{ErrorKind, Read, Stdin};
 use std::os::unix::fs::{FileTypeExt, MetadataExt};

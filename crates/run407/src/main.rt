@@ -1,5 +1,5 @@
-//! The program `run407`: `command_line` reads the words of the command line as a task of `cli_tasks`, and `cli_calls` does it, on the files
-//! that are opened here. It offers `serve` and `replay_by_orders` of `commands` too.
+//! The program `run407`: `cli_words` reads the words of the command line as a task of `cli_tasks`, and `cli_calls` does it, on the files
+//! that are opened here. It offers `serve` and `replay_by_orders` of `cli_commands` too.
 #![tactic(auto)]
 
 mod decks;
@@ -13,9 +13,9 @@ mod words;
 use crate::obeying::obey;
 use crate::release::VERSION;
 use crate::words::{given_words, tell_more, tell_refused, tell_wordless};
-use command_line::read_words;
-use commands::tell;
-pub use commands::{replay_by_orders, serve};
+use cli_commands::commands::tell;
+pub use cli_commands::commands::{replay_by_orders, serve};
+use cli_words::read_words;
 use std::process::ExitCode;
 
 // Reads the words, does what they ask for and answers the status: 2 if they can't be read, 5 wherever memory runs out.

@@ -6,9 +6,9 @@ use crate::output::Output;
 use crate::watched::Watched;
 use crate::words::{shows_both, tell_output_read, tell_waiting};
 use cli_calls::do_task;
+use cli_commands::commands::{Ending, Fault};
 use cli_tasks::Task;
-use command_line::Wanted;
-use commands::{Ending, Fault};
+use cli_words::Wanted;
 
 // Whether the output is one of the files that are read.
 fn writes_over_input<'a>(rt: &HostRuntime, wanted: &Wanted<'a>) -> Result<bool, Fault<'a>> {

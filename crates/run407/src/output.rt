@@ -3,7 +3,7 @@
 ghost use Rattle.std.specs.Prelude.{◌≡◌, ◌≢◌, ◌⊎◌, IfErr};
 
 use crate::files::STANDARD;
-use commands::{Ending, Fault, tell, unprinted};
+use cli_commands::commands::{Ending, Fault, tell, unprinted};
 use std::fs::{File, Metadata, OpenOptions};
 use std::io::{ErrorKind, IsTerminal, Stdout, Write};
 use std::os::unix::fs::OpenOptionsExt;

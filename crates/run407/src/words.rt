@@ -3,8 +3,8 @@
 ghost use Rattle.std.specs.Prelude.{◌≡◌, ◌≢◌};
 ghost use Rattle.std.specs.IoError.{error_kind};
 
-use command_line::Refused;
-use commands::{Ending, Fault, tell, unprinted};
+use cli_commands::commands::{Ending, Fault, tell, unprinted};
+use cli_words::Refused;
 use std::io;
 use std::io::{ErrorKind, IsTerminal, Write};
 

@@ -4,19 +4,19 @@ use Rattle.std.specs.Prelude.{option_map}
 use Rattle.std.proofs.lemmas.Bool.Decides.{nat_tests}
 use Rattle.std.proofs.lemmas.Nat.Bits.{bit_at_ones}
 use Rattle.std.proofs.lemmas.Option.{same_Some}
-use Rattle.hub_table.proofs.PlaceLemmas.{place-range}
+use Rattle.hubs.proofs.HubTable.PlaceLemmas.{place-range}
 use Rattle.card_code.specs.declared.row.Row.{Row as CardRow}
-use Rattle.hub_table.specs.HubTable.{row_of}
+use Rattle.hubs.specs.HubTable.HubTable.{row_of}
 use Rattle.hubs.specs.Hubs.{letters_of, number_of}
-use Rattle.hub_table.specs.Places.{up_to, part_place, group_place, count_of}
-use Rattle.hub_table.specs.Ranges.{is_within}
+use Rattle.hubs.specs.HubTable.Places.{up_to, part_place, group_place, count_of}
+use Rattle.hubs.specs.HubTable.Ranges.{is_within}
 use Rattle.hubs.specs.declared.hub.Group.{Group}
 use Rattle.hubs.specs.declared.hub.Hub.{Hub}
 use Rattle.hubs.specs.declared.hub.Hub.TheVariants.{CO, BAN, BAT, PIN, PIT, IX, CSD, CSZ}
-use Rattle.hub_table.specs.declared.letters.Letters.{Letters}
-use Rattle.hub_table.specs.declared.letters.Letters.TheVariants as kind
-use Rattle.hub_table.specs.declared.shape.Numbers.TheVariants.{Two}
-use Rattle.hub_table.specs.declared.shape.Shape.TheVariants.{Groups}
+use Rattle.hubs.specs.declared.hub_table.letters.Letters.{Letters}
+use Rattle.hubs.specs.declared.hub_table.letters.Letters.TheVariants as kind
+use Rattle.hubs.specs.declared.hub_table.shape.Numbers.TheVariants.{Two}
+use Rattle.hubs.specs.declared.hub_table.shape.Shape.TheVariants.{Groups}
 use Rattle.net.specs.HubSets.{is_bit, is_bit_from, is_in_row}
 use Rattle.net.specs.Cycles.{is_closing}
 use Rattle.net.specs.Panel.{unit_after, unit_of}

@@ -3,12 +3,12 @@ use Rattle.std.proofs.Common.{◌≡◌, ◌≤◌, ◌<◌, ◌+◌, ◌-◌, �
 use Rattle.std.proofs.lemmas.Bool.Decides.{nat_tests}
 use Rattle.std.proofs.lemmas.Nat.Bits.{bit_at_above}
 use Rattle.hubs.proofs.HubLemmas.{number_of-kind}
-use Rattle.hub_table.proofs.KindLemmas.{HasNumber-same}
-use Rattle.hub_table.specs.HubTable.{row_of, HasNumber}
+use Rattle.hubs.proofs.HubTable.KindLemmas.{HasNumber-same}
+use Rattle.hubs.specs.HubTable.HubTable.{row_of, HasNumber}
 use Rattle.hubs.specs.Hubs.{letters_of, number_of}
-use Rattle.hub_table.specs.Places.{count_of}
+use Rattle.hubs.specs.HubTable.Places.{count_of}
 use Rattle.hubs.specs.declared.hub.Hub.{Hub}
-use Rattle.hub_table.specs.declared.letters.Letters.{Letters}
+use Rattle.hubs.specs.declared.hub_table.letters.Letters.{Letters}
 use Rattle.net.specs.HubSets.{is_bit, is_bit_from}
 
 -- one of two numbers is at most the other

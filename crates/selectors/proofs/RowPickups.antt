@@ -2,7 +2,7 @@
 use Rattle.std.proofs.Common.{◌≡◌, ◌∙◌, refl, ap, ℕ, ◌+◌, ◌-◌, ◌≤◌, Bool, true, false, List, drop, Some, arith}
 use Rattle.std.proofs.lemmas.Bool.Decides.{nat_tests}
 use Rattle.card_code.specs.declared.row.Row.TheVariants.{Eleven}
-use Rattle.hub_table.specs.Ranges.{is_within}
+use Rattle.hubs.specs.HubTable.Ranges.{is_within}
 use Rattle.hubs.specs.Hubs.{number_of}
 use Rattle.hubs.specs.declared.hub.Hub.{Hub}
 use Rattle.hubs.specs.declared.hub.Hub.TheVariants.{PIX}

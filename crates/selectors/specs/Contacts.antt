@@ -1,7 +1,7 @@
 -- The closed contacts of the panel at a point of a cycle: those of the carries and of the balance positions of the counter
 -- groups, of the pilots, of group indication and of the column splits.
 use Rattle.std.specs.Prelude.{ℕ, ◌-◌, ◌&&◌, ◌||◌, not, nat_le, Bool, false, List, slice_index_or}
-use Rattle.hub_table.specs.Ranges.{is_within}
+use Rattle.hubs.specs.HubTable.Ranges.{is_within}
 use Rattle.hubs.specs.declared.hub.Group.{Group}
 use Rattle.hubs.specs.declared.hub.Hub.{Hub}
 use Rattle.hubs.specs.declared.hub.Hub.TheVariants.{BAN, BAT, CO}

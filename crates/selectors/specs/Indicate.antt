@@ -2,7 +2,7 @@
 -- start and reset at the end of every card cycle. The latch of a level is set at the end of the level's third program
 -- cycle. While it is set, the contacts of the level's positions are closed in card cycles.
 use Rattle.std.specs.Prelude.{ℕ, ◌&&◌, ◌==◌, Bool, true, false, if◌then◌else◌}
-use Rattle.hub_table.specs.Ranges.{is_within}
+use Rattle.hubs.specs.HubTable.Ranges.{is_within}
 use Rattle.hubs.specs.declared.hub.Hub.{Hub}
 use Rattle.hubs.specs.declared.hub.Hub.TheVariants.{IX}
 use Rattle.net.specs.declared.cycle.Cycle.{Cycle}

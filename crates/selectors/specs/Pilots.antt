@@ -4,7 +4,7 @@
 -- transferred ones.
 use Rattle.std.specs.Prelude.{ℕ, ◌-◌, ◌&&◌, not, Bool, true, false, List, replicate, slice_index_or, if◌then◌else◌}
 use Rattle.card_code.specs.declared.row.Row.TheVariants as row
-use Rattle.hub_table.specs.Ranges.{is_within}
+use Rattle.hubs.specs.HubTable.Ranges.{is_within}
 use Rattle.hubs.specs.declared.hub.Hub.{Hub}
 use Rattle.hubs.specs.declared.hub.Hub.TheVariants.{PIN, PIT, PIX}
 use Rattle.net.specs.declared.cycle.Cycle.{Cycle}

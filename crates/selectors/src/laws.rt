@@ -2,7 +2,7 @@
 
 ghost use Rattle.std.specs.Prelude.{◌≡◌, ◌&&◌, not, ℕ, Bool, true, false, List, is_some};
 ghost use Rattle.card_code.specs.declared.row.Row.TheVariants.{Eleven};
-ghost use Rattle.hub_table.specs.Ranges.{is_within};
+ghost use Rattle.hubs.specs.HubTable.Ranges.{is_within};
 ghost use Rattle.hubs.specs.declared.hub.Group.{Group};
 ghost use Rattle.hubs.specs.declared.hub.Hub.{Hub};
 ghost use Rattle.hubs.specs.declared.hub.Hub.TheVariants.{BAN, BAT, PIN, PIT, PIX, CSD, CSZ};

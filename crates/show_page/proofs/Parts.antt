@@ -3,30 +3,30 @@ use Rattle.std.proofs.Common.{◌≡◌, ◌∙◌, sym, ap, subst, ℕ, ◌+◌
 use Rattle.std.specs.Prelude.{All, IfOk, Result, Ok, Err, String, map}
 use Rattle.std.specs.declared.alloc.Global.{Global}
 use Rattle.std.proofs.lemmas.List.{map-append, take_more}
-use Rattle.card_sections.specs.Sections.{sections_text}
-use Rattle.charts.specs.declared.chart.Line.{Line}
-use Rattle.cycle_steps.specs.Steps.{IsStepSection, links_text}
-use Rattle.explanations.specs.Pages.{AreFoundLines}
-use Rattle.explanations.specs.declared.found.FoundLine.{FoundLine}
+use Rattle.show_sums.specs.CardSections.Sections.{sections_text}
+use Rattle.chart_lines.specs.declared.charts.chart.Line.{Line}
+use Rattle.show_page.specs.CycleSteps.Steps.{IsStepSection, links_text}
+use Rattle.explain_wheels.specs.ExplanationsWords.Pages.{AreFoundLines}
+use Rattle.explain_wheels.specs.declared.explanations.found.FoundLine.{FoundLine}
 use Rattle.hubs.specs.declared.hub.Hub.{Hub}
-use Rattle.markup.specs.Pieces.{GainsEach}
+use Rattle.show_drawings.specs.MarkupWords.Pieces.{GainsEach}
 use Rattle.page_text.specs.declared.placed_lines.placed_line.PlacedLine.{PlacedLine}
-use Rattle.setups.specs.Wiring.{Wiring}
+use Rattle.hubs.specs.SetupsWords.Wiring.{Wiring}
 use Rattle.show_page.specs.ShownLines.Shown.{AreShown}
-use Rattle.page_sections.specs.WheelSections.Sections.{told_sections}
-use Rattle.page_sections.specs.WheelSections.ToldWheels.{AreTold, IsTold, printed_places}
-use Rattle.page_sections.specs.declared.wheel_sections.told.ToldWheel.{ToldWheel}
-use Rattle.page_sections.specs.WireSections.Helper.{GainsWireSections}
-use Rattle.page_links.specs.declared.shown.ShownRun.{ShownRun}
-use Rattle.drawings.specs.PanelDrawing.Helper.{GainsDrawing}
-use Rattle.drawings.specs.declared.panel_drawing.drawing.PanelWire.{PanelWire}
-use Rattle.page_links.specs.declared.sum_places.places.SumPlace.{SumPlace}
-use Rattle.sum_sections.specs.Sections.{sum_sections_text}
-use Rattle.sum_sections.specs.Sums.{AreSums, IsExplained, place_of}
-use Rattle.sum_sections.specs.declared.sums.PageSum.{PageSum}
-use Rattle.traces.specs.Parts.{IsTracePart}
-use Rattle.traces.specs.declared.parts.TracePart.{TracePart}
-use Rattle.wheel_ledgers.specs.declared.chart_totals.TitledAccount.{TitledAccount}
+use Rattle.show_sections.specs.WheelSections.Sections.{told_sections}
+use Rattle.show_sections.specs.WheelSections.ToldWheels.{AreTold, IsTold, printed_places}
+use Rattle.explain_words.specs.declared.explanation_text.text.ToldWheel.{ToldWheel}
+use Rattle.show_sections.specs.WireSections.Helper.{GainsWireSections}
+use Rattle.show_links.specs.declared.shown.ShownRun.{ShownRun}
+use Rattle.show_drawings.specs.DrawingsWords.PanelDrawing.Helper.{GainsDrawing}
+use Rattle.show_drawings.specs.declared.drawings.panel_drawing.drawing.PanelWire.{PanelWire}
+use Rattle.show_links.specs.declared.sum_places.places.SumPlace.{SumPlace}
+use Rattle.show_sums.specs.SumSections.Sections.{sum_sections_text}
+use Rattle.show_sums.specs.SumSections.Sums.{AreSums, IsExplained, place_of}
+use Rattle.show_sums.specs.declared.sum_sections.sums.PageSum.{PageSum}
+use Rattle.explain_words.specs.TracesWords.Parts.{IsTracePart}
+use Rattle.explain_words.specs.declared.traces.parts.TracePart.{TracePart}
+use Rattle.explain_wheel_ledgers.specs.declared.chart_totals.TitledAccount.{TitledAccount}
 use Rattle.show_page.specs.Begin.{begin_text}
 use Rattle.show_page.specs.Choice.{cycles_shown, pages_shown}
 use Rattle.show_page.specs.Cycles.{shown_cycles}

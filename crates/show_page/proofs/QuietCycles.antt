@@ -3,8 +3,8 @@ use Rattle.std.proofs.Common.{◌≡◌, ◌∙◌, ap, refl, arith, ℕ, ◌+�
 use Rattle.std.specs.Prelude.{replicate}
 use Rattle.std.proofs.lemmas.Bool.{leb-true}
 use Rattle.std.proofs.lemmas.List.{length-append, length-replicate}
-use Rattle.page_sections.specs.CycleSections.Sections.{is_quiet}
-use Rattle.traces.specs.Lines.{put_behind}
+use Rattle.show_sections.specs.CycleSections.Sections.{is_quiet}
+use Rattle.explain_words.specs.TracesWords.Lines.{put_behind}
 
 -- what stands behind a name begins behind sixteen places
 far : (name gap told : List ℕ) → length gap ≡ 16 - length name → 16 + length told ≤ length (name ++ gap ++ told)

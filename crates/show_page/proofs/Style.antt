@@ -2,8 +2,8 @@
 use Rattle.std.proofs.Common.{◌≡◌, ℕ, List, ◌++◌}
 use Rattle.std.specs.Prelude.{OnOk, Result, if◌then◌else◌}
 use Rattle.std.specs.Result.{is_ok}
-use Rattle.markup.proofs.Pieces.{pushed, where_ok}
-use Rattle.markup.specs.Pieces.{GainsOne}
+use Rattle.show_drawings.proofs.MarkupWords.Pieces.{pushed, where_ok}
+use Rattle.show_drawings.specs.MarkupWords.Pieces.{GainsOne}
 use Rattle.show_page.specs.Frame.{IsStyle}
 
 pub style_pushed : {A E : Type 0} (result : Result A E) (new old style : List ℕ) → IsStyle style

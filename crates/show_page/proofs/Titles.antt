@@ -1,6 +1,6 @@
 -- Which words a title has.
 use Rattle.std.proofs.Common.{◌≡◌, refl, arith, ℕ, List, [], ◌∷◌, length}
-use Rattle.markup.specs.Escapes.{escaped}
+use Rattle.show_drawings.specs.MarkupWords.Escapes.{escaped}
 use Rattle.show_page.specs.Titles.{plain_title, title_of, words_or}
 
 -- where there are no words the others are taken

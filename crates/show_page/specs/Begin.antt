@@ -2,13 +2,13 @@
 -- shown, where there are such.
 use Rattle.std.specs.Prelude.{ℕ, ◌+◌, ◌==◌, List, [], ◌∷◌, ◌++◌, codes, decimal, if◌then◌else◌, length}
 use Rattle.card_code.specs.Lines.{lines_of}
-use Rattle.page_links.specs.Links.{card_open}
-use Rattle.page_sections.specs.ReportSheets.Sheets.{link_text}
-use Rattle.page_sections.specs.declared.wheel_sections.told.ToldWheel.{ToldWheel}
-use Rattle.drawings.specs.declared.panel_drawing.drawing.PanelWire.{PanelWire}
-use Rattle.sum_sections.specs.Sections.{first_sum}
-use Rattle.sum_sections.specs.declared.sums.PageSum.{PageSum}
-use Rattle.traces.specs.declared.parts.TracePart.{TracePart}
+use Rattle.show_links.specs.Links.{card_open}
+use Rattle.show_sections.specs.ReportSheets.Sheets.{link_text}
+use Rattle.explain_words.specs.declared.explanation_text.text.ToldWheel.{ToldWheel}
+use Rattle.show_drawings.specs.declared.drawings.panel_drawing.drawing.PanelWire.{PanelWire}
+use Rattle.show_sums.specs.SumSections.Sections.{first_sum}
+use Rattle.show_sums.specs.declared.sum_sections.sums.PageSum.{PageSum}
+use Rattle.explain_words.specs.declared.traces.parts.TracePart.{TracePart}
 
 -- what stands around the links
 unfoldable pub begin_open : List ℕ

@@ -1,7 +1,7 @@
 -- Which pages of a report are shown, and which cycles of the run.
 use Rattle.std.specs.Prelude.{ℕ, ◌+◌, ◌-◌, ◌^◌, List, [], ◌∷◌, Option, None, Some, if◌then◌else◌, nat_le}
-use Rattle.explanations.specs.declared.found.FoundLine.{FoundLine}
-use Rattle.traces.specs.declared.parts.CycleChoice.{CycleChoice}
+use Rattle.explain_wheels.specs.declared.explanations.found.FoundLine.{FoundLine}
+use Rattle.explain_words.specs.declared.traces.parts.CycleChoice.{CycleChoice}
 
 -- a page, the one before it and the one behind it; page 1 has none before it
 abbrev pub pages_around : (page : ℕ) → List ℕ

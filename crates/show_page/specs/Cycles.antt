@@ -1,7 +1,7 @@
 -- The cycles of the run on the page: an element for each that is shown.
 use Rattle.std.specs.Prelude.{List, ℕ}
-use Rattle.page_sections.specs.CycleSections.Sections.{cycles_text}
-use Rattle.traces.specs.declared.parts.TracePart.{TracePart}
+use Rattle.show_sections.specs.CycleSections.Sections.{cycles_text}
+use Rattle.explain_words.specs.declared.traces.parts.TracePart.{TracePart}
 
 -- the elements of the cycles of a part of the trace
 abbrev pub shown_cycles : TracePart → List ℕ

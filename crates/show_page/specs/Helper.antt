@@ -1,22 +1,22 @@
 -- Helper words of the code: a text gains the head of the page, and the page behind the sheets.
 use Rattle.std.specs.Prelude.{◌≡◌, ℕ, List, ◌++◌}
-use Rattle.card_sections.specs.Sections.{sections_text}
-use Rattle.charts.specs.declared.chart.Line.{Line}
-use Rattle.cycle_steps.specs.Steps.{AreStepSections, links_text}
-use Rattle.explanations.specs.declared.found.FoundLine.{FoundLine}
-use Rattle.page_links.specs.declared.shown.ShownRun.{ShownRun}
-use Rattle.drawings.specs.PanelDrawing.Drawing.{IsDrawing}
+use Rattle.show_sums.specs.CardSections.Sections.{sections_text}
+use Rattle.chart_lines.specs.declared.charts.chart.Line.{Line}
+use Rattle.show_page.specs.CycleSteps.Steps.{AreStepSections, links_text}
+use Rattle.explain_wheels.specs.declared.explanations.found.FoundLine.{FoundLine}
+use Rattle.show_links.specs.declared.shown.ShownRun.{ShownRun}
+use Rattle.show_drawings.specs.DrawingsWords.PanelDrawing.Drawing.{IsDrawing}
 use Rattle.page_text.specs.declared.placed_lines.placed_line.PlacedLine.{PlacedLine}
-use Rattle.setups.specs.Wiring.{Wiring}
-use Rattle.drawings.specs.declared.panel_drawing.drawing.PanelWire.{PanelWire}
-use Rattle.page_sections.specs.WheelSections.Sections.{told_sections}
-use Rattle.page_sections.specs.declared.wheel_sections.told.ToldWheel.{ToldWheel}
-use Rattle.page_sections.specs.WireSections.Sections.{AreWireSections}
-use Rattle.page_links.specs.declared.sum_places.places.SumPlace.{SumPlace}
-use Rattle.sum_sections.specs.Sections.{sum_sections_text}
-use Rattle.sum_sections.specs.declared.sums.PageSum.{PageSum}
-use Rattle.traces.specs.declared.parts.TracePart.{TracePart}
-use Rattle.wheel_ledgers.specs.declared.chart_totals.TitledAccount.{TitledAccount}
+use Rattle.hubs.specs.SetupsWords.Wiring.{Wiring}
+use Rattle.show_drawings.specs.declared.drawings.panel_drawing.drawing.PanelWire.{PanelWire}
+use Rattle.show_sections.specs.WheelSections.Sections.{told_sections}
+use Rattle.explain_words.specs.declared.explanation_text.text.ToldWheel.{ToldWheel}
+use Rattle.show_sections.specs.WireSections.Sections.{AreWireSections}
+use Rattle.show_links.specs.declared.sum_places.places.SumPlace.{SumPlace}
+use Rattle.show_sums.specs.SumSections.Sections.{sum_sections_text}
+use Rattle.show_sums.specs.declared.sum_sections.sums.PageSum.{PageSum}
+use Rattle.explain_words.specs.declared.traces.parts.TracePart.{TracePart}
+use Rattle.explain_wheel_ledgers.specs.declared.chart_totals.TitledAccount.{TitledAccount}
 use Rattle.show_page.specs.Begin.{begin_text}
 use Rattle.show_page.specs.Cycles.{shown_cycles}
 use Rattle.show_page.specs.Frame.{IsStyle, document_close, stage_open}

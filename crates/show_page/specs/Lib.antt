@@ -9,3 +9,4 @@ pub mod ReadPanel
 pub mod Shown
 pub mod Titles
 pub mod ShownLines
+pub mod CycleSteps

@@ -2,42 +2,42 @@
 -- what came through each wire, and the cycles of the run.
 use Rattle.std.specs.Prelude.{◌≡◌, ℕ, Bool, List, [], ◌++◌, decimal, Option, None, Some, String, if◌then◌else◌, length, map, nat_le}
 use Rattle.std.specs.declared.alloc.Global.{Global}
-use Rattle.drawings.specs.CardDrawing.Drawings.{shapes_text}
-use Rattle.card_sections.specs.Decks.{deck_text}
-use Rattle.card_sections.specs.Sections.{sections_text}
-use Rattle.charts.specs.declared.chart.Line.{Line}
-use Rattle.cycle_steps.specs.Steps.{AreStepSections, links_text}
-use Rattle.explanations.specs.Pages.{AreFoundLines}
-use Rattle.explanations.specs.declared.found.FoundLine.{FoundLine}
+use Rattle.show_drawings.specs.DrawingsWords.CardDrawing.Drawings.{shapes_text}
+use Rattle.show_sums.specs.CardSections.Decks.{deck_text}
+use Rattle.show_sums.specs.CardSections.Sections.{sections_text}
+use Rattle.chart_lines.specs.declared.charts.chart.Line.{Line}
+use Rattle.show_page.specs.CycleSteps.Steps.{AreStepSections, links_text}
+use Rattle.explain_wheels.specs.ExplanationsWords.Pages.{AreFoundLines}
+use Rattle.explain_wheels.specs.declared.explanations.found.FoundLine.{FoundLine}
 use Rattle.hubs.specs.declared.hub.Hub.{Hub}
-use Rattle.page_sections.specs.ChartPanels.Asking.{AreChartWires}
-use Rattle.page_sections.specs.ChartPanels.Legends.{IsLegendSection}
-use Rattle.legend.specs.LineSetups.{AreLineSetups}
+use Rattle.show_sections.specs.ChartPanels.Asking.{AreChartWires}
+use Rattle.show_sections.specs.ChartPanels.Legends.{IsLegendSection}
+use Rattle.wiring_legend.specs.LineSetups.{AreLineSetups}
 use Rattle.machine.specs.Runs.{MachineLines}
-use Rattle.markup.specs.Escapes.{escaped}
-use Rattle.markup.specs.Pieces.{EachText}
-use Rattle.page_links.specs.Links.{is_shown}
-use Rattle.page_links.specs.declared.shown.Shown.{Shown}
-use Rattle.page_links.specs.declared.shown.ShownRun.{ShownRun}
-use Rattle.drawings.specs.PanelDrawing.Drawing.{IsDrawing}
-use Rattle.drawings.specs.declared.panel_drawing.drawing.PanelWire.{PanelWire}
+use Rattle.show_drawings.specs.MarkupWords.Escapes.{escaped}
+use Rattle.show_drawings.specs.MarkupWords.Pieces.{EachText}
+use Rattle.show_links.specs.Links.{is_shown}
+use Rattle.show_links.specs.declared.shown.Shown.{Shown}
+use Rattle.show_links.specs.declared.shown.ShownRun.{ShownRun}
+use Rattle.show_drawings.specs.DrawingsWords.PanelDrawing.Drawing.{IsDrawing}
+use Rattle.show_drawings.specs.declared.drawings.panel_drawing.drawing.PanelWire.{PanelWire}
 use Rattle.page_text.specs.declared.placed_lines.placed_line.PlacedLine.{PlacedLine}
-use Rattle.plans.specs.Plans.{Lists}
-use Rattle.page_sections.specs.ReportSheets.Sheets.{sheets_text, widest}
-use Rattle.setups.specs.Wires.{AreWiresOf}
-use Rattle.setups.specs.Wiring.{Wiring}
+use Rattle.chart_plans.specs.PlansWords.Plans.{Lists}
+use Rattle.show_sections.specs.ReportSheets.Sheets.{sheets_text, widest}
+use Rattle.hubs.specs.SetupsWords.Wires.{AreWiresOf}
+use Rattle.hubs.specs.SetupsWords.Wiring.{Wiring}
 use Rattle.show_page.specs.ShownLines.Shown.{shown}
-use Rattle.sum_sections.specs.Sections.{sum_sections_text}
-use Rattle.sum_sections.specs.Sums.{AreSums, place_of}
-use Rattle.sum_sections.specs.declared.sums.PageSum.{PageSum}
-use Rattle.traces.specs.Parts.{IsTracePart}
-use Rattle.traces.specs.declared.parts.TracePart.{TracePart}
-use Rattle.wheel_ledgers.specs.Totals.{totals_in}
-use Rattle.wheel_ledgers.specs.declared.chart_totals.TitledAccount.{TitledAccount}
-use Rattle.page_sections.specs.WheelSections.Sections.{told_sections}
-use Rattle.page_sections.specs.WheelSections.ToldWheels.{AreTold, printed_places}
-use Rattle.page_sections.specs.declared.wheel_sections.told.ToldWheel.{ToldWheel}
-use Rattle.page_sections.specs.WireSections.Sections.{AreWireSections}
+use Rattle.show_sums.specs.SumSections.Sections.{sum_sections_text}
+use Rattle.show_sums.specs.SumSections.Sums.{AreSums, place_of}
+use Rattle.show_sums.specs.declared.sum_sections.sums.PageSum.{PageSum}
+use Rattle.explain_words.specs.TracesWords.Parts.{IsTracePart}
+use Rattle.explain_words.specs.declared.traces.parts.TracePart.{TracePart}
+use Rattle.explain_wheel_ledgers.specs.Totals.{totals_in}
+use Rattle.explain_wheel_ledgers.specs.declared.chart_totals.TitledAccount.{TitledAccount}
+use Rattle.show_sections.specs.WheelSections.Sections.{told_sections}
+use Rattle.show_sections.specs.WheelSections.ToldWheels.{AreTold, printed_places}
+use Rattle.explain_words.specs.declared.explanation_text.text.ToldWheel.{ToldWheel}
+use Rattle.show_sections.specs.WireSections.Sections.{AreWireSections}
 use Rattle.wiring_text.specs.declared.statement.Version.{Version}
 use Rattle.show_page.specs.Begin.{begin_text}
 use Rattle.show_page.specs.Choice.{cycles_shown, first_shown, pages_shown}

@@ -1,16 +1,16 @@
 -- The page of a panel by the chart that is read off it: that of the chart, and behind its legend the panel's wiring chart.
 use Rattle.std.specs.Prelude.{◌≡◌, ℕ, List, ◌++◌, codes, Option, String, length}
 use Rattle.std.specs.declared.alloc.Global.{Global}
-use Rattle.charts.specs.declared.chart.Line.{Line}
-use Rattle.legend.specs.LineSetups.{AreLineSetups}
-use Rattle.markup.specs.Escapes.{escaped}
-use Rattle.markup.specs.Pieces.{EachText}
-use Rattle.page_sections.specs.ChartPanels.Asking.{AreChartWires}
-use Rattle.page_sections.specs.ChartPanels.Legends.{IsLegendSection}
-use Rattle.drawings.specs.declared.panel_drawing.drawing.PanelWire.{PanelWire}
-use Rattle.plans.specs.Plans.{Lists}
-use Rattle.setups.specs.Wiring.{Wiring}
-use Rattle.wheel_ledgers.specs.Totals.{totals_in}
+use Rattle.chart_lines.specs.declared.charts.chart.Line.{Line}
+use Rattle.wiring_legend.specs.LineSetups.{AreLineSetups}
+use Rattle.show_drawings.specs.MarkupWords.Escapes.{escaped}
+use Rattle.show_drawings.specs.MarkupWords.Pieces.{EachText}
+use Rattle.show_sections.specs.ChartPanels.Asking.{AreChartWires}
+use Rattle.show_sections.specs.ChartPanels.Legends.{IsLegendSection}
+use Rattle.show_drawings.specs.declared.drawings.panel_drawing.drawing.PanelWire.{PanelWire}
+use Rattle.chart_plans.specs.PlansWords.Plans.{Lists}
+use Rattle.hubs.specs.SetupsWords.Wiring.{Wiring}
+use Rattle.explain_wheel_ledgers.specs.Totals.{totals_in}
 use Rattle.wiring_text.specs.declared.statement.Version.{Version}
 use Rattle.show_page.specs.Frame.{wiring_close}
 use Rattle.show_page.specs.Page.{IsPage}

@@ -2,10 +2,10 @@
 -- trace that is shown.
 use Rattle.std.specs.Prelude.{ℕ, ◌+◌, ◌-◌, List, drop, length, max, min, take}
 use Rattle.card_code.specs.Lines.{lines_of}
-use Rattle.page_links.specs.declared.shown.Shown.{Shown}
-use Rattle.page_links.specs.declared.shown.ShownRun.{ShownRun}
-use Rattle.traces.specs.declared.parts.CycleChoice.{CycleChoice}
-use Rattle.traces.specs.declared.parts.TracePart.{TracePart}
+use Rattle.show_links.specs.declared.shown.Shown.{Shown}
+use Rattle.show_links.specs.declared.shown.ShownRun.{ShownRun}
+use Rattle.explain_words.specs.declared.traces.parts.CycleChoice.{CycleChoice}
+use Rattle.explain_words.specs.declared.traces.parts.TracePart.{TracePart}
 
 -- the first card that is shown: a cycle before the first card cycle belongs to no card
 abbrev pub first_card : CycleChoice → ℕ

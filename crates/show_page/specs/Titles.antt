@@ -1,9 +1,9 @@
 -- What stands at the head of the page: its title, and how many cards, lines and wires there are.
 use Rattle.std.specs.Prelude.{ℕ, ◌==◌, List, [], ◌∷◌, ◌++◌, codes, decimal, if◌then◌else◌}
-use Rattle.charts.specs.declared.chart.Line.{Line}
-use Rattle.charts.specs.declared.statement.Statement.{Statement}
-use Rattle.charts.specs.declared.statement.Statement.TheVariants as says
-use Rattle.markup.specs.Escapes.{escaped}
+use Rattle.chart_lines.specs.declared.charts.chart.Line.{Line}
+use Rattle.chart_lines.specs.declared.charts.statement.Statement.{Statement}
+use Rattle.chart_lines.specs.declared.charts.statement.Statement.TheVariants as says
+use Rattle.show_drawings.specs.MarkupWords.Escapes.{escaped}
 use Rattle.page_text.specs.Pages.{without_trailing_blanks}
 use Rattle.show_page.specs.Frame.{document_open, header_open, style_open}
 use Rattle.show_page.specs.declared.head.RunCounts.{RunCounts}

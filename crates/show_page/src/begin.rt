@@ -5,15 +5,15 @@ ghost use Rattle.std.specs.String.{string_bytes};
 ghost use Rattle.show_page.specs.Begin.{begin_close, begin_open, begin_text, card_entry, card_words, character_entry, character_open, character_words, cycle_words, first_card, first_character, first_cycle, first_wire, front_links, later_words, step_words, wire_words};
 
 use card_code::Card;
-use drawings::panel_drawing::PanelWire;
-use numerals::push_between;
-use page_links::write_card_open;
-use page_sections::cycle_sections::count_cycles;
-use page_sections::report_sheets::write_wheel_link;
-use page_sections::wheel_sections::ToldWheel;
+use chart_numerals::push_between;
+use explain_words::explanation_text::ToldWheel;
+use explain_words::traces::TracePart;
+use show_drawings::drawings::panel_drawing::PanelWire;
+use show_links::write_card_open;
+use show_sections::cycle_sections::count_cycles;
+use show_sections::report_sheets::write_wheel_link;
+use show_sums::sum_sections::{PageSum, write_first_sum};
 use std::alloc::AllocError;
-use sum_sections::{PageSum, write_first_sum};
-use traces::TracePart;
 
 #[tactic(auto, unfolding(crate::specs::Begin::begin_open))]
 // What stands before the links.

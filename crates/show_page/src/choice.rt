@@ -3,15 +3,15 @@
 ghost use Rattle.std.specs.Prelude.{◌≡◌, ◌≤◌, ◌<◌, ◌^◌, IfOk, length};
 ghost use Rattle.card_code.specs.MostCards.{most_cards};
 ghost use Rattle.show_page.specs.ShownLines.Shown.{AreShown};
-ghost use Rattle.traces.specs.Parts.{IsTracePart};
+ghost use Rattle.explain_words.specs.TracesWords.Parts.{IsTracePart};
 ghost use Rattle.show_page.specs.Choice.{cycles_of_lines, cycles_shown, first_shown, last_card, pages_around, pages_shown};
 
 use crate::shown_lines::{ShownLines, all_lines, lines_on_pages};
 use card_code::Card;
-use explanations::FoundLine;
-use setups::Setup;
+use explain_wheels::explanations::FoundLine;
+use explain_words::traces::{CycleChoice, TracePart, trace_part};
+use hubs::setups::Setup;
 use std::alloc::{AllocError, Global};
-use traces::{CycleChoice, TracePart, trace_part};
 
 // The pages around one.
 fn pages_around(alloc: Global, page: u32) -> Result<Vec<u64>, AllocError>

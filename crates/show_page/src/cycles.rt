@@ -4,9 +4,9 @@ ghost use Rattle.std.specs.Prelude.{◌≡◌, ◌<◌, ◌^◌, ◌++◌, OnOk}
 ghost use Rattle.std.specs.String.{string_bytes};
 ghost use Rattle.show_page.specs.Cycles.{shown_cycles};
 
-use page_sections::cycle_sections::write_cycles;
+use explain_words::traces::TracePart;
+use show_sections::cycle_sections::write_cycles;
 use std::alloc::{AllocError, Global};
-use traces::TracePart;
 
 // The cycles that are shown.
 pub(crate) fn write_shown_cycles(

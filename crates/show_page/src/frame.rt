@@ -2,10 +2,10 @@
 
 ghost use Rattle.std.specs.Prelude.{◌≡◌, ◌++◌, OnOk};
 ghost use Rattle.std.specs.String.{string_bytes};
-ghost use Rattle.markup.specs.Pieces.{GainsOne};
+ghost use Rattle.show_drawings.specs.MarkupWords.Pieces.{GainsOne};
 ghost use Rattle.show_page.specs.Frame.{IsStyle, around_words, cards_link, cards_open, cut_words, document_close, document_open, header_open, legend_open, main_open, nav_open, panel_open, sheets_close, sheets_open, stage_open, style_open, wiring_close, wiring_open};
 
-use numerals::push_between;
+use chart_numerals::push_between;
 use std::alloc::AllocError;
 
 #[tactic(auto, unfolding(crate::specs::Frame::document_open))]

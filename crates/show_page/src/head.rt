@@ -7,11 +7,11 @@ ghost use Rattle.show_page.specs.Titles.{counted, counts_words, heading_of, head
 
 use crate::frame::{write_document_open, write_header_open, write_style, write_style_open};
 use crate::marks::write_marks;
-use charts::{Line, Statement};
-use markup::push_escaped;
-use numerals::push_number;
+use chart_lines::charts::{Line, Statement};
+use chart_numerals::push_number;
 use page_text::placed_lines::PlacedLine;
 use page_text::without_trailing_blanks;
+use show_drawings::markup::push_escaped;
 use std::alloc::AllocError;
 
 // How much a run has of what is counted at the head of its page.

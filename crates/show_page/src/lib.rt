@@ -8,10 +8,12 @@
 //! `specs/Page.antt` says what is written.
 //!
 //! - `shown_lines`: the lines of a run that are shown, each with the cycle that placed it
+//! - `cycle_steps`: the points of a cycle, step by step
 #![tactic(auto)]
 
 mod begin;
 mod choice;
+pub mod cycle_steps;
 mod cycles;
 mod frame;
 mod head;

@@ -5,7 +5,7 @@ ghost use Rattle.std.specs.String.{string_bytes};
 ghost use Rattle.show_page.specs.Frame.{IsStyle};
 ghost use Rattle.show_page.specs.Marks.{page_rule, page_rules, rule_behind};
 
-use numerals::{push_between, push_number};
+use chart_numerals::{push_between, push_number};
 use page_text::placed_lines::PlacedLine;
 use std::alloc::AllocError;
 

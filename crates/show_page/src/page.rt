@@ -10,14 +10,14 @@ use crate::frame::{
     write_nav_open, write_panel_open, write_sheets_close, write_sheets_open,
 };
 use card_code::Card;
-use card_sections::write_deck;
-use charts::Line;
-use drawings::card_drawing::write_shapes;
-use explanations::FoundLine;
-use numerals::push_number;
-use page_links::Shown;
-use page_sections::report_sheets::{widest, write_sheets};
+use chart_lines::charts::Line;
+use chart_numerals::push_number;
+use explain_wheels::explanations::FoundLine;
 use page_text::placed_lines::PlacedLine;
+use show_drawings::drawings::card_drawing::write_shapes;
+use show_links::Shown;
+use show_sections::report_sheets::{widest, write_sheets};
+use show_sums::card_sections::write_deck;
 use std::alloc::{AllocError, Global};
 
 // What is said where not all pages are shown.

@@ -3,20 +3,20 @@
 ghost use Rattle.std.specs.Prelude.{◌≡◌, ◌≤◌, ◌++◌, IfOk, OnOk, length};
 ghost use Rattle.std.specs.String.{string_bytes};
 ghost use Rattle.card_code.specs.MostCards.{most_cards};
-ghost use Rattle.plans.specs.Plans.{ServesChart};
+ghost use Rattle.chart_plans.specs.PlansWords.Plans.{ServesChart};
 ghost use Rattle.show_page.specs.ReadPanel.{GainsReadLegend, ShowsRead, given_open, given_text, read_open};
 
 use crate::frame::write_wiring_close;
 use crate::show::page;
 use card_code::Card;
+use chart_plans::plans::Plan;
 use chart_rules::Chart;
-use legend::line_setups;
-use markup::push_escaped;
-use page_sections::chart_panels::{chart_wires, write_legend};
-use plans::Plan;
-use setups::Setup;
+use explain_wheel_ledgers::totals_of;
+use hubs::setups::Setup;
+use show_drawings::markup::push_escaped;
+use show_sections::chart_panels::{chart_wires, write_legend};
 use std::alloc::{AllocError, Global};
-use wheel_ledgers::totals_of;
+use wiring_legend::line_setups;
 use wiring_text::Version;
 
 #[tactic(auto, unfolding(crate::specs::ReadPanel::read_open))]

@@ -3,13 +3,14 @@
 ghost use Rattle.std.specs.Prelude.{◌≡◌, ◌≤◌, ◌<◌, ◌+◌, ◌^◌, ◌++◌, IfOk, OnOk, length, map};
 ghost use Rattle.std.specs.String.{string_bytes};
 ghost use Rattle.card_code.specs.MostCards.{most_cards};
-ghost use Rattle.plans.specs.Plans.{ServesChart};
-ghost use Rattle.wheel_ledgers.specs.Totals.{AreAccounts};
+ghost use Rattle.chart_plans.specs.PlansWords.Plans.{ServesChart};
+ghost use Rattle.explain_wheel_ledgers.specs.Totals.{AreAccounts};
 ghost use Rattle.show_page.specs.Helper.{GainsBody};
 ghost use Rattle.show_page.specs.Page.{IsPage, ShowsChart, ShowsPanel, unasked, wiring_text};
 
 use crate::begin::write_begin;
 use crate::choice::{cycles_shown, lines_shown, traced};
+use crate::cycle_steps::{write_step_links, write_step_sections};
 use crate::cycles::write_shown_cycles;
 use crate::frame::{
     write_document_close, write_legend_open, write_stage_open, write_wiring_close,
@@ -19,26 +20,26 @@ use crate::head::{RunCounts, heading_of, write_head};
 use crate::page::{write_cards_part, write_sheets_part};
 use crate::shown::{shown_cards, shown_run};
 use card_code::Card;
-use card_sections::write_card_sections;
+use chart_lines::charts::Line;
+use chart_plans::plans::Plan;
 use chart_rules::Chart;
-use charts::Line;
-use cycle_steps::{write_step_links, write_step_sections};
-use drawings::panel_drawing::{PanelWire, write_drawing};
-use explanations::FoundLine;
+use explain_wheel_ledgers::{TitledAccount, totals_of};
+use explain_wheels::explanations::FoundLine;
+use explain_words::explanation_text::ToldWheel;
+use explain_words::traces::TracePart;
 use hubs::Hub;
-use legend::line_setups;
-use markup::push_escaped;
-use page_links::ShownRun;
-use page_links::sum_places::SumPlace;
-use page_sections::chart_panels::{chart_wires, write_legend};
-use page_sections::wheel_sections::{ToldWheel, told_wheels, write_told_sections};
-use page_sections::wire_sections::write_wire_sections;
-use plans::Plan;
-use setups::Setup;
+use hubs::setups::Setup;
+use show_drawings::drawings::panel_drawing::{PanelWire, write_drawing};
+use show_drawings::markup::push_escaped;
+use show_links::ShownRun;
+use show_links::sum_places::SumPlace;
+use show_sections::chart_panels::{chart_wires, write_legend};
+use show_sections::wheel_sections::{told_wheels, write_told_sections};
+use show_sections::wire_sections::write_wire_sections;
+use show_sums::card_sections::write_card_sections;
+use show_sums::sum_sections::{PageSum, page_sums, sum_places, write_sum_sections};
 use std::alloc::{AllocError, Global};
-use sum_sections::{PageSum, page_sums, sum_places, write_sum_sections};
-use traces::TracePart;
-use wheel_ledgers::{TitledAccount, totals_of};
+use wiring_legend::line_setups;
 use wiring_text::Version;
 
 // The page behind its cards, of which these are shown: the drawing of these wires, this legend, what is told of these wheels, of the sums,

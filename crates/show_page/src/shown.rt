@@ -4,9 +4,9 @@ ghost use Rattle.std.specs.Prelude.{◌≡◌, ◌≤◌, ◌<◌, ◌+◌, ◌-
 ghost use Rattle.show_page.specs.Shown.{cards_from, cards_shown, first_card, part_cycles, shown_cards, shown_run};
 
 use card_code::Card;
-use page_links::{Shown, ShownRun};
-use page_sections::cycle_sections::count_cycles;
-use traces::{CycleChoice, TracePart};
+use explain_words::traces::{CycleChoice, TracePart};
+use show_links::{Shown, ShownRun};
+use show_sections::cycle_sections::count_cycles;
 
 // The first card that is shown.
 fn first_card(choice: CycleChoice) -> usize

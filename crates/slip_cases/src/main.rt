@@ -5,9 +5,9 @@
 #![tactic(auto)]
 
 use anyhow::Result;
+use fault_lists::text_lists::list_text_to_end;
 use std::fs;
 use std::io::{BufWriter, Write};
-use text_lists::list_text_to_end;
 
 // Writes the name of a text, the entries of its faults and the line that is told. Its file bears the name with an ending.
 fn write_listed<W: Write>(rt: &HostRuntime, out: &mut W, name: &str, ending: &str) -> Result<()> {

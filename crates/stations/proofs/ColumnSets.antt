@@ -7,7 +7,7 @@ use Rattle.std.specs.List.{range_with_len}
 use Rattle.card_code.specs.Rows.{passing_place}
 use Rattle.card_code.specs.declared.row.Row.{Row}
 use Rattle.card_code.specs.declared.row.Row.TheVariants.{Zero}
-use Rattle.hub_table.specs.Ranges.{is_within}
+use Rattle.hubs.specs.HubTable.Ranges.{is_within}
 use Rattle.hubs.specs.declared.hub.Hub.{Hub}
 use Rattle.hubs.specs.declared.hub.Hub.TheVariants.{FR, SR}
 use Rattle.net.proofs.Below.bit_sets.MaskLemmas.{is_bit-mask}

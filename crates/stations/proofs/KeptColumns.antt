@@ -8,7 +8,7 @@ use Rattle.card_code.specs.CardCode.{has_row}
 use Rattle.card_code.specs.Columns.{column_of}
 use Rattle.card_code.specs.Rows.{passing_place, row_number}
 use Rattle.card_code.specs.declared.row.Row.{Row}
-use Rattle.hub_table.specs.Ranges.{is_within}
+use Rattle.hubs.specs.HubTable.Ranges.{is_within}
 use Rattle.net.proofs.Below.bit_sets.BitLemmas.{is_bit-zero}
 use Rattle.net.specs.HubSets.{is_bit}
 use Rattle.net.specs.HubRows.{has_at}

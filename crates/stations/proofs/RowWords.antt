@@ -4,7 +4,7 @@ use Rattle.std.proofs.Common.{◌⊎◌, nat_le, Option, Some, None}
 use Rattle.std.proofs.lemmas.Bool.Decides.{nat_tests}
 use Rattle.std.proofs.lemmas.Nat.Bits.{bit_at-zero}
 use Rattle.card_code.specs.declared.row.Row.{Row}
-use Rattle.hub_table.specs.Ranges.{is_within}
+use Rattle.hubs.specs.HubTable.Ranges.{is_within}
 use Rattle.net.specs.HubSets.{is_bit}
 use Rattle.stations.specs.Punches.{is_punched_at, IsRowAt}
 

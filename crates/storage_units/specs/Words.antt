@@ -1,6 +1,6 @@
 -- A set of columns as a word: bit c - 1 tells of column c.
 use Rattle.std.specs.Prelude.{ℕ, ◌+◌, ◌-◌, ◌*◌, ◌^◌, ◌&&◌, Bool, zero, suc, if◌then◌else◌}
-use Rattle.hub_table.specs.Ranges.{is_within}
+use Rattle.hubs.specs.HubTable.Ranges.{is_within}
 use Rattle.net.specs.HubSets.{is_bit}
 
 -- the word of those of the columns 1 to so many that pass a test

@@ -2,7 +2,7 @@
 
 ghost use Rattle.std.specs.Prelude.{◌≡◌, ◌≤◌, ◌&&◌, ℕ, Bool, true, false, List, ◌∷◌, map};
 ghost use Rattle.card_code.specs.declared.row.Row.{Row as CardRow};
-ghost use Rattle.hub_table.specs.Ranges.{is_within};
+ghost use Rattle.hubs.specs.HubTable.Ranges.{is_within};
 ghost use Rattle.hubs.specs.declared.hub.Hub.{Hub};
 ghost use Rattle.hubs.specs.declared.hub.Hub.TheVariants.{SX, SE, SI, SO};
 ghost use Rattle.net.specs.WholeCycles.{after_points};

@@ -5,7 +5,7 @@ use Rattle.std.proofs.lemmas.List.Elements.{Contains-append_left, Contains-appen
 use Rattle.std.proofs.lemmas.Grind.{flat_map-append}
 use Rattle.wire_chart.specs.WrittenText.{ended}
 use Rattle.wire_chart.specs.Writing.{GainsLines}
-use Rattle.setups.proofs.Ordered.{pairs_none, pairs_one, pairs_append, contains_none, contains_one, contains_first}
+use Rattle.hubs.proofs.SetupsWords.Ordered.{pairs_none, pairs_one, pairs_append, contains_none, contains_one, contains_first}
 
 -- no line
 pub gains_none : {A : Type 0} (Is : A → Type 0) (Before : A → A → Type 0) (line_of : A → List ℕ) (old new : List ℕ)

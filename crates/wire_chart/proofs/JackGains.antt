@@ -2,14 +2,14 @@
 use Rattle.std.proofs.Common.{◌≡◌, inl, inr, ℕ, ◌+◌, ◌<◌, ◌≤◌, List, ◌++◌, true, false, Some, refl, sym, ap, ◌∙◌, arith, true≢false, leb}
 use Rattle.std.proofs.lemmas.Bool.{and_parts, leb-true}
 use Rattle.std.proofs.lemmas.Option.{same_Some}
-use Rattle.hub_table.specs.Ranges.{is_within}
+use Rattle.hubs.specs.HubTable.Ranges.{is_within}
 use Rattle.hubs.specs.Jacks.{jack_place, is_jack_in_range}
-use Rattle.setups.specs.Wiring.{Wiring, HasJack, is_plugged}
+use Rattle.hubs.specs.SetupsWords.Wiring.{Wiring, HasJack, is_plugged}
 use Rattle.hubs.specs.declared.jack.Jack.{Jack}
 use Rattle.hubs.specs.declared.jack.Jack.TheVariants as jacks
 use Rattle.wire_chart.specs.WrittenText.{ended, jack_line, IsJackBefore}
 use Rattle.wire_chart.specs.Writing.{GainsJacks, IsJackAt, IsJackBelow}
-use Rattle.setups.proofs.WireLists.{below_or_at}
+use Rattle.hubs.proofs.SetupsWords.WireLists.{below_or_at}
 use Rattle.wire_chart.proofs.Gains.{gains_none, gains_one, gains_more, gains_same}
 
 -- a plugged jack is one of the panel

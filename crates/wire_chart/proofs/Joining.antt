@@ -5,11 +5,11 @@ use Rattle.hubs.specs.Hubs.{carry_into, carry_out_of, number_of}
 use Rattle.hubs.specs.declared.hub.Group.{Group}
 use Rattle.hubs.specs.declared.hub.Hub.{Hub}
 use Rattle.hubs.proofs.HubLemmas.{number_of-range}
-use Rattle.setups.specs.Wiring.{Wiring, HasWire}
+use Rattle.hubs.specs.SetupsWords.Wiring.{Wiring, HasWire}
 use Rattle.wire_chart.specs.WrittenText.{carry_form, wire_form}
 use Rattle.wire_chart.specs.declared.form.WireForm.TheVariants.{Couple}
 use Rattle.wiring_text.specs.declared.statement.Version.TheVariants.{Second}
-use Rattle.setups.proofs.WireLists.{below_or_at}
+use Rattle.hubs.proofs.SetupsWords.WireLists.{below_or_at}
 
 -- no wire from the exit to an entry of a lower number couples groups
 abbrev pub NoneTo : Wiring → Hub → ℕ → Type 0

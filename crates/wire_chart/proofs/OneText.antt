@@ -1,11 +1,11 @@
 -- A setup has one text.
 use Rattle.std.proofs.Common.{◌≡◌, inl, inr, ℕ, ◌<◌, List, ◌++◌, codes, refl, sym, ap, ◌∙◌, subst, arith}
 use Rattle.std.proofs.lemmas.Option.{same_Some}
-use Rattle.setups.specs.Tapes.{CarriageTape, SameTape}
-use Rattle.setups.specs.Wiring.{IsSameSetup, Wiring}
+use Rattle.hubs.specs.SetupsWords.Tapes.{CarriageTape, SameTape}
+use Rattle.hubs.specs.SetupsWords.Wiring.{IsSameSetup, Wiring}
 use Rattle.hubs.specs.declared.hub.Hub.{Hub}
 use Rattle.hubs.specs.declared.jack.Jack.{Jack}
-use Rattle.setups.specs.Wires.{IsHubBefore, IsWireBefore}
+use Rattle.hubs.specs.SetupsWords.Wires.{IsHubBefore, IsWireBefore}
 use Rattle.wire_chart.specs.WrittenText.{ArePartsOf, IsWritten, IsWrittenIn, IsStopBefore, IsJackBefore, IsLineBefore, JoinsGroups, ended, form_line, form_place, parts_text, title_line}
 use Rattle.wire_chart.proofs.Ordered.{IsOneWay, same_list}
 use Rattle.wiring_text.specs.declared.statement.Version.{Version}

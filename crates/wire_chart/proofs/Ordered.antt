@@ -4,8 +4,8 @@ use Rattle.std.specs.Prelude.{map}
 use Rattle.std.specs.List.{All, AllPairs, Contains}
 use Rattle.std.proofs.lemmas.List.Elements.{All-contains, All-nil, All-cons}
 use Rattle.std.proofs.lemmas.List.Kept.{AllPairs-cons}
-use Rattle.hub_table.proofs.KindLemmas.{first_or_other}
-use Rattle.setups.proofs.Ordered.{contains_first, contains_more, contains_none, pairs_head, pairs_none, pairs_tail}
+use Rattle.hubs.proofs.HubTable.KindLemmas.{first_or_other}
+use Rattle.hubs.proofs.SetupsWords.Ordered.{contains_first, contains_more, contains_none, pairs_head, pairs_none, pairs_tail}
 
 -- no two elements stand before one another; so none stands before itself
 abbrev pub IsOneWay : {X : Type 0} → (X → X → Type 0) → Type 0

@@ -1,8 +1,8 @@
 -- The lines of stops, jacks and wires, one kind after the other.
 use Rattle.std.proofs.Common.{◌≡◌, ℕ, List, ◌++◌, refl, ap, ◌∙◌, subst, append_assoc}
 use Rattle.std.specs.List.{flat_map}
-use Rattle.setups.specs.Tapes.{CarriageTape, IsStopOf}
-use Rattle.setups.specs.Wiring.{Wiring, HasJack, IsWireOf}
+use Rattle.hubs.specs.SetupsWords.Tapes.{CarriageTape, IsStopOf}
+use Rattle.hubs.specs.SetupsWords.Wiring.{Wiring, HasJack, IsWireOf}
 use Rattle.wire_chart.specs.Parts.{GainsParts}
 use Rattle.wire_chart.specs.WrittenText.{ended, jack_line, parts_text, stop_line, wire_line}
 use Rattle.wire_chart.specs.Writing.{GainsStops, GainsJacks, GainsAllWires}

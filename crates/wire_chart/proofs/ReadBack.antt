@@ -4,8 +4,8 @@ use Rattle.std.specs.Prelude.{map}
 use Rattle.std.specs.List.{All, AllPairs, Contains}
 use Rattle.std.proofs.lemmas.Option.{same_Some}
 use Rattle.std.proofs.lemmas.List.Elements.{All-append, All-nil, Contains-get_or, Contains-append_left, Contains-append_right, Contains-append_cases}
-use Rattle.setups.specs.Tapes.{IsStop, has_stop}
-use Rattle.setups.specs.Wiring.{Wiring, HasWire, HasJack}
+use Rattle.hubs.specs.SetupsWords.Tapes.{IsStop, has_stop}
+use Rattle.hubs.specs.SetupsWords.Wiring.{Wiring, HasWire, HasJack}
 use Rattle.hubs.specs.declared.hub.Hub.{Hub}
 use Rattle.hubs.specs.declared.jack.Jack.{Jack}
 use Rattle.hubs.proofs.HubLemmas.{hub_named-own}
@@ -17,7 +17,7 @@ use Rattle.wiring_text.specs.WiringText.{IsSetupOf, ReadsAs}
 use Rattle.wire_chart.specs.WrittenText.{ArePartsOf, IsWrittenIn, title_line, form_line, IsStopBefore, IsJackBefore, IsLineBefore}
 use Rattle.wiring_text.specs.declared.statement.Statement.{Statement}
 use Rattle.wiring_text.specs.declared.statement.Statement.TheVariants.{Stop, Plug, Wire}
-use Rattle.setups.proofs.Ordered.{pairs_none, pairs_append, contains_none}
+use Rattle.hubs.proofs.SetupsWords.Ordered.{pairs_none, pairs_append, contains_none}
 use Rattle.wire_chart.proofs.Ordered.{contains_mapped, contains_unmapped, pairs_mapped}
 use Rattle.wire_chart.proofs.OneText.{stops_one_way, jacks_one_way, lines_one_way}
 use Rattle.wire_chart.proofs.WrittenSaid.{stop_fits, wire_fits}

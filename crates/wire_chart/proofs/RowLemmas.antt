@@ -4,17 +4,17 @@ use Rattle.std.specs.List.{list_all}
 use Rattle.std.specs.Prelude.{nat_le, nat_lt, option_map}
 use Rattle.std.proofs.lemmas.Bool.{and_parts, ltb-true, leb-true, false≢true}
 use Rattle.std.proofs.lemmas.Bool.Decides.{nat_tests}
-use Rattle.hub_table.specs.Ranges.{is_within}
-use Rattle.hub_table.specs.HubTable.{row_of}
+use Rattle.hubs.specs.HubTable.Ranges.{is_within}
+use Rattle.hubs.specs.HubTable.HubTable.{row_of}
 use Rattle.hubs.specs.Hubs.{letters_of, numbers_of, number_of}
-use Rattle.hub_table.specs.Places.{up_to, two_or_three, row_place, width_place, part_place, group_place, is_width, positions_before, position_place, place_of, has_as_many}
+use Rattle.hubs.specs.HubTable.Places.{up_to, two_or_three, row_place, width_place, part_place, group_place, is_width, positions_before, position_place, place_of, has_as_many}
 use Rattle.hubs.specs.declared.hub.Hub.{Hub}
-use Rattle.hub_table.specs.declared.letters.Letters.{Letters}
-use Rattle.hub_table.specs.declared.letters.Letters.TheVariants.{FR}
-use Rattle.hub_table.specs.declared.shape.Numbers.{Numbers}
-use Rattle.hub_table.specs.declared.shape.Numbers.TheVariants.{Bare, One, Two, Three}
-use Rattle.hub_table.specs.declared.shape.Shape.{Shape}
-use Rattle.hub_table.specs.declared.shape.Shape.TheVariants.{Alone, To, TwoOrThree, Each, Rows, Groups, GroupsEach, Positions}
+use Rattle.hubs.specs.declared.hub_table.letters.Letters.{Letters}
+use Rattle.hubs.specs.declared.hub_table.letters.Letters.TheVariants.{FR}
+use Rattle.hubs.specs.declared.hub_table.shape.Numbers.{Numbers}
+use Rattle.hubs.specs.declared.hub_table.shape.Numbers.TheVariants.{Bare, One, Two, Three}
+use Rattle.hubs.specs.declared.hub_table.shape.Shape.{Shape}
+use Rattle.hubs.specs.declared.hub_table.shape.Shape.TheVariants.{Alone, To, TwoOrThree, Each, Rows, Groups, GroupsEach, Positions}
 use Rattle.wire_chart.proofs.WrittenBytes.{is_high}
 
 -- each number is below 1,000

@@ -1,9 +1,9 @@
 -- The stops of a form, line by line and channel by channel.
 use Rattle.std.proofs.Common.{◌≡◌, inl, inr, ℕ, ◌+◌, ◌<◌, ◌≤◌, List, ◌++◌, true, refl, sym, ap, ◌∙◌, arith}
-use Rattle.setups.specs.Tapes.{CarriageTape, IsCarriageTape, IsStop, IsStopOf, has_stop}
+use Rattle.hubs.specs.SetupsWords.Tapes.{CarriageTape, IsCarriageTape, IsStop, IsStopOf, has_stop}
 use Rattle.wire_chart.specs.WrittenText.{ended, stop_line, IsStopBefore}
 use Rattle.wire_chart.specs.Writing.{GainsStops, IsStopAt, IsStopAbove, IsStopIn, IsStopBelow}
-use Rattle.setups.proofs.WireLists.{below_or_at}
+use Rattle.hubs.proofs.SetupsWords.WireLists.{below_or_at}
 use Rattle.wire_chart.proofs.Gains.{gains_none, gains_one, gains_more, gains_same}
 
 -- a stop by its channel and its line

@@ -3,8 +3,8 @@ use Rattle.std.proofs.Common.{◌≡◌, ℕ, ◌≤◌, List, [], ◌∷◌, �
 use Rattle.std.specs.Prelude.{map}
 use Rattle.std.specs.List.{flat_map}
 use Rattle.card_code.specs.Lines.{lines_of}
-use Rattle.setups.specs.Tapes.{CarriageTape, IsFormed}
-use Rattle.setups.specs.Wiring.{Wiring}
+use Rattle.hubs.specs.SetupsWords.Tapes.{CarriageTape, IsFormed}
+use Rattle.hubs.specs.SetupsWords.Wiring.{Wiring}
 use Rattle.hubs.specs.declared.hub.Hub.{Hub}
 use Rattle.hubs.specs.declared.jack.Jack.{Jack}
 use Rattle.wiring_text.specs.WiringText.{IsFormLine, SaysLines, end_line, version_text}

@@ -7,17 +7,17 @@ use Rattle.std.proofs.lemmas.List.Elements.{All-append, All-cons, All-nil}
 use Rattle.card_code.specs.Lines.{lines_of}
 use Rattle.hubs.specs.Hubs.{carry_into, carry_out_of, number_of}
 use Rattle.hubs.specs.Carries.{are_alike, do_groups_agree, do_wires_agree, is_one_group}
-use Rattle.setups.proofs.CarryWires.{one-same}
+use Rattle.hubs.proofs.SetupsWords.CarryWires.{one-same}
 use Rattle.std.proofs.lemmas.Bool.{and_from, and_parts, eq-eqb, false≢true}
 use Rattle.std.proofs.lemmas.Option.{none-some, same_Some}
 use Rattle.hubs.specs.Jacks.{jack_place}
-use Rattle.setups.specs.Tapes.{IsStop}
-use Rattle.setups.specs.Wiring.{Wiring, HasWire}
+use Rattle.hubs.specs.SetupsWords.Tapes.{IsStop}
+use Rattle.hubs.specs.SetupsWords.Wiring.{Wiring, HasWire}
 use Rattle.hubs.specs.declared.hub.Group.{Group}
 use Rattle.hubs.specs.declared.hub.Hub.{Hub}
 use Rattle.hubs.specs.declared.jack.Jack.{Jack}
 use Rattle.wiring_text.specs.WiringText.{IsTooLarge}
-use Rattle.setups.specs.Wires.{IsHubBefore}
+use Rattle.hubs.specs.SetupsWords.Wires.{IsHubBefore}
 use Rattle.wire_chart.specs.WrittenText.{ArePartsOf, carry_form, form_place, title_line, wire_form, form_line, stop_line, jack_line, wire_line, IsStopBefore, IsJackBefore, IsLineBefore}
 use Rattle.wiring_text.specs.declared.statement.Statement.TheVariants.{Plug}
 use Rattle.wire_chart.proofs.HubRanges.{exit_number, entry_number}

@@ -2,8 +2,8 @@
 use Rattle.std.proofs.Common.{◌≡◌, ◌≢◌, ◌↔◌, ℕ, List, [], ◌∷◌, Result, Ok, Err, IfOk, codes, get_or, ap, sym, ◌∙◌, subst, arith, refl}
 use Rattle.card_code.specs.Lines.{lines_of}
 use Rattle.hubs.specs.declared.hub.Hub.{Hub}
-use Rattle.setups.specs.Wiring.{Wiring, HasWire}
-use Rattle.tokens.proofs.TokenGrammar.{one_division}
+use Rattle.hubs.specs.SetupsWords.Wiring.{Wiring, HasWire}
+use Rattle.chart_lines.proofs.TokensWords.TokenGrammar.{one_division}
 use Rattle.wire_chart.specs.WrittenText.{IsWritten, IsWrittenIn, JoinsGroups, wire_form}
 use Rattle.wire_chart.specs.declared.form.WireForm.TheVariants.{Couple}
 use Rattle.wiring_text.specs.WiringText.{IsFirstLine, ReadsAs}

@@ -3,9 +3,9 @@ use Rattle.std.proofs.Common.{◌≡◌, ◌⊎◌, inl, inr, ℕ, ◌+◌, ◌<
 use Rattle.std.specs.List.{AllPairs, Contains}
 use Rattle.std.proofs.lemmas.List.{take_all, take_more}
 use Rattle.std.proofs.lemmas.List.Elements.{Contains-append_left, Contains-push, Contains-push_cases}
-use Rattle.setups.proofs.Ordered.{contains_none, pairs_before}
-use Rattle.setups.specs.Wires.{AreWiresOf, IsWireBefore}
-use Rattle.setups.specs.Wiring.{Wiring, IsWireOf}
+use Rattle.hubs.proofs.SetupsWords.Ordered.{contains_none, pairs_before}
+use Rattle.hubs.specs.SetupsWords.Wires.{AreWiresOf, IsWireBefore}
+use Rattle.hubs.specs.SetupsWords.Wiring.{Wiring, IsWireOf}
 use Rattle.hubs.specs.declared.hub.Hub.{Hub}
 use Rattle.wire_chart.specs.WrittenText.{ended, form_place, wire_form, wire_line, IsLineBefore}
 use Rattle.wire_chart.specs.Writing.{GainsAllWires, GainsLines, GainsWires, IsOfForm, IsWire}

@@ -1,7 +1,7 @@
 -- The parts of a text make the whole.
 use Rattle.std.proofs.Common.{◌≡◌, ℕ, List, ◌++◌, ap, ◌∙◌, append_assoc, codes}
-use Rattle.setups.specs.Tapes.{CarriageTape, IsStopOf}
-use Rattle.setups.specs.Wiring.{Wiring, HasJack, IsWireOf}
+use Rattle.hubs.specs.SetupsWords.Tapes.{CarriageTape, IsStopOf}
+use Rattle.hubs.specs.SetupsWords.Wiring.{Wiring, HasJack, IsWireOf}
 use Rattle.wire_chart.proofs.PartsWritten.{parts-written}
 use Rattle.wire_chart.specs.Parts.{GainsParts}
 use Rattle.wire_chart.specs.WrittenText.{IsWrittenIn, title_line, ended, form_line}

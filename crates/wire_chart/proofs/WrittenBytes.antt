@@ -6,7 +6,7 @@ use Rattle.std.proofs.lemmas.Bool.{and_parts, ltb-true, lt-ltb, and_from}
 use Rattle.std.proofs.lemmas.Bool.Decides.{nat_tests}
 use Rattle.std.proofs.lemmas.List.Folds.{list_all-append}
 use Rattle.card_code.specs.Lines.{onto, pieces, without_cr, lines_of_pieces, lines_of}
-use Rattle.tokens.specs.Tokens.{HasTokens, ended, spaced, led, IsToken, IsApart, is_plain}
+use Rattle.chart_lines.specs.TokensWords.Tokens.{HasTokens, ended, spaced, led, IsToken, IsApart, is_plain}
 use Rattle.wire_chart.specs.WrittenText as text
 
 -- a byte of a word: after the space and the apostrophe

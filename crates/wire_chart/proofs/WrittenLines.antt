@@ -4,8 +4,8 @@ use Rattle.std.specs.Prelude.{map}
 use Rattle.std.specs.List.{All, AllByRecursion, Contains, list_all}
 use Rattle.std.proofs.lemmas.List.Elements.{All-cons, All-nil}
 use Rattle.hubs.specs.Jacks.{is_jack_in_range}
-use Rattle.setups.specs.Tapes.{IsStop}
-use Rattle.setups.specs.Wiring.{Wiring, HasWire}
+use Rattle.hubs.specs.SetupsWords.Tapes.{IsStop}
+use Rattle.hubs.specs.SetupsWords.Wiring.{Wiring, HasWire}
 use Rattle.hubs.specs.declared.hub.Hub.{Hub}
 use Rattle.hubs.specs.declared.jack.Jack.{Jack}
 use Rattle.wiring_text.specs.HubNames.{name_of}
@@ -15,7 +15,7 @@ use Rattle.wire_chart.specs.WrittenText.{IsWrittenIn, stop_line, wire_line}
 use Rattle.wiring_text.specs.declared.statement.Statement.{Statement}
 use Rattle.wiring_text.specs.declared.statement.Statement.TheVariants.{Stop, Wire}
 use Rattle.wire_chart.proofs.JackGains.{plugged_in_range}
-use Rattle.setups.proofs.Ordered.{contains_first, contains_more}
+use Rattle.hubs.proofs.SetupsWords.Ordered.{contains_first, contains_more}
 use Rattle.wire_chart.proofs.WrittenBytes.{is_inner}
 use Rattle.wire_chart.proofs.WrittenSaid.{IsSaidLine, stop_said, wire_said}
 use Rattle.wiring_text.specs.declared.statement.Version.{Version}

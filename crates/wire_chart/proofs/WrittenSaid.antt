@@ -6,16 +6,16 @@ use Rattle.std.proofs.lemmas.Option.{none-some, same_Some}
 use Rattle.hubs.specs.Hubs.{carry_into, carry_out_of, letters_of, number_of, numbers_of, is_exit_hub, is_entry_hub}
 use Rattle.hubs.specs.Carries.{is_one_group, keeps_carry, may_carry}
 use Rattle.hubs.specs.Jacks.{is_jack_in_range}
-use Rattle.hub_table.specs.Ranges.{is_within}
+use Rattle.hubs.specs.HubTable.Ranges.{is_within}
 use Rattle.hubs.specs.declared.hub.Group.{Group}
 use Rattle.hubs.specs.declared.hub.Hub.{Hub}
 use Rattle.hubs.specs.declared.hub.Hub.TheVariants.{CI, CO}
-use Rattle.setups.proofs.CarryWires.{one-same}
+use Rattle.hubs.proofs.SetupsWords.CarryWires.{one-same}
 use Rattle.wire_chart.proofs.RowLemmas.{AreSmall, numbered_small}
 use Rattle.hubs.specs.declared.jack.Jack.{Jack}
 use Rattle.hubs.specs.declared.jack.Jack.TheVariants as jacks
 use Rattle.hubs.proofs.HubLemmas.{hub_named-own}
-use Rattle.tokens.specs.Number.{IsNumberTo}
+use Rattle.chart_lines.specs.TokensWords.Number.{IsNumberTo}
 use Rattle.wiring_text.specs.HubNames.{carry_entry, carry_exit, name_of, hub_of, is_carry}
 use Rattle.wiring_text.specs.Statements.{SaysJack, list, total, head, link, suppress, symbol, Says, stop, plug, wire, ring, couple, may_be_wired, wire_fault, statement_fault}
 use Rattle.wiring_text.specs.WiringText.{SaysLine}

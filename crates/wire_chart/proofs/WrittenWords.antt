@@ -6,13 +6,13 @@ use Rattle.std.specs.Prelude.{nat_le}
 use Rattle.std.proofs.lemmas.Bool.{and_parts, cases_lt, lt-ltb, leb-true, and_from}
 use Rattle.std.proofs.lemmas.Fmt.{decimal_digit, decimal_step}
 use Rattle.std.proofs.lemmas.Bool.Decides.{nat_tests}
-use Rattle.hub_table.specs.HubTable.{row_of}
+use Rattle.hubs.specs.HubTable.HubTable.{row_of}
 use Rattle.hubs.specs.Hubs.{letters_of, numbers_of, number_of}
 use Rattle.hubs.specs.declared.hub.Group.{Group}
 use Rattle.hubs.specs.declared.hub.Hub.{Hub}
-use Rattle.hub_table.specs.declared.shape.Numbers.{Numbers}
-use Rattle.hub_table.specs.declared.shape.Numbers.TheVariants.{Bare, One, Two, Three}
-use Rattle.tokens.specs.Number.{IsNumber}
+use Rattle.hubs.specs.declared.hub_table.shape.Numbers.{Numbers}
+use Rattle.hubs.specs.declared.hub_table.shape.Numbers.TheVariants.{Bare, One, Two, Three}
+use Rattle.chart_lines.specs.TokensWords.Number.{IsNumber}
 use Rattle.wiring_text.specs.HubNames.{IsGroup, IsPointed, IsDotted, bare, one, two, three, IsHubName, name_of}
 use Rattle.hubs.specs.HubText.{group_text, pointed, numbers_text, hub_text}
 use Rattle.wire_chart.proofs.RowLemmas.{AreSmall, good_letters, numbered_small}

@@ -1,7 +1,7 @@
 -- Laws of wiring charts: a setup has one text in each version, that text reads as the setup, and a text reads as one setup at most.
 use Rattle.std.specs.Prelude.{◌≡◌, ℕ, List}
-use Rattle.setups.specs.Tapes.{IsCarriageTape}
-use Rattle.setups.specs.Wiring.{IsSameSetup, Wiring, IsLawfulWiring}
+use Rattle.hubs.specs.SetupsWords.Tapes.{IsCarriageTape}
+use Rattle.hubs.specs.SetupsWords.Wiring.{IsSameSetup, Wiring, IsLawfulWiring}
 use Rattle.wiring_text.specs.WiringText.{ReadsAs}
 use Rattle.wiring_text.specs.WiringFaults.{HasWiringFault}
 use Rattle.wire_chart.specs.WrittenText.{IsWritten, IsWrittenIn}

@@ -1,6 +1,6 @@
 -- The lines of a setup's stops, jacks and wires as a text gains them, without the first line, the form and END of a wiring chart.
 use Rattle.std.specs.Prelude.{◌≡◌, ℕ, List, ◌++◌}
-use Rattle.setups.specs.Wiring.{Wiring}
+use Rattle.hubs.specs.SetupsWords.Wiring.{Wiring}
 pub use Rattle.wire_chart.specs.WrittenText.{ArePartsOf}
 use Rattle.wiring_text.specs.declared.statement.Version.{Version}
 

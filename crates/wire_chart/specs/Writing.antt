@@ -3,8 +3,8 @@
 use Rattle.std.specs.Prelude.{◌≡◌, ◌↔◌, ℕ, ◌<◌, List, ◌++◌, AllPairs, Contains}
 use Rattle.std.specs.List.{flat_map}
 use Rattle.hubs.specs.Jacks.{jack_place}
-use Rattle.setups.specs.Tapes.{CarriageTape, IsStopOf}
-use Rattle.setups.specs.Wiring.{Wiring, HasJack}
+use Rattle.hubs.specs.SetupsWords.Tapes.{CarriageTape, IsStopOf}
+use Rattle.hubs.specs.SetupsWords.Wiring.{Wiring, HasJack}
 use Rattle.hubs.specs.declared.hub.Hub.{Hub}
 use Rattle.hubs.specs.declared.jack.Jack.{Jack}
 use Rattle.wire_chart.specs.declared.form.WireForm.{WireForm}

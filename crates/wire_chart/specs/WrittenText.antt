@@ -7,9 +7,9 @@ use Rattle.hubs.specs.Carries.{is_one_group}
 use Rattle.hubs.specs.HubText.{group_text, hub_text}
 use Rattle.hubs.specs.Hubs.{carry_into, carry_out_of}
 use Rattle.hubs.specs.Jacks.{jack_place}
-use Rattle.setups.specs.Tapes.{CarriageTape, has_stop}
-use Rattle.setups.specs.Wires.{IsWireBefore}
-use Rattle.setups.specs.Wiring.{Wiring, HasWire, HasJack}
+use Rattle.hubs.specs.SetupsWords.Tapes.{CarriageTape, has_stop}
+use Rattle.hubs.specs.SetupsWords.Wires.{IsWireBefore}
+use Rattle.hubs.specs.SetupsWords.Wiring.{Wiring, HasWire, HasJack}
 use Rattle.hubs.specs.declared.hub.Group.{Group}
 use Rattle.hubs.specs.declared.hub.Hub.{Hub}
 use Rattle.hubs.specs.declared.jack.Jack.{Jack}

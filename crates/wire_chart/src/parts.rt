@@ -5,7 +5,7 @@ ghost use Rattle.std.specs.String.{string_bytes};
 ghost use Rattle.wire_chart.specs.Parts.{GainsParts};
 
 use crate::write::{write_all_wires, write_jacks, write_stops};
-use setups::Setup;
+use hubs::setups::Setup;
 use std::alloc::AllocError;
 use wiring_text::Version;
 

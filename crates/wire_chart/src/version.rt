@@ -3,7 +3,7 @@
 ghost use Rattle.std.specs.Prelude.{◌≡◌, ◌≢◌, ◌↔◌, Some, true, false};
 ghost use Rattle.hubs.specs.Hubs.{number_of};
 ghost use Rattle.hubs.specs.declared.hub.Hub.{Hub};
-ghost use Rattle.setups.specs.Wiring.{HasWire, Wiring};
+ghost use Rattle.hubs.specs.SetupsWords.Wiring.{HasWire, Wiring};
 ghost use Rattle.wire_chart.specs.WrittenText.{JoinsGroups, wire_form};
 ghost use Rattle.wire_chart.specs.declared.form.WireForm.TheVariants.{Couple};
 ghost use Rattle.wiring_text.specs.WiringText.{ReadsAs};
@@ -11,9 +11,9 @@ ghost use Rattle.wiring_text.specs.declared.statement.Version.TheVariants.{Secon
 
 use crate::form::{WireForm, is_same_form, wire_form};
 use card_code::next_line;
+use chart_lines::tokens::is_title_line;
+use hubs::setups::Setup;
 use hubs::{Hub, carry_out_of};
-use setups::Setup;
-use tokens::is_title_line;
 use wiring_text::Version;
 
 /// The version in which [`write_setup`](crate::write_setup) writes a setup: the second where a wire couples two counter groups, else the

@@ -5,8 +5,8 @@ ghost use Rattle.std.specs.String.{string_bytes};
 ghost use Rattle.hubs.specs.HubText.{group_text, hub_text};
 ghost use Rattle.wire_chart.specs.WrittenText.{spaced, jack_text};
 
+use chart_numerals::push_numbered;
 use hubs::{Group, Hub, Jack, write_hub};
-use numerals::push_numbered;
 use std::alloc::AllocError;
 
 // A space and a number.

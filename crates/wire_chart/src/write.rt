@@ -3,9 +3,9 @@
 ghost use Rattle.std.specs.Prelude.{◌≡◌, ◌++◌, AllPairs, Contains, Some, IfOk, OnOk};
 ghost use Rattle.std.specs.String.{string_bytes};
 ghost use Rattle.hubs.specs.declared.hub.Hub.TheVariants.{CI, CO};
-ghost use Rattle.setups.specs.Tapes.{IsCarriageTape, IsStopOf};
-ghost use Rattle.setups.specs.Wires.{IsWireBefore};
-ghost use Rattle.setups.specs.Wiring.{HasJack, IsWireOf};
+ghost use Rattle.hubs.specs.SetupsWords.Tapes.{IsCarriageTape, IsStopOf};
+ghost use Rattle.hubs.specs.SetupsWords.Wires.{IsWireBefore};
+ghost use Rattle.hubs.specs.SetupsWords.Wiring.{HasJack, IsWireOf};
 ghost use Rattle.wiring_text.specs.declared.statement.Version.TheVariants.{Second};
 ghost use Rattle.wiring_text.specs.WiringText.{ReadsAs};
 ghost use Rattle.wire_chart.specs.WrittenText.{IsWritten, IsWrittenIn, carry_line, ended, form_line, stop_line, jack_line, plain_line, title_line, wire_line};
@@ -14,8 +14,8 @@ ghost use Rattle.wire_chart.specs.Writing.{GainsAllWires, GainsStops, GainsJacks
 use crate::form::{WireForm, is_same_form, wire_form};
 use crate::version::version_of;
 use crate::words::{write_jack_words, write_spaced_group, write_spaced_hub, write_spaced_number};
+use hubs::setups::{Setup, Tape};
 use hubs::{Group, Hub, JACKS, Jack, carry_into, carry_out_of, is_one_group};
-use setups::{Setup, Tape};
 use std::alloc::{AllocError, Global};
 use wiring_text::Version;
 

@@ -1,27 +1,27 @@
 -- The wires of the table for a total of an amount are among those that the code adds.
 use Rattle.std.proofs.Common.{ℕ, ◌+◌, ◌-◌, List, Some, None, sym, ap, subst, ◌∙◌}
 use Rattle.std.proofs.lemmas.Option.{slice_get_within, same_Some}
-use Rattle.plans.specs.Plans.{Lists}
+use Rattle.chart_plans.specs.PlansWords.Plans.{Lists}
 use Rattle.chart_rules.specs.Below.line_rules.FieldRules.Fields.{field_named}
-use Rattle.charts.specs.Field.{columns_of, decimals_of}
-use Rattle.charts.specs.declared.chart.Line.{Line}
-use Rattle.charts.specs.declared.statement.Statement.TheVariants as says
-use Rattle.charts.specs.declared.statement.TotalLine.{TotalLine}
-use Rattle.setups.specs.Below.hubs.declared.hub.Hub.{Hub}
-use Rattle.setups.specs.Below.hubs.declared.hub.Hub.TheVariants.{BAC, BAN, BAT, BT, CC, EM, GE, GX, MI, PL, PX, RO, SR, W}
-use Rattle.line_wires.specs.Below.wiring_table.Figures.{on_total, IsFigure, rule_of, digit_wheel, mark_wheel, mark_text, total_emitter}
-use Rattle.line_wires.specs.Below.wiring_table.Figures as figures
-use Rattle.line_wires.specs.HelperAdds.{One, one, first, second, below, some, given, punched}
-use Rattle.total_wires.specs.HelperTotals.{IsGoodTotal}
+use Rattle.chart_lines.specs.ChartsWords.Field.{columns_of, decimals_of}
+use Rattle.chart_lines.specs.declared.charts.chart.Line.{Line}
+use Rattle.chart_lines.specs.declared.charts.statement.Statement.TheVariants as says
+use Rattle.chart_lines.specs.declared.charts.statement.TotalLine.{TotalLine}
+use Rattle.hubs.specs.declared.hub.Hub.{Hub}
+use Rattle.hubs.specs.declared.hub.Hub.TheVariants.{BAC, BAN, BAT, BT, CC, EM, GE, GX, MI, PL, PX, RO, SR, W}
+use Rattle.wiring_table.specs.Figures.{on_total, IsFigure, rule_of, digit_wheel, mark_wheel, mark_text, total_emitter}
+use Rattle.wiring_table.specs.Figures as figures
+use Rattle.wiring_lines.specs.LineWires.HelperAdds.{One, one, first, second, below, some, given, punched}
+use Rattle.wiring_totals.specs.HelperTotals.{IsGoodTotal}
 use Rattle.wire_gen.specs.HelperKnown.{IsNamed}
-use Rattle.total_wires.specs.HelperLevels.{next}
+use Rattle.wiring_totals.specs.HelperLevels.{next}
 use Rattle.wire_gen.specs.HelperLines.{StatementWires}
-use Rattle.line_wires.specs.Below.wiring_table.Wires.{LineWire}
-use Rattle.line_wires.specs.Below.wiring_table.Wires as table
-use Rattle.line_wires.specs.Below.wiring_table.Parts.{negative_side, positive_side, top_group}
-use Rattle.total_wires.specs.HelperCounters.{CarryUpWires, RingWires, entry_of, exit_of, place_of}
-use Rattle.total_wires.specs.HelperTotalRows.{FeedbackWires}
-use Rattle.charts.specs.Levels.{level_number}
+use Rattle.wiring_table.specs.Wires.{LineWire}
+use Rattle.wiring_table.specs.Wires as table
+use Rattle.wiring_table.specs.Parts.{negative_side, positive_side, top_group}
+use Rattle.wiring_totals.specs.HelperCounters.{CarryUpWires, RingWires, entry_of, exit_of, place_of}
+use Rattle.wiring_totals.specs.HelperTotalRows.{FeedbackWires}
+use Rattle.chart_lines.specs.ChartsWords.Levels.{level_number}
 use Rattle.wire_gen.proofs.CounterWires.{between-places, each-back, from-place, pair-back, position-back, ring-back, serves-back, to-place, top-back}
 use Rattle.wire_gen.proofs.JoinAmount.{known-total, known-wires, sense-wires, transfer-wires}
 use Rattle.wire_gen.proofs.JoinLines.{at-position}

@@ -1,15 +1,15 @@
 -- The field of a name, and the punches of marks.
 use Rattle.std.proofs.Common.{◌≡◌, ℕ, zero, suc, [], ◌∷◌, true, Option, Some, None, slice_get, refl, subst}
-use Rattle.charts.specs.Field.{is_amount}
-use Rattle.charts.specs.declared.statement.Field.{Field}
-use Rattle.charts.specs.declared.statement.FieldKind.{FieldKind}
-use Rattle.charts.specs.declared.statement.FieldKind.TheVariants as holds
-use Rattle.charts.specs.declared.statement.Mark.{Mark}
-use Rattle.charts.specs.declared.statement.Mark.TheVariants as marks
-use Rattle.charts.specs.declared.statement.SignRule.{SignRule}
-use Rattle.line_wires.specs.Below.wiring_table.Figures.{HasPunchAt, rule_of, mark_text}
+use Rattle.chart_lines.specs.ChartsWords.Field.{is_amount}
+use Rattle.chart_lines.specs.declared.charts.statement.Field.{Field}
+use Rattle.chart_lines.specs.declared.charts.statement.FieldKind.{FieldKind}
+use Rattle.chart_lines.specs.declared.charts.statement.FieldKind.TheVariants as holds
+use Rattle.chart_lines.specs.declared.charts.statement.Mark.{Mark}
+use Rattle.chart_lines.specs.declared.charts.statement.Mark.TheVariants as marks
+use Rattle.chart_lines.specs.declared.charts.statement.SignRule.{SignRule}
+use Rattle.wiring_table.specs.Figures.{HasPunchAt, rule_of, mark_text}
 use Rattle.wire_gen.specs.HelperKnown.{IsNamed}
-use Rattle.charts.specs.Below.card_code.CardCode.{code, rows_of, set_of}
+use Rattle.card_code.specs.CardCode.{code, rows_of, set_of}
 
 -- a field with a sign rule is an amount
 pub ruled-amount : (kind : FieldKind) (rule : SignRule) → rule_of kind ≡ Some rule → is_amount kind ≡ true

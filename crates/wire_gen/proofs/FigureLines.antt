@@ -1,28 +1,28 @@
 -- The amounts of a line of a lawful chart as its items.
 use Rattle.std.proofs.Common.{option_map, ◌≡◌, ℕ, ◌+◌, ◌≤◌, true, List, Option, Some, None, refl, sym, ap, ◌∙◌, subst, arith}
-use Rattle.plans.specs.Plans.{Lists}
+use Rattle.chart_plans.specs.PlansWords.Plans.{Lists}
 use Rattle.chart_rules.specs.Below.line_rules.FieldRules.Fields.{field_named}
 use Rattle.chart_rules.specs.Below.line_rules.PrintRules.Items.{mark_shown, item_of, detail_item, total_item}
-use Rattle.charts.specs.Field.{columns_of, decimals_of, is_amount}
-use Rattle.charts.specs.Levels.{level_number}
-use Rattle.charts.specs.declared.chart.Line.{Line}
-use Rattle.charts.specs.declared.statement.DetailOption.{DetailOption}
-use Rattle.charts.specs.declared.statement.Field.{Field}
-use Rattle.charts.specs.declared.statement.FieldKind.{FieldKind}
-use Rattle.charts.specs.declared.statement.FieldKind.TheVariants as holds
-use Rattle.charts.specs.declared.statement.Mark.{Mark}
-use Rattle.charts.specs.declared.statement.Statement.{Statement}
-use Rattle.charts.specs.declared.statement.TotalLine.{TotalLine}
-use Rattle.charts.specs.declared.statement.Statement.TheVariants as says
-use Rattle.line_wires.specs.Below.wiring_table.Figures.{IsAmount, on_detail, on_total, IsFigure}
-use Rattle.line_wires.specs.Below.wiring_table.Figures as figures
-use Rattle.line_wires.specs.HelperItems.{HasFigureWheels, DetailRanges, IsGoodDetail}
-use Rattle.total_wires.specs.HelperTotals.{IsGoodTotal}
+use Rattle.chart_lines.specs.ChartsWords.Field.{columns_of, decimals_of, is_amount}
+use Rattle.chart_lines.specs.ChartsWords.Levels.{level_number}
+use Rattle.chart_lines.specs.declared.charts.chart.Line.{Line}
+use Rattle.chart_lines.specs.declared.charts.statement.DetailOption.{DetailOption}
+use Rattle.chart_lines.specs.declared.charts.statement.Field.{Field}
+use Rattle.chart_lines.specs.declared.charts.statement.FieldKind.{FieldKind}
+use Rattle.chart_lines.specs.declared.charts.statement.FieldKind.TheVariants as holds
+use Rattle.chart_lines.specs.declared.charts.statement.Mark.{Mark}
+use Rattle.chart_lines.specs.declared.charts.statement.Statement.{Statement}
+use Rattle.chart_lines.specs.declared.charts.statement.TotalLine.{TotalLine}
+use Rattle.chart_lines.specs.declared.charts.statement.Statement.TheVariants as says
+use Rattle.wiring_table.specs.Figures.{IsAmount, on_detail, on_total, IsFigure}
+use Rattle.wiring_table.specs.Figures as figures
+use Rattle.wiring_lines.specs.LineWires.HelperItems.{HasFigureWheels, DetailRanges, IsGoodDetail}
+use Rattle.wiring_totals.specs.HelperTotals.{IsGoodTotal}
 use Rattle.wire_gen.specs.HelperKnown.{IsGood, IsNamed}
 use Rattle.chart_rules.specs.Below.line_rules.FieldRules.Fields.{fields_of}
 use Rattle.chart_rules.specs.Below.line_rules.declared.print_rules.items.Figure.{Figure}
 use Rattle.chart_rules.specs.Below.line_rules.declared.print_rules.items.Item.{Item}
-use Rattle.jacks_and_tape.specs.HelperJacks.{FiguresAre, IsGoodFigure, ItemWith}
+use Rattle.wiring_lines.specs.JacksAndTape.HelperJacks.{FiguresAre, IsGoodFigure, ItemWith}
 use Rattle.wire_gen.proofs.Fields.{named-field, named-has}
 
 module _ (lines : List Line) where

@@ -1,35 +1,35 @@
 -- The wires that the code adds for a total of an amount are those of the table.
 use Rattle.std.proofs.Common.{◌≡◌, ℕ, ◌+◌, ◌<◌, ◌≤◌, List, Option, Some, None, option_and_then, option_map, refl, sym, subst, ◌∙◌, ap, arith}
 use Rattle.std.proofs.lemmas.Option.{same_Some}
-use Rattle.plans.specs.Counters.{single_group}
-use Rattle.plans.specs.Plans.{Lists}
-use Rattle.plans.specs.declared.counter.TotalCounter.{TotalCounter}
-use Rattle.plans.specs.declared.counter.TotalCounter.TheVariants as of
+use Rattle.chart_plans.specs.PlansWords.Counters.{single_group}
+use Rattle.chart_plans.specs.PlansWords.Plans.{Lists}
+use Rattle.chart_plans.specs.declared.plans.counter.TotalCounter.{TotalCounter}
+use Rattle.chart_plans.specs.declared.plans.counter.TotalCounter.TheVariants as of
 use Rattle.chart_rules.specs.Below.line_rules.FieldRules.Fields.{field_named}
-use Rattle.charts.specs.Field.{decimals_of}
-use Rattle.charts.specs.Levels.{level_number}
-use Rattle.charts.specs.declared.chart.Line.{Line}
-use Rattle.charts.specs.declared.statement.Field.{Field}
-use Rattle.charts.specs.declared.statement.Mark.{Mark}
-use Rattle.charts.specs.declared.statement.SignRule.{SignRule}
-use Rattle.charts.specs.declared.statement.Statement.TheVariants as says
-use Rattle.charts.specs.declared.statement.TotalLine.{TotalLine}
-use Rattle.setups.specs.Below.hubs.declared.hub.Group.{Group}
-use Rattle.setups.specs.Below.hubs.declared.hub.Hub.{Hub}
-use Rattle.setups.specs.Below.hubs.declared.hub.Hub.TheVariants.{BAN, BAT, CC, MI, PL, PX, RO}
-use Rattle.line_wires.specs.HelperRows.{Wires}
-use Rattle.line_wires.specs.Below.wiring_table.Figures.{IsAmount, IsSigned, on_total, IsFigure, rule_of, mark_wheel, total_emitter}
-use Rattle.line_wires.specs.Below.wiring_table.Figures as figures
-use Rattle.line_wires.specs.HelperAdds.{first, second, below, some, given, punched}
-use Rattle.total_wires.specs.HelperTotals.{IsGoodTotal, TotalWires}
+use Rattle.chart_lines.specs.ChartsWords.Field.{decimals_of}
+use Rattle.chart_lines.specs.ChartsWords.Levels.{level_number}
+use Rattle.chart_lines.specs.declared.charts.chart.Line.{Line}
+use Rattle.chart_lines.specs.declared.charts.statement.Field.{Field}
+use Rattle.chart_lines.specs.declared.charts.statement.Mark.{Mark}
+use Rattle.chart_lines.specs.declared.charts.statement.SignRule.{SignRule}
+use Rattle.chart_lines.specs.declared.charts.statement.Statement.TheVariants as says
+use Rattle.chart_lines.specs.declared.charts.statement.TotalLine.{TotalLine}
+use Rattle.hubs.specs.declared.hub.Group.{Group}
+use Rattle.hubs.specs.declared.hub.Hub.{Hub}
+use Rattle.hubs.specs.declared.hub.Hub.TheVariants.{BAN, BAT, CC, MI, PL, PX, RO}
+use Rattle.wiring_lines.specs.LineWires.HelperRows.{Wires}
+use Rattle.wiring_table.specs.Figures.{IsAmount, IsSigned, on_total, IsFigure, rule_of, mark_wheel, total_emitter}
+use Rattle.wiring_table.specs.Figures as figures
+use Rattle.wiring_lines.specs.LineWires.HelperAdds.{first, second, below, some, given, punched}
+use Rattle.wiring_totals.specs.HelperTotals.{IsGoodTotal, TotalWires}
 use Rattle.wire_gen.specs.HelperKnown.{IsNamed}
-use Rattle.total_wires.specs.HelperCounters.{CarryUpWires, IsCounterOnPanel, RingWires, place_of, positions_of}
-use Rattle.total_wires.specs.HelperLevels.{HasCounterFor, next}
+use Rattle.wiring_totals.specs.HelperCounters.{CarryUpWires, IsCounterOnPanel, RingWires, place_of, positions_of}
+use Rattle.wiring_totals.specs.HelperLevels.{HasCounterFor, next}
 use Rattle.wire_gen.specs.HelperLines.{StatementWires}
-use Rattle.total_wires.specs.HelperTotalRows.{EntrySense, FeedbackWires, SignedTotal, TotalMark, TransferSense}
-use Rattle.line_wires.specs.Below.wiring_table.Parts.{HasPanelGroup, IsLowest, IsNextHigher, ServesPosition, counter_for, negative_side, panel_group, positive_side, top_group}
-use Rattle.line_wires.specs.Below.wiring_table.Wires.{LineWire}
-use Rattle.line_wires.specs.Below.wiring_table.Wires as table
+use Rattle.wiring_totals.specs.HelperTotalRows.{EntrySense, FeedbackWires, SignedTotal, TotalMark, TransferSense}
+use Rattle.wiring_table.specs.Parts.{HasPanelGroup, IsLowest, IsNextHigher, ServesPosition, counter_for, negative_side, panel_group, positive_side, top_group}
+use Rattle.wiring_table.specs.Wires.{LineWire}
+use Rattle.wiring_table.specs.Wires as table
 use Rattle.wire_gen.proofs.CounterWires.{controls-there, each-there, position-there, serves-there, top-there}
 use Rattle.wire_gen.proofs.Fields.{mark-punch, named-field, named-has}
 use Rattle.wire_gen.proofs.JoinLines.{by-one}

@@ -1,32 +1,32 @@
 -- The wires that the code adds for a line of the chart are those of the table: literals, fields, control and the carriage.
 use Rattle.std.proofs.Common.{◌≡◌, ℕ, ◌+◌, ◌-◌, ◌≤◌, List, Some, None, refl, ap, subst, arith}
 use Rattle.std.proofs.lemmas.Option.{slice_get_within}
-use Rattle.plans.specs.Plans.{Lists}
-use Rattle.charts.specs.Field.{sign_column, column_of_rule}
-use Rattle.charts.specs.Headings.{heading_number}
-use Rattle.charts.specs.Levels.{level_number}
-use Rattle.charts.specs.declared.chart.Line.{Line}
-use Rattle.charts.specs.declared.level.ControlLevel.{ControlLevel}
-use Rattle.charts.specs.declared.level.Level.{Level}
-use Rattle.charts.specs.declared.spacing.Spacing.{Spacing}
-use Rattle.charts.specs.declared.spacing.Spacing.TheVariants as spacings
-use Rattle.charts.specs.declared.statement.After.{After}
-use Rattle.charts.specs.declared.statement.After.TheVariants as action
-use Rattle.charts.specs.declared.statement.BodyLine.{BodyLine}
-use Rattle.charts.specs.declared.statement.Field.{Field}
-use Rattle.charts.specs.declared.statement.FieldKind.{FieldKind}
-use Rattle.charts.specs.declared.statement.FieldKind.TheVariants as holds
-use Rattle.charts.specs.declared.statement.SignRule.{SignRule}
-use Rattle.charts.specs.declared.statement.Statement.{Statement}
-use Rattle.charts.specs.declared.statement.Statement.TheVariants as says
-use Rattle.setups.specs.Below.hubs.declared.hub.Hub.{Hub}
-use Rattle.setups.specs.Below.hubs.declared.hub.Hub.TheVariants.{FR, EM, PIX, W}
-use Rattle.line_wires.specs.Below.wiring_table.Figures.{IsLiteral, on_heading, on_detail, on_total, HasPunchAt, rule_of, detail_emitter, heading_emitter, total_emitter}
-use Rattle.line_wires.specs.HelperAdds.{One, one, first, second, Upto, below, some, given, punched}
+use Rattle.chart_plans.specs.PlansWords.Plans.{Lists}
+use Rattle.chart_lines.specs.ChartsWords.Field.{sign_column, column_of_rule}
+use Rattle.chart_lines.specs.ChartsWords.Headings.{heading_number}
+use Rattle.chart_lines.specs.ChartsWords.Levels.{level_number}
+use Rattle.chart_lines.specs.declared.charts.chart.Line.{Line}
+use Rattle.chart_lines.specs.declared.charts.level.ControlLevel.{ControlLevel}
+use Rattle.chart_lines.specs.declared.charts.level.Level.{Level}
+use Rattle.chart_lines.specs.declared.charts.spacing.Spacing.{Spacing}
+use Rattle.chart_lines.specs.declared.charts.spacing.Spacing.TheVariants as spacings
+use Rattle.chart_lines.specs.declared.charts.statement.After.{After}
+use Rattle.chart_lines.specs.declared.charts.statement.After.TheVariants as action
+use Rattle.chart_lines.specs.declared.charts.statement.BodyLine.{BodyLine}
+use Rattle.chart_lines.specs.declared.charts.statement.Field.{Field}
+use Rattle.chart_lines.specs.declared.charts.statement.FieldKind.{FieldKind}
+use Rattle.chart_lines.specs.declared.charts.statement.FieldKind.TheVariants as holds
+use Rattle.chart_lines.specs.declared.charts.statement.SignRule.{SignRule}
+use Rattle.chart_lines.specs.declared.charts.statement.Statement.{Statement}
+use Rattle.chart_lines.specs.declared.charts.statement.Statement.TheVariants as says
+use Rattle.hubs.specs.declared.hub.Hub.{Hub}
+use Rattle.hubs.specs.declared.hub.Hub.TheVariants.{FR, EM, PIX, W}
+use Rattle.wiring_table.specs.Figures.{IsLiteral, on_heading, on_detail, on_total, HasPunchAt, rule_of, detail_emitter, heading_emitter, total_emitter}
+use Rattle.wiring_lines.specs.LineWires.HelperAdds.{One, one, first, second, Upto, below, some, given, punched}
 use Rattle.wire_gen.specs.HelperLines.{StatementWires}
-use Rattle.line_wires.specs.HelperRows.{AfterWires, LiteralWires, PickupWires, SpaceWires, Wires}
-use Rattle.line_wires.specs.Below.wiring_table.Wires.{LineWire}
-use Rattle.line_wires.specs.Below.wiring_table.Wires as table
+use Rattle.wiring_lines.specs.LineWires.HelperRows.{AfterWires, LiteralWires, PickupWires, SpaceWires, Wires}
+use Rattle.wiring_table.specs.Wires.{LineWire}
+use Rattle.wiring_table.specs.Wires as table
 
 -- the places of a text as positions from 1
 pub at-position : (at : ℕ → Wires) (bound position : ℕ) {exit to : Hub} → 1 ≤ position → position ≤ bound

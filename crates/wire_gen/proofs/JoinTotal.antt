@@ -1,16 +1,16 @@
 -- The wires that the code adds for a total are those of the table.
 use Rattle.std.proofs.Common.{ℕ, List}
-use Rattle.plans.specs.Plans.{Lists}
+use Rattle.chart_plans.specs.PlansWords.Plans.{Lists}
 use Rattle.chart_rules.specs.Below.line_rules.FieldRules.Fields.{field_named}
-use Rattle.charts.specs.declared.chart.Line.{Line}
-use Rattle.charts.specs.declared.level.Level.{Level}
-use Rattle.charts.specs.declared.statement.Statement.TheVariants as says
-use Rattle.setups.specs.Below.hubs.declared.hub.Hub.{Hub}
-use Rattle.line_wires.specs.HelperAdds.{one, first, second, below, some}
+use Rattle.chart_lines.specs.declared.charts.chart.Line.{Line}
+use Rattle.chart_lines.specs.declared.charts.level.Level.{Level}
+use Rattle.chart_lines.specs.declared.charts.statement.Statement.TheVariants as says
+use Rattle.hubs.specs.declared.hub.Hub.{Hub}
+use Rattle.wiring_lines.specs.LineWires.HelperAdds.{one, first, second, below, some}
 use Rattle.wire_gen.specs.HelperKnown.{IsGoodTotalText, IsNamed}
 use Rattle.wire_gen.specs.HelperLines.{StatementWires}
-use Rattle.line_wires.specs.Below.wiring_table.Wires.{LineWire}
-use Rattle.line_wires.specs.Below.wiring_table.Wires as table
+use Rattle.wiring_table.specs.Wires.{LineWire}
+use Rattle.wiring_table.specs.Wires as table
 use Rattle.wire_gen.proofs.Fields.{named-field, named-has}
 use Rattle.wire_gen.proofs.JoinLines.{by-one}
 

@@ -1,6 +1,6 @@
 -- What the rules of charts tell of names, of sign columns and of items.
 use Rattle.std.proofs.Common.{◌≡◌, ℕ, ◌≤◌, true, false, not, ◌&&◌, nat_le, is_none, Option, Some, None, refl, sym, subst, arith}
-use Rattle.charts.specs.declared.statement.Field.{Field}
+use Rattle.chart_lines.specs.declared.charts.statement.Field.{Field}
 use Rattle.wire_gen.specs.HelperKnown.{IsNamed}
 use Rattle.std.proofs.lemmas.Bool.Decides.{nat_tests}
 use Rattle.chart_rules.specs.Below.line_rules.FieldRules.Columns.{has_good_sign}

@@ -1,54 +1,54 @@
 -- What is known of each line of a lawful chart and its plan.
 use Rattle.std.proofs.Common.{◌≡◌, ℕ, zero, suc, ◌+◌, ◌<◌, ◌≤◌, ◌⊎◌, inl, inr, Bool, true, false, not, ◌&&◌, ◌==◌, cond, nat_lt, nat_le, option_map, List, [], ◌∷◌, length, Some, slice_get, refl, sym, ap, ◌∙◌, subst, arith}
-use Rattle.plans.specs.Plans.{Lists, ServesChart}
+use Rattle.chart_plans.specs.PlansWords.Plans.{Lists, ServesChart}
 use Rattle.chart_rules.specs.Below.line_rules.FieldRules.Fields.{field_named}
 use Rattle.chart_rules.specs.Below.line_rules.PrintRules.Items.{mark_shown}
-use Rattle.charts.specs.Field.{columns_of, decimals_of, is_amount, sign_column}
-use Rattle.charts.specs.Levels.{level_number}
-use Rattle.charts.specs.declared.chart.Line.{Line}
-use Rattle.charts.specs.declared.level.ControlLevel.{ControlLevel}
-use Rattle.charts.specs.declared.level.Level.{Level}
-use Rattle.charts.specs.declared.statement.After.{After}
-use Rattle.charts.specs.declared.statement.After.TheVariants as action
-use Rattle.charts.specs.declared.statement.BodyLine.{BodyLine}
-use Rattle.charts.specs.declared.statement.DetailOption.{DetailOption}
-use Rattle.charts.specs.declared.statement.Field.{Field}
-use Rattle.charts.specs.declared.statement.FieldKind.{FieldKind}
-use Rattle.charts.specs.declared.statement.FieldKind.TheVariants as holds
-use Rattle.charts.specs.declared.statement.Statement.{Statement}
-use Rattle.charts.specs.declared.statement.TotalLine.{TotalLine}
-use Rattle.charts.specs.declared.statement.Statement.TheVariants as says
-use Rattle.line_wires.specs.Below.wiring_table.Figures.{mark_wheel}
-use Rattle.line_wires.specs.HelperItems.{IsGoodDetail}
-use Rattle.total_wires.specs.HelperTotals.{IsGoodTotal}
+use Rattle.chart_lines.specs.ChartsWords.Field.{columns_of, decimals_of, is_amount, sign_column}
+use Rattle.chart_lines.specs.ChartsWords.Levels.{level_number}
+use Rattle.chart_lines.specs.declared.charts.chart.Line.{Line}
+use Rattle.chart_lines.specs.declared.charts.level.ControlLevel.{ControlLevel}
+use Rattle.chart_lines.specs.declared.charts.level.Level.{Level}
+use Rattle.chart_lines.specs.declared.charts.statement.After.{After}
+use Rattle.chart_lines.specs.declared.charts.statement.After.TheVariants as action
+use Rattle.chart_lines.specs.declared.charts.statement.BodyLine.{BodyLine}
+use Rattle.chart_lines.specs.declared.charts.statement.DetailOption.{DetailOption}
+use Rattle.chart_lines.specs.declared.charts.statement.Field.{Field}
+use Rattle.chart_lines.specs.declared.charts.statement.FieldKind.{FieldKind}
+use Rattle.chart_lines.specs.declared.charts.statement.FieldKind.TheVariants as holds
+use Rattle.chart_lines.specs.declared.charts.statement.Statement.{Statement}
+use Rattle.chart_lines.specs.declared.charts.statement.TotalLine.{TotalLine}
+use Rattle.chart_lines.specs.declared.charts.statement.Statement.TheVariants as says
+use Rattle.wiring_table.specs.Figures.{mark_wheel}
+use Rattle.wiring_lines.specs.LineWires.HelperItems.{IsGoodDetail}
+use Rattle.wiring_totals.specs.HelperTotals.{IsGoodTotal}
 use Rattle.wire_gen.specs.HelperKnown.{IsGood, IsGoodTotalText, IsNamed}
-use Rattle.total_wires.specs.HelperLevels.{HasCounterFor}
-use Rattle.line_wires.specs.Below.wiring_table.Parts.{IsNextHigher}
+use Rattle.wiring_totals.specs.HelperLevels.{HasCounterFor}
+use Rattle.wiring_table.specs.Parts.{IsNextHigher}
 use Rattle.std.specs.Prelude.{map}
 use Rattle.std.specs.List.{Contains, filter}
 use Rattle.std.proofs.lemmas.Bool.{cases_lt, not-false}
 use Rattle.std.proofs.lemmas.Bool.Decides.{nat_tests}
-use Rattle.plans.specs.Below.wanted.Units.{is_of_kind, is_wide, is_wide_text, wide_texts_of}
+use Rattle.chart_plans.specs.WantedWords.Units.{is_of_kind, is_wide, is_wide_text, wide_texts_of}
 use Rattle.chart_rules.specs.Below.line_rules.FieldRules.Fields.{fields_of}
 use Rattle.chart_rules.specs.HelperOnCard.{IsOnCard}
 use Rattle.chart_rules.specs.Below.line_rules.PrintRules.Items.{item_of, mark_width, detail_item, text_item, total_item}
 use Rattle.chart_rules.specs.Below.line_rules.declared.print_rules.items.Item.{Item}
 use Rattle.chart_rules.specs.Below.line_rules.declared.print_rules.items.PrintedLine.TheVariants.{Body, Heading}
-use Rattle.charts.specs.declared.statement.BodyLine.TheVariants as body
+use Rattle.chart_lines.specs.declared.charts.statement.BodyLine.TheVariants as body
 use Rattle.chart_rules.specs.Below.line_rules.FieldRules.Names.{names_amount, names_text, is_unknown}
 use Rattle.chart_rules.specs.Rules.{breaks, IsLawful}
 use Rattle.chart_rules.specs.Below.line_rules.PrintRules.Tapes.{has_tape, is_tape_of, form_lines, rise_above, are_within}
 use Rattle.chart_rules.specs.Below.line_rules.PrintRules.Wheels.{is_off_wheels}
 use Rattle.chart_rules.specs.declared.rule.Rule.{Rule}
 use Rattle.chart_rules.specs.declared.rule.Rule.TheVariants as rule
-use Rattle.charts.specs.Chart.{Chart, NumbersRise}
-use Rattle.charts.proofs.Listed.{listed-cases, listed-none, listed-at, listed-given, any-passing}
-use Rattle.line_wires.specs.HelperItems.{HasWheels, DetailRanges}
-use Rattle.line_wires.specs.HelperRanges.{HasChannel}
-use Rattle.line_wires.specs.Below.wiring_table.Parts.{HasTotal}
+use Rattle.chart_lines.specs.ChartsWords.Chart.{Chart, NumbersRise}
+use Rattle.chart_lines.proofs.ChartsWords.Listed.{listed-cases, listed-none, listed-at, listed-given, any-passing}
+use Rattle.wiring_lines.specs.LineWires.HelperItems.{HasWheels, DetailRanges}
+use Rattle.wiring_lines.specs.LineWires.HelperRanges.{HasChannel}
+use Rattle.wiring_table.specs.Parts.{HasTotal}
 use Rattle.chart_rules.proofs.Laws.{kept-line, good-listed, good-field}
 use Rattle.chart_rules.specs.Below.line_rules.FieldRules.Fields.{field_of}
-use Rattle.line_wires.proofs.Below.wiring_table.Totals.{digits-grow, one-total, total-digits, total-of}
+use Rattle.wiring_table.proofs.Totals.{digits-grow, one-total, total-digits, total-of}
 use Rattle.wire_gen.proofs.KeptFields.{known-name, named-by, good-sign, wheels-within}
 use Rattle.wire_gen.proofs.KeptTotals.{counter-for}
 

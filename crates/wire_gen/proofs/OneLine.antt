@@ -1,15 +1,15 @@
 -- A setup with the tape, the jacks and the wires of one line of a chart is that of the line.
 use Rattle.std.proofs.Common.{◌≡◌, false, List, sym, ◌∙◌, subst}
-use Rattle.plans.specs.Plans.{Lists}
-use Rattle.charts.specs.declared.chart.Line.{Line}
-use Rattle.setups.specs.Tapes.{CarriageTape}
-use Rattle.setups.specs.Wiring.{Wiring, HasWire, is_plugged}
-use Rattle.setups.specs.Below.hubs.declared.hub.Hub.{Hub}
-use Rattle.setups.specs.Below.hubs.declared.jack.Jack.{Jack}
-use Rattle.line_wires.specs.HelperAdds.{Adds}
-use Rattle.jacks_and_tape.specs.HelperJacks.{Plugs}
-use Rattle.jacks_and_tape.specs.OfLine.{IsTapeOfLine, LineJack}
-use Rattle.line_wires.specs.Below.wiring_table.Wires.{LineWire}
+use Rattle.chart_plans.specs.PlansWords.Plans.{Lists}
+use Rattle.chart_lines.specs.declared.charts.chart.Line.{Line}
+use Rattle.hubs.specs.SetupsWords.Tapes.{CarriageTape}
+use Rattle.hubs.specs.SetupsWords.Wiring.{Wiring, HasWire, is_plugged}
+use Rattle.hubs.specs.declared.hub.Hub.{Hub}
+use Rattle.hubs.specs.declared.jack.Jack.{Jack}
+use Rattle.wiring_lines.specs.LineWires.HelperAdds.{Adds}
+use Rattle.wiring_lines.specs.JacksAndTape.HelperJacks.{Plugs}
+use Rattle.wiring_lines.specs.JacksAndTape.OfLine.{IsTapeOfLine, LineJack}
+use Rattle.wiring_table.specs.Wires.{LineWire}
 use Rattle.wire_gen.proofs.Whole.{all-there}
 use Rattle.wire_gen.specs.OfLine.{IsSetupOfLine}
 

@@ -1,16 +1,16 @@
 -- A setup with the tape, the jacks and the wires of a chart is wired for it.
 use Rattle.std.proofs.Common.{◌≡◌, ◌↔◌, inl, inr, false, true≢false, List, sym, ◌∙◌, subst}
-use Rattle.plans.specs.Plans.{Lists}
-use Rattle.charts.specs.declared.chart.Line.{Line}
-use Rattle.setups.specs.Tapes.{CarriageTape}
-use Rattle.setups.specs.Wiring.{Wiring, HasJack, HasWire, is_plugged}
-use Rattle.setups.specs.Below.hubs.declared.hub.Hub.{Hub}
-use Rattle.setups.specs.Below.hubs.declared.jack.Jack.{Jack}
-use Rattle.line_wires.specs.HelperAdds.{Adds}
-use Rattle.jacks_and_tape.specs.HelperJacks.{Plugs}
-use Rattle.line_wires.specs.Below.wiring_table.Jacks.{ChartJack}
-use Rattle.line_wires.specs.Below.wiring_table.Wires.{ChartWire}
-use Rattle.line_wires.specs.Below.wiring_table.WiredFor.{IsTapeOf, WiredFor}
+use Rattle.chart_plans.specs.PlansWords.Plans.{Lists}
+use Rattle.chart_lines.specs.declared.charts.chart.Line.{Line}
+use Rattle.hubs.specs.SetupsWords.Tapes.{CarriageTape}
+use Rattle.hubs.specs.SetupsWords.Wiring.{Wiring, HasJack, HasWire, is_plugged}
+use Rattle.hubs.specs.declared.hub.Hub.{Hub}
+use Rattle.hubs.specs.declared.jack.Jack.{Jack}
+use Rattle.wiring_lines.specs.LineWires.HelperAdds.{Adds}
+use Rattle.wiring_lines.specs.JacksAndTape.HelperJacks.{Plugs}
+use Rattle.wiring_table.specs.Jacks.{ChartJack}
+use Rattle.wiring_table.specs.Wires.{ChartWire}
+use Rattle.wiring_table.specs.WiredFor.{IsTapeOf, WiredFor}
 
 -- What is plugged and wired on a setup that has nothing is all that it has then.
 pub all-there : {jacks_of : Jack → Type 0} {wires_of : Hub → Hub → Type 0} {bare plugged wired : Wiring}

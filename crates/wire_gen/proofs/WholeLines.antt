@@ -1,29 +1,29 @@
 -- The wires of the lines of a chart, one by one and all together, are those of the table.
 use Rattle.std.proofs.Common.{ℕ, List, length, refl, sym}
 use Rattle.std.proofs.lemmas.Option.{get_or_from_slice_get, slice_get_read}
-use Rattle.plans.specs.Plans.{Lists}
-use Rattle.charts.specs.Headings.{heading_number}
-use Rattle.charts.specs.Levels.{level_number}
-use Rattle.charts.specs.declared.chart.Line.{Line}
-use Rattle.charts.specs.declared.statement.Statement.{Statement}
-use Rattle.charts.specs.declared.statement.Statement.TheVariants as says
-use Rattle.setups.specs.Below.hubs.declared.hub.Hub.{Hub}
-use Rattle.line_wires.specs.Below.wiring_table.Figures.{IsLiteral, on_heading, on_detail, on_total, detail_emitter, heading_emitter, total_emitter}
-use Rattle.line_wires.specs.Below.wiring_table.Figures as figures
-use Rattle.line_wires.specs.HelperAdds.{below, some}
+use Rattle.chart_plans.specs.PlansWords.Plans.{Lists}
+use Rattle.chart_lines.specs.ChartsWords.Headings.{heading_number}
+use Rattle.chart_lines.specs.ChartsWords.Levels.{level_number}
+use Rattle.chart_lines.specs.declared.charts.chart.Line.{Line}
+use Rattle.chart_lines.specs.declared.charts.statement.Statement.{Statement}
+use Rattle.chart_lines.specs.declared.charts.statement.Statement.TheVariants as says
+use Rattle.hubs.specs.declared.hub.Hub.{Hub}
+use Rattle.wiring_table.specs.Figures.{IsLiteral, on_heading, on_detail, on_total, detail_emitter, heading_emitter, total_emitter}
+use Rattle.wiring_table.specs.Figures as figures
+use Rattle.wiring_lines.specs.LineWires.HelperAdds.{below, some}
 use Rattle.wire_gen.specs.HelperKnown.{IsGood}
 use Rattle.wire_gen.specs.HelperLines.{StatementWires, WiresBefore}
-use Rattle.line_wires.specs.Below.wiring_table.Wires.{LineWire}
-use Rattle.line_wires.specs.Below.wiring_table.Wires as table
-use Rattle.setups.specs.Wiring.{Wiring}
-use Rattle.line_wires.specs.HelperAdds.{Adds}
-use Rattle.line_wires.specs.Below.wiring_table.Wires.{ChartWire}
+use Rattle.wiring_table.specs.Wires.{LineWire}
+use Rattle.wiring_table.specs.Wires as table
+use Rattle.hubs.specs.SetupsWords.Wiring.{Wiring}
+use Rattle.wiring_lines.specs.LineWires.HelperAdds.{Adds}
+use Rattle.wiring_table.specs.Wires.{ChartWire}
 use Rattle.wire_gen.proofs.AmountBack.{total-back}
 use Rattle.wire_gen.proofs.JoinAmount.{total-there}
 use Rattle.wire_gen.proofs.JoinDetail.{detail-there, detail-back}
 use Rattle.wire_gen.proofs.JoinLines.{field-there, field-back, literal-there, heading-back, detail_literal-back, total_literal-back, control-there, control-back, space-there, space-back, after-there, after-back}
 use Rattle.wire_gen.proofs.JoinTotal.{total_text-there, total_text-back}
-use Rattle.line_wires.proofs.Steps.{adds-as}
+use Rattle.wiring_lines.proofs.LineWires.Steps.{adds-as}
 
 module _ (lines : List Line) (plan : Lists) (number : ℕ) where
   there : (statement : Statement) → IsGood lines plan number statement → (exit to : Hub)

@@ -1,16 +1,16 @@
 -- A helper of the code: what is known of each line of a lawful chart and its plan.
 use Rattle.std.specs.Prelude.{◌≡◌, ℕ, ◌≤◌, List, Option, Some, None, length, false}
-use Rattle.plans.specs.Plans.{Lists}
+use Rattle.chart_plans.specs.PlansWords.Plans.{Lists}
 use Rattle.chart_rules.specs.Below.line_rules.FieldRules.Fields.{field_named}
 use Rattle.chart_rules.specs.HelperOnCard.{IsOnCard}
-use Rattle.charts.specs.Field.{columns_of, is_amount, sign_column}
-use Rattle.charts.specs.declared.chart.Line.{Line}
-use Rattle.charts.specs.declared.statement.Field.{Field}
-use Rattle.charts.specs.declared.statement.Statement.{Statement}
-use Rattle.charts.specs.declared.statement.Statement.TheVariants as says
-use Rattle.line_wires.specs.HelperItems.{HasWheels, IsGoodDetail}
-use Rattle.total_wires.specs.HelperTotals.{IsGoodTotal}
-use Rattle.line_wires.specs.HelperRanges.{HasChannel}
+use Rattle.chart_lines.specs.ChartsWords.Field.{columns_of, is_amount, sign_column}
+use Rattle.chart_lines.specs.declared.charts.chart.Line.{Line}
+use Rattle.chart_lines.specs.declared.charts.statement.Field.{Field}
+use Rattle.chart_lines.specs.declared.charts.statement.Statement.{Statement}
+use Rattle.chart_lines.specs.declared.charts.statement.Statement.TheVariants as says
+use Rattle.wiring_lines.specs.LineWires.HelperItems.{HasWheels, IsGoodDetail}
+use Rattle.wiring_totals.specs.HelperTotals.{IsGoodTotal}
+use Rattle.wiring_lines.specs.LineWires.HelperRanges.{HasChannel}
 
 -- a name stands for a field, which has some property
 abbrev pub IsNamed : Option Field → (Field → Type 0) → Type 0

@@ -1,20 +1,20 @@
 -- A helper of the code: the wires of a line of the chart as the code adds them.
 use Rattle.std.specs.Prelude.{ℕ, List, slice_get}
-use Rattle.plans.specs.Plans.{Lists}
+use Rattle.chart_plans.specs.PlansWords.Plans.{Lists}
 use Rattle.chart_rules.specs.Below.line_rules.FieldRules.Fields.{field_named}
-use Rattle.charts.specs.Headings.{heading_number}
-use Rattle.charts.specs.Levels.{level_number}
-use Rattle.charts.specs.declared.chart.Line.{Line}
-use Rattle.charts.specs.declared.statement.Statement.{Statement}
-use Rattle.charts.specs.declared.statement.Statement.TheVariants as says
-use Rattle.line_wires.specs.Below.wiring_table.Figures.{detail_emitter, heading_emitter, total_emitter}
-use Rattle.line_wires.specs.HelperAdds.{OfSome, Upto}
-use Rattle.line_wires.specs.HelperItems.{DetailWires, NoWires}
-use Rattle.total_wires.specs.HelperTotals.{TotalWires}
-use Rattle.line_wires.specs.HelperRows.{AfterWires, ComparedWires, LiteralWires, PickupWires, SpaceWires, Wires}
-use Rattle.total_wires.specs.HelperTotalRows.{TotalTextWires}
-use Rattle.line_wires.specs.Below.wiring_table.Parts.{counter_for, unit_for}
-use Rattle.line_wires.specs.Below.wiring_table.Wires.{LineWire}
+use Rattle.chart_lines.specs.ChartsWords.Headings.{heading_number}
+use Rattle.chart_lines.specs.ChartsWords.Levels.{level_number}
+use Rattle.chart_lines.specs.declared.charts.chart.Line.{Line}
+use Rattle.chart_lines.specs.declared.charts.statement.Statement.{Statement}
+use Rattle.chart_lines.specs.declared.charts.statement.Statement.TheVariants as says
+use Rattle.wiring_table.specs.Figures.{detail_emitter, heading_emitter, total_emitter}
+use Rattle.wiring_lines.specs.LineWires.HelperAdds.{OfSome, Upto}
+use Rattle.wiring_lines.specs.LineWires.HelperItems.{DetailWires, NoWires}
+use Rattle.wiring_totals.specs.HelperTotals.{TotalWires}
+use Rattle.wiring_lines.specs.LineWires.HelperRows.{AfterWires, ComparedWires, LiteralWires, PickupWires, SpaceWires, Wires}
+use Rattle.wiring_totals.specs.HelperTotalRows.{TotalTextWires}
+use Rattle.wiring_table.specs.Parts.{counter_for, unit_for}
+use Rattle.wiring_table.specs.Wires.{LineWire}
 
 -- the wires that a line of the chart gives, by its number and what it says
 abbrev pub StatementWires : List Line → Lists → ℕ → Statement → Wires

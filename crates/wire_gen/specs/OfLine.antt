@@ -1,12 +1,12 @@
 -- The setup of one line of a chart: the wires, the jacks and the stops that this line asks for.
 use Rattle.std.specs.Prelude.{◌↔◌, List}
-use Rattle.charts.specs.declared.chart.Line.{Line}
-use Rattle.setups.specs.Below.hubs.declared.hub.Hub.{Hub}
-use Rattle.setups.specs.Below.hubs.declared.jack.Jack.{Jack}
-use Rattle.jacks_and_tape.specs.OfLine.{IsTapeOfLine, LineJack}
-use Rattle.plans.specs.Plans.{Lists}
-use Rattle.setups.specs.Wiring.{Wiring, HasJack, HasWire}
-use Rattle.line_wires.specs.Below.wiring_table.Wires.{LineWire}
+use Rattle.chart_lines.specs.declared.charts.chart.Line.{Line}
+use Rattle.hubs.specs.declared.hub.Hub.{Hub}
+use Rattle.hubs.specs.declared.jack.Jack.{Jack}
+use Rattle.wiring_lines.specs.JacksAndTape.OfLine.{IsTapeOfLine, LineJack}
+use Rattle.chart_plans.specs.PlansWords.Plans.{Lists}
+use Rattle.hubs.specs.SetupsWords.Wiring.{Wiring, HasJack, HasWire}
+use Rattle.wiring_table.specs.Wires.{LineWire}
 
 -- exactly the wires, the jacks and the stops of a line of the chart, on the chart's form
 pub record IsSetupOfLine (lines : List Line) (plan : Lists) (line : Line) (setup : Wiring) : Type 0 where

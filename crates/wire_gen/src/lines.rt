@@ -3,24 +3,26 @@
 ghost use Rattle.std.specs.Prelude.{◌≡◌, ℕ, OnOk, Some, slice_get, length};
 ghost use Rattle.chart_rules.specs.Below.line_rules.FieldRules.Fields.{field_named};
 ghost use Rattle.chart_rules.specs.HelperOnCard.{IsOnCard};
-ghost use Rattle.charts.specs.declared.chart.Line.{Line};
-ghost use Rattle.line_wires.specs.HelperAdds.{Adds, OfSome};
-ghost use Rattle.line_wires.specs.HelperItems.{DetailWires, IsGoodDetail};
-ghost use Rattle.total_wires.specs.HelperTotals.{IsGoodTotal, TotalWires};
+ghost use Rattle.chart_lines.specs.declared.charts.chart.Line.{Line};
+ghost use Rattle.wiring_lines.specs.LineWires.HelperAdds.{Adds, OfSome};
+ghost use Rattle.wiring_lines.specs.LineWires.HelperItems.{DetailWires, IsGoodDetail};
+ghost use Rattle.wiring_totals.specs.HelperTotals.{IsGoodTotal, TotalWires};
 ghost use Rattle.wire_gen.specs.HelperKnown.{IsGood, IsGoodTotalText, IsNamed};
 ghost use Rattle.wire_gen.specs.HelperLines.{StatementWires, WiresBefore};
-ghost use Rattle.line_wires.specs.HelperRows.{ComparedWires};
-ghost use Rattle.total_wires.specs.HelperTotalRows.{TotalTextWires};
-ghost use Rattle.line_wires.specs.Below.wiring_table.Parts.{counter_for, unit_for};
-ghost use Rattle.line_wires.specs.Below.wiring_table.Wires.{LineWire};
+ghost use Rattle.wiring_lines.specs.LineWires.HelperRows.{ComparedWires};
+ghost use Rattle.wiring_totals.specs.HelperTotalRows.{TotalTextWires};
+ghost use Rattle.wiring_table.specs.Parts.{counter_for, unit_for};
+ghost use Rattle.wiring_table.specs.Wires.{LineWire};
 
+use chart_lines::charts::{ControlLevel, DetailOption, Level, Line, Name, Statement, TotalLine};
+use chart_plans::plans::Plan;
 use chart_rules::Chart;
-use charts::{ControlLevel, DetailOption, Level, Line, Name, Statement, TotalLine};
-use line_wires::{wire_after, wire_control, wire_detail, wire_literal, wire_pickup, wire_space};
-use plans::Plan;
-use setups::Setup;
+use hubs::setups::Setup;
 use std::alloc::AllocError;
-use total_wires::{wire_total, wire_total_text};
+use wiring_lines::line_wires::{
+    wire_after, wire_control, wire_detail, wire_literal, wire_pickup, wire_space,
+};
+use wiring_totals::{wire_total, wire_total_text};
 
 // Wires a control field.
 fn wire_control_line(

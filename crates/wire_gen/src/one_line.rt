@@ -1,16 +1,16 @@
 //! The wires of one line of a chart.
 
 ghost use Rattle.std.specs.Prelude.{Contains, IfOk};
-ghost use Rattle.plans.specs.Plans.{ServesChart};
+ghost use Rattle.chart_plans.specs.PlansWords.Plans.{ServesChart};
 ghost use Rattle.wire_gen.specs.OfLine.{IsSetupOfLine};
 
 use crate::lines::wire_line;
+use chart_lines::charts::Line;
+use chart_plans::plans::Plan;
 use chart_rules::Chart;
-use charts::Line;
-use jacks_and_tape::{line_tape, plug_line_jacks};
-use plans::Plan;
-use setups::Setup;
+use hubs::setups::Setup;
 use std::alloc::{AllocError, Global};
+use wiring_lines::jacks_and_tape::{line_tape, plug_line_jacks};
 
 /// The setup of one line of a chart alone: exactly the wires, the jacks and the stops that the line asks for, on the chart's form. Its
 /// only refusal is memory.

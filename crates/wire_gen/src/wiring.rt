@@ -1,15 +1,15 @@
 //! Wiring a setup for a chart and its plan.
 
 ghost use Rattle.std.specs.Prelude.{IfOk};
-ghost use Rattle.plans.specs.Plans.{ServesChart};
-ghost use Rattle.line_wires.specs.Below.wiring_table.WiredFor.{WiredFor};
+ghost use Rattle.chart_plans.specs.PlansWords.Plans.{ServesChart};
+ghost use Rattle.wiring_table.specs.WiredFor.{WiredFor};
 
 use crate::lines::wire_lines;
+use chart_plans::plans::Plan;
 use chart_rules::Chart;
-use jacks_and_tape::{plug_jacks, tape_of};
-use plans::Plan;
-use setups::Setup;
+use hubs::setups::Setup;
 use std::alloc::{AllocError, Global};
+use wiring_lines::jacks_and_tape::{plug_jacks, tape_of};
 
 /// The setup that is wired for a chart by its plan: exactly the wires, jacks and tape that they ask for. Its only refusal is
 /// memory.

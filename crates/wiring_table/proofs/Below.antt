@@ -1,6 +1,6 @@
-pub use Rattle.plans.proofs.Below.chart_rules
-pub use Rattle.plans.proofs.Below.charts
-pub use Rattle.report.proofs.Below.line_rules
-pub use Rattle.plans.proofs as plans
-pub use Rattle.report.proofs as report
-pub use Rattle.setups.proofs as setups
+pub use Rattle.chart_rules.proofs
+pub use Rattle.chart_lines.proofs.ChartsWords
+pub use Rattle.report_definition.proofs.Below.line_rules
+pub use Rattle.chart_plans.proofs.PlansWords as plans
+pub use Rattle.report_definition.proofs as report
+pub use Rattle.hubs.proofs.SetupsWords as setups

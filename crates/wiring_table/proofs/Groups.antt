@@ -2,23 +2,23 @@
 use Rattle.std.proofs.Common.{◌≡◌, ◌∙◌, refl, sym, ap, subst, ℕ, ◌-◌, ◌<◌, ◌≤◌, ◌==◌, nat_le, Bool, true, false, List, Option, Some, None, option_map, option_and_then, position, slice_get, get_or, inl, inr, arith}
 use Rattle.std.proofs.lemmas.Bool.Decides.{nat_tests}
 use Rattle.std.proofs.lemmas.Option.{slice_get_within, slice_get-get_or, same_Some}
-use Rattle.plans.specs.Below.capacity.Capacities.{HasGroup, standard}
-use Rattle.plans.specs.Below.capacity.declared.group.CounterGroup.{CounterGroup}
-use Rattle.plans.specs.Below.charts.Chart.{NumbersRise}
-use Rattle.plans.specs.Below.charts.declared.chart.Line.{Line}
-use Rattle.plans.specs.Below.charts.declared.statement.Statement.{Statement}
-use Rattle.plans.specs.Below.charts.declared.statement.Statement.TheVariants as says
-use Rattle.plans.proofs.Below.charts.Listed.{given-by, listed-at, listed-given, position-passing, position-stands}
-use Rattle.plans.proofs.Below.charts.Rising.{one-line}
-use Rattle.report.proofs.Below.line_rules.FieldRules.Places.{is_same_name-equal}
-use Rattle.report.specs.Below.line_rules.FieldRules.Fields.{field_named}
-use Rattle.setups.specs.Below.hubs.declared.hub.Group.{Group}
-use Rattle.plans.specs.Counters.{HasCounter, IsEnoughFor, IsGroupOf, SharesGroup, single_group}
-use Rattle.plans.specs.Plans.{Lists, ServesChart}
-use Rattle.plans.specs.declared.counter.TotalCounter.{TotalCounter}
-use Rattle.plans.specs.declared.counter.TotalCounter.TheVariants as of
-use Rattle.plans.specs.Below.wanted.ChartTotals.{need_of, line_total, totals_of}
-use Rattle.plans.specs.Below.wanted.declared.total.Total.{Total}
+use Rattle.capacity.specs.Capacities.{HasGroup, standard}
+use Rattle.capacity.specs.declared.group.CounterGroup.{CounterGroup}
+use Rattle.chart_lines.specs.ChartsWords.Chart.{NumbersRise}
+use Rattle.chart_lines.specs.declared.charts.chart.Line.{Line}
+use Rattle.chart_lines.specs.declared.charts.statement.Statement.{Statement}
+use Rattle.chart_lines.specs.declared.charts.statement.Statement.TheVariants as says
+use Rattle.chart_lines.proofs.ChartsWords.Listed.{given-by, listed-at, listed-given, position-passing, position-stands}
+use Rattle.chart_lines.proofs.ChartsWords.Rising.{one-line}
+use Rattle.report_definition.proofs.Below.line_rules.FieldRules.Places.{is_same_name-equal}
+use Rattle.report_definition.specs.Below.line_rules.FieldRules.Fields.{field_named}
+use Rattle.hubs.specs.declared.hub.Group.{Group}
+use Rattle.chart_plans.specs.PlansWords.Counters.{HasCounter, IsEnoughFor, IsGroupOf, SharesGroup, single_group}
+use Rattle.chart_plans.specs.PlansWords.Plans.{Lists, ServesChart}
+use Rattle.chart_plans.specs.declared.plans.counter.TotalCounter.{TotalCounter}
+use Rattle.chart_plans.specs.declared.plans.counter.TotalCounter.TheVariants as of
+use Rattle.chart_plans.specs.WantedWords.ChartTotals.{need_of, line_total, totals_of}
+use Rattle.chart_plans.specs.declared.wanted.total.Total.{Total}
 use Rattle.wiring_table.specs.Parts.{HasPanelGroup, HasTotal, ServesPosition, ServesTotal, StandsAt, counter_for, group_for, panel_group, top_for, top_group}
 
 -- The total of a line, by its number, and its counter.

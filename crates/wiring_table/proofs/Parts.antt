@@ -3,30 +3,30 @@ use Rattle.std.proofs.Common.{◌≡◌, ◌∙◌, refl, sym, ap, subst, ℕ, �
 use Rattle.std.specs.List.{Contains, flat_map, range_with_len}
 use Rattle.std.proofs.lemmas.Bool.{and_parts}
 use Rattle.std.proofs.lemmas.Bool.Decides.{nat_tests}
-use Rattle.plans.specs.Below.charts.Field.{columns_of, sign_column}
-use Rattle.plans.specs.Below.charts.Levels.{control_number}
-use Rattle.plans.specs.Below.charts.Name.{is_same_name}
-use Rattle.plans.specs.Below.charts.declared.chart.Line.{Line}
-use Rattle.plans.specs.Below.charts.declared.level.ControlLevel.{ControlLevel}
-use Rattle.plans.specs.Below.charts.declared.level.ControlLevel.TheVariants as control
-use Rattle.plans.specs.Below.charts.declared.level.Level.{Level}
-use Rattle.plans.specs.Below.charts.declared.statement.DetailOption.{DetailOption}
-use Rattle.plans.specs.Below.charts.declared.statement.DetailOption.TheVariants as shown
-use Rattle.plans.specs.Below.charts.declared.statement.Field.{Field}
-use Rattle.plans.specs.Below.charts.declared.statement.Statement.TheVariants as says
-use Rattle.plans.proofs.Below.charts.Listed.{any-listed, listed-filter, listed-map, listed-parts, listed-range}
-use Rattle.plans.proofs.Below.chart_rules.Laws.{field-line}
-use Rattle.report.proofs.Below.line_rules.FieldRules.Places.{is_same_name-equal, is_same_name-own}
-use Rattle.report.specs.Below.line_rules.FieldRules.Fields.{field_named, fields_of}
-use Rattle.plans.proofs.Numbers.{HasNumber, both-stand, number-given, number-there}
-use Rattle.plans.specs.PartNumbers.{AreNumbers, number_for, numbers_of}
-use Rattle.plans.specs.declared.part_numbers.PartKind.TheVariants as kind
-use Rattle.plans.specs.Plans.{Lists, ServesChart}
-use Rattle.plans.specs.Below.wanted.Pilots.{prints_name, pilots_of, shows, wants_pilot}
-use Rattle.plans.specs.Below.wanted.Positions.{compared_field, field_used, indicated_field, is_same_position, positions_for}
-use Rattle.plans.specs.Below.wanted.Units.{has_inside_sign, is_inside, is_of_kind, is_split_amount, is_total_text}
-use Rattle.plans.specs.Below.wanted.Wanted.{Parts, indicate_at}
-use Rattle.plans.specs.Below.wanted.declared.position.Position.{Position}
+use Rattle.chart_lines.specs.ChartsWords.Field.{columns_of, sign_column}
+use Rattle.chart_lines.specs.ChartsWords.Levels.{control_number}
+use Rattle.chart_lines.specs.ChartsWords.Name.{is_same_name}
+use Rattle.chart_lines.specs.declared.charts.chart.Line.{Line}
+use Rattle.chart_lines.specs.declared.charts.level.ControlLevel.{ControlLevel}
+use Rattle.chart_lines.specs.declared.charts.level.ControlLevel.TheVariants as control
+use Rattle.chart_lines.specs.declared.charts.level.Level.{Level}
+use Rattle.chart_lines.specs.declared.charts.statement.DetailOption.{DetailOption}
+use Rattle.chart_lines.specs.declared.charts.statement.DetailOption.TheVariants as shown
+use Rattle.chart_lines.specs.declared.charts.statement.Field.{Field}
+use Rattle.chart_lines.specs.declared.charts.statement.Statement.TheVariants as says
+use Rattle.chart_lines.proofs.ChartsWords.Listed.{any-listed, listed-filter, listed-map, listed-parts, listed-range}
+use Rattle.chart_rules.proofs.Laws.{field-line}
+use Rattle.report_definition.proofs.Below.line_rules.FieldRules.Places.{is_same_name-equal, is_same_name-own}
+use Rattle.report_definition.specs.Below.line_rules.FieldRules.Fields.{field_named, fields_of}
+use Rattle.chart_plans.proofs.PlansWords.Numbers.{HasNumber, both-stand, number-given, number-there}
+use Rattle.chart_plans.specs.PlansWords.PartNumbers.{AreNumbers, number_for, numbers_of}
+use Rattle.chart_plans.specs.declared.plans.part_numbers.PartKind.TheVariants as kind
+use Rattle.chart_plans.specs.PlansWords.Plans.{Lists, ServesChart}
+use Rattle.chart_plans.specs.WantedWords.Pilots.{prints_name, pilots_of, shows, wants_pilot}
+use Rattle.chart_plans.specs.WantedWords.Positions.{compared_field, field_used, indicated_field, is_same_position, positions_for}
+use Rattle.chart_plans.specs.WantedWords.Units.{has_inside_sign, is_inside, is_of_kind, is_split_amount, is_total_text}
+use Rattle.chart_plans.specs.WantedWords.Wanted.{Parts, indicate_at}
+use Rattle.chart_plans.specs.declared.wanted.position.Position.{Position}
 use Rattle.wiring_table.specs.Parts.{column_on, comparing_for, indicate_for, pilot_for, split_for, unit_for}
 
 -- a storage unit or a split serves one line

@@ -1,8 +1,8 @@
-pub use Rattle.plans.specs.Below.capacity
-pub use Rattle.plans.specs.Below.chart_rules
-pub use Rattle.plans.specs.Below.charts
-pub use Rattle.report.specs.Below.line_rules
-pub use Rattle.plans.specs as plans
-pub use Rattle.report.specs as report
-pub use Rattle.setups.specs as setups
-pub use Rattle.plans.specs.Below.wanted
+pub use Rattle.capacity.specs
+pub use Rattle.chart_rules.specs
+pub use Rattle.chart_lines.specs.ChartsWords
+pub use Rattle.report_definition.specs.Below.line_rules
+pub use Rattle.chart_plans.specs.PlansWords as plans
+pub use Rattle.report_definition.specs as report
+pub use Rattle.hubs.specs.SetupsWords as setups
+pub use Rattle.chart_plans.specs.WantedWords

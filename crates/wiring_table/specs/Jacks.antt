@@ -1,11 +1,11 @@
 -- The jacks of a chart: which cycles print, and zero control on the wheels of amounts.
 use Rattle.std.specs.Prelude.{◌≡◌, ℕ, ◌+◌, ◌<◌, ◌≤◌, List, Contains, true}
-use Rattle.report.specs.Below.line_rules.PrintRules.Items.{figure_width}
-use Rattle.report.specs.Below.line_rules.declared.print_rules.items.Figure.{Figure}
-use Rattle.plans.specs.Below.charts.declared.chart.Line.{Line}
-use Rattle.setups.specs.Below.hubs.declared.jack.Jack.{Jack}
-use Rattle.setups.specs.Below.hubs.declared.jack.Jack.TheVariants as jack
-use Rattle.report.specs.ChartForm.{heading_count, prints_details, prints_totals}
+use Rattle.report_definition.specs.Below.line_rules.PrintRules.Items.{figure_width}
+use Rattle.report_definition.specs.Below.line_rules.declared.print_rules.items.Figure.{Figure}
+use Rattle.chart_lines.specs.declared.charts.chart.Line.{Line}
+use Rattle.hubs.specs.declared.jack.Jack.{Jack}
+use Rattle.hubs.specs.declared.jack.Jack.TheVariants as jack
+use Rattle.report_definition.specs.ChartForm.{heading_count, prints_details, prints_totals}
 use Rattle.wiring_table.specs.Figures.{IsFigure, mark_wheel, free_digits}
 
 -- Some line of the chart puts an amount on a line of the report, from a wheel on.

@@ -1,30 +1,30 @@
 -- Which parts of the machine serve what of a chart, by its plan, and which totals of an amount come one above the other.
 use Rattle.std.specs.Prelude.{◌≡◌, ℕ, ◌+◌, ◌<◌, ◌≤◌, ◌==◌, ◌&&◌, Bool, List, Contains, Option, Some, find, option_and_then, option_map, true, false, ◌⊎◌}
-use Rattle.plans.specs.Below.wanted.ChartTotals.{totals_of}
-use Rattle.plans.specs.Counters.{single_group}
-use Rattle.plans.specs.PartNumbers.{number_for, numbers_of}
-use Rattle.plans.specs.Plans.{Lists, counter_on}
-use Rattle.plans.specs.declared.counter.TotalCounter.{TotalCounter}
-use Rattle.plans.specs.declared.part_numbers.PartKind.TheVariants.{Indicate}
-use Rattle.plans.specs.declared.counter.TotalCounter.TheVariants as of
-use Rattle.plans.specs.Below.wanted.Positions.{is_same_position}
-use Rattle.plans.specs.Below.wanted.Wanted.{indicate_at}
-use Rattle.plans.specs.Below.wanted.declared.position.Position.{Position}
-use Rattle.plans.specs.Below.capacity.declared.group.CounterGroup.{CounterGroup}
-use Rattle.plans.specs.Below.charts.Levels.{level_number}
-use Rattle.plans.specs.Below.charts.Name.{is_same_name}
-use Rattle.plans.specs.Below.charts.declared.chart.Line.{Line}
-use Rattle.plans.specs.Below.charts.declared.level.ControlLevel.{ControlLevel}
-use Rattle.plans.specs.Below.charts.declared.statement.BodyLine.{BodyLine}
-use Rattle.plans.specs.Below.charts.declared.statement.BodyLine.TheVariants as body
-use Rattle.plans.specs.Below.charts.declared.statement.SignRule.{SignRule}
-use Rattle.plans.specs.Below.charts.declared.statement.SignRule.TheVariants as sign
-use Rattle.plans.specs.Below.charts.declared.statement.Statement.{Statement}
-use Rattle.plans.specs.Below.charts.declared.statement.Statement.TheVariants as says
-use Rattle.plans.specs.Below.charts.declared.statement.TotalLine.{TotalLine}
-use Rattle.setups.specs.Below.hubs.declared.hub.Group.{Group}
-use Rattle.setups.specs.Below.hubs.declared.hub.Hub.{Hub}
-use Rattle.setups.specs.Below.hubs.declared.hub.Hub.TheVariants.{CC, PIN, PIT, PX}
+use Rattle.chart_plans.specs.WantedWords.ChartTotals.{totals_of}
+use Rattle.chart_plans.specs.PlansWords.Counters.{single_group}
+use Rattle.chart_plans.specs.PlansWords.PartNumbers.{number_for, numbers_of}
+use Rattle.chart_plans.specs.PlansWords.Plans.{Lists, counter_on}
+use Rattle.chart_plans.specs.declared.plans.counter.TotalCounter.{TotalCounter}
+use Rattle.chart_plans.specs.declared.plans.part_numbers.PartKind.TheVariants.{Indicate}
+use Rattle.chart_plans.specs.declared.plans.counter.TotalCounter.TheVariants as of
+use Rattle.chart_plans.specs.WantedWords.Positions.{is_same_position}
+use Rattle.chart_plans.specs.WantedWords.Wanted.{indicate_at}
+use Rattle.chart_plans.specs.declared.wanted.position.Position.{Position}
+use Rattle.capacity.specs.declared.group.CounterGroup.{CounterGroup}
+use Rattle.chart_lines.specs.ChartsWords.Levels.{level_number}
+use Rattle.chart_lines.specs.ChartsWords.Name.{is_same_name}
+use Rattle.chart_lines.specs.declared.charts.chart.Line.{Line}
+use Rattle.chart_lines.specs.declared.charts.level.ControlLevel.{ControlLevel}
+use Rattle.chart_lines.specs.declared.charts.statement.BodyLine.{BodyLine}
+use Rattle.chart_lines.specs.declared.charts.statement.BodyLine.TheVariants as body
+use Rattle.chart_lines.specs.declared.charts.statement.SignRule.{SignRule}
+use Rattle.chart_lines.specs.declared.charts.statement.SignRule.TheVariants as sign
+use Rattle.chart_lines.specs.declared.charts.statement.Statement.{Statement}
+use Rattle.chart_lines.specs.declared.charts.statement.Statement.TheVariants as says
+use Rattle.chart_lines.specs.declared.charts.statement.TotalLine.{TotalLine}
+use Rattle.hubs.specs.declared.hub.Group.{Group}
+use Rattle.hubs.specs.declared.hub.Hub.{Hub}
+use Rattle.hubs.specs.declared.hub.Hub.TheVariants.{CC, PIN, PIT, PX}
 
 -- a counter group of the plan as a group of the panel
 abbrev pub panel_group : CounterGroup → Group

@@ -1,12 +1,12 @@
 -- Wired for a chart and its plan: a setup of the panel has the wires, the jacks and the tape that they ask for, and no others.
 use Rattle.std.specs.Prelude.{◌≡◌, ◌↔◌, ℕ, List, Contains, true}
-use Rattle.plans.specs.Plans.{Lists}
-use Rattle.plans.specs.Below.charts.declared.chart.Line.{Line}
-use Rattle.setups.specs.Tapes.{CarriageTape, has_stop}
-use Rattle.setups.specs.Wiring.{Wiring, HasWire, HasJack}
-use Rattle.setups.specs.Below.hubs.declared.hub.Hub.{Hub}
-use Rattle.setups.specs.Below.hubs.declared.jack.Jack.{Jack}
-use Rattle.report.specs.ChartForm.{form_of, stops_of}
+use Rattle.chart_plans.specs.PlansWords.Plans.{Lists}
+use Rattle.chart_lines.specs.declared.charts.chart.Line.{Line}
+use Rattle.hubs.specs.SetupsWords.Tapes.{CarriageTape, has_stop}
+use Rattle.hubs.specs.SetupsWords.Wiring.{Wiring, HasWire, HasJack}
+use Rattle.hubs.specs.declared.hub.Hub.{Hub}
+use Rattle.hubs.specs.declared.jack.Jack.{Jack}
+use Rattle.report_definition.specs.ChartForm.{form_of, stops_of}
 use Rattle.wiring_table.specs.Jacks.{ChartJack}
 use Rattle.wiring_table.specs.Wires.{ChartWire}
 

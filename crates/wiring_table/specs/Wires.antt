@@ -1,29 +1,29 @@
 -- The wires of a chart, by its plan: for each line of the chart the wires that it gives, and no others.
 use Rattle.std.specs.Prelude.{◌≡◌, ◌≢◌, ℕ, ◌+◌, ◌-◌, ◌<◌, ◌≤◌, List, Contains, Some}
-use Rattle.plans.specs.Below.capacity.declared.group.CounterGroup.{CounterGroup}
-use Rattle.plans.specs.Plans.{Lists}
-use Rattle.plans.specs.declared.counter.TotalCounter.TheVariants as of
-use Rattle.report.specs.Below.line_rules.FieldRules.Fields.{field_named}
-use Rattle.report.specs.Below.line_rules.declared.print_rules.items.Figure.{Figure}
-use Rattle.plans.specs.Below.charts.Field.{columns_of, decimals_of, column_of_rule, sign_column}
-use Rattle.plans.specs.Below.charts.Levels.{control_number, level_number}
-use Rattle.plans.specs.Below.charts.declared.chart.Line.{Line}
-use Rattle.plans.specs.Below.charts.declared.level.ControlLevel.{ControlLevel}
-use Rattle.plans.specs.Below.charts.declared.level.Level.{Level}
-use Rattle.plans.specs.Below.charts.declared.spacing.Spacing.TheVariants as spacing
-use Rattle.plans.specs.Below.charts.declared.statement.After.TheVariants as action
-use Rattle.plans.specs.Below.charts.declared.statement.BodyLine.{BodyLine}
-use Rattle.plans.specs.Below.charts.declared.statement.DetailOption.{DetailOption}
-use Rattle.plans.specs.Below.charts.declared.statement.DetailOption.TheVariants as shown
-use Rattle.plans.specs.Below.charts.declared.statement.Field.{Field}
-use Rattle.plans.specs.Below.charts.declared.statement.Mark.{Mark}
-use Rattle.plans.specs.Below.charts.declared.statement.SignRule.{SignRule}
-use Rattle.plans.specs.Below.charts.declared.statement.Statement.{Statement}
-use Rattle.plans.specs.Below.charts.declared.statement.TotalLine.{TotalLine}
-use Rattle.plans.specs.Below.charts.declared.statement.Statement.TheVariants as says
-use Rattle.setups.specs.Below.hubs.declared.hub.Group.{Group}
-use Rattle.setups.specs.Below.hubs.declared.hub.Hub.{Hub}
-use Rattle.setups.specs.Below.hubs.declared.hub.Hub.TheVariants.{FR, SR, CX, GX, CO, BAN, BAT, SX, IX, CSD, EM, CC, PX, CA, CB, GE, PL, MI, RO, BT, CI, BAC, PIC, PIX, SE, SI, SO, IE, CSE, W, ST, SP, SK, RS}
+use Rattle.capacity.specs.declared.group.CounterGroup.{CounterGroup}
+use Rattle.chart_plans.specs.PlansWords.Plans.{Lists}
+use Rattle.chart_plans.specs.declared.plans.counter.TotalCounter.TheVariants as of
+use Rattle.report_definition.specs.Below.line_rules.FieldRules.Fields.{field_named}
+use Rattle.report_definition.specs.Below.line_rules.declared.print_rules.items.Figure.{Figure}
+use Rattle.chart_lines.specs.ChartsWords.Field.{columns_of, decimals_of, column_of_rule, sign_column}
+use Rattle.chart_lines.specs.ChartsWords.Levels.{control_number, level_number}
+use Rattle.chart_lines.specs.declared.charts.chart.Line.{Line}
+use Rattle.chart_lines.specs.declared.charts.level.ControlLevel.{ControlLevel}
+use Rattle.chart_lines.specs.declared.charts.level.Level.{Level}
+use Rattle.chart_lines.specs.declared.charts.spacing.Spacing.TheVariants as spacing
+use Rattle.chart_lines.specs.declared.charts.statement.After.TheVariants as action
+use Rattle.chart_lines.specs.declared.charts.statement.BodyLine.{BodyLine}
+use Rattle.chart_lines.specs.declared.charts.statement.DetailOption.{DetailOption}
+use Rattle.chart_lines.specs.declared.charts.statement.DetailOption.TheVariants as shown
+use Rattle.chart_lines.specs.declared.charts.statement.Field.{Field}
+use Rattle.chart_lines.specs.declared.charts.statement.Mark.{Mark}
+use Rattle.chart_lines.specs.declared.charts.statement.SignRule.{SignRule}
+use Rattle.chart_lines.specs.declared.charts.statement.Statement.{Statement}
+use Rattle.chart_lines.specs.declared.charts.statement.TotalLine.{TotalLine}
+use Rattle.chart_lines.specs.declared.charts.statement.Statement.TheVariants as says
+use Rattle.hubs.specs.declared.hub.Group.{Group}
+use Rattle.hubs.specs.declared.hub.Hub.{Hub}
+use Rattle.hubs.specs.declared.hub.Hub.TheVariants.{FR, SR, CX, GX, CO, BAN, BAT, SX, IX, CSD, EM, CC, PX, CA, CB, GE, PL, MI, RO, BT, CI, BAC, PIC, PIX, SE, SI, SO, IE, CSE, W, ST, SP, SK, RS}
 use Rattle.wiring_table.specs.Figures.{IsText, IsAmount, IsSigned, IsUnsigned, IsLiteral, IsFigure, HasPunch, HasPunchAt, rule_of, digit_wheel, point_wheel, mark_wheel, mark_text, detail_emitter, total_emitter}
 use Rattle.wiring_table.specs.Parts.{IsLowest, IsNextHigher, ServesPosition, ServesTotal, counter_for, group_for, top_for, panel_group, pilot_for, comparing_for, indicate_for, split_for, unit_for, negative_side, positive_side, source_of}
 

@@ -1,14 +1,14 @@
 -- Hubs as they are written: letters, and after each of its numbers' points the number.
 use Rattle.std.specs.Prelude.{◌≡◌, ℕ, List, [], ◌∷◌, ◌++◌, Bool, true, false, Option}
-use Rattle.hub_table.specs.HubTable.{row_of}
+use Rattle.hubs.specs.HubTable.HubTable.{row_of}
 use Rattle.hubs.specs.Hubs.{letters_of, numbers_of, hub_named}
-use Rattle.hub_table.specs.Places.{has_as_many}
+use Rattle.hubs.specs.HubTable.Places.{has_as_many}
 use Rattle.hubs.specs.declared.hub.Hub.{Hub}
-use Rattle.hub_table.specs.declared.letters.Letters.{Letters}
-use Rattle.hub_table.specs.declared.letters.Letters.TheVariants as kind
-use Rattle.hub_table.specs.declared.shape.Numbers.{Numbers}
-use Rattle.hub_table.specs.declared.shape.Numbers.TheVariants.{Bare, One, Two, Three}
-use Rattle.tokens.specs.Number.{IsNumber}
+use Rattle.hubs.specs.declared.hub_table.letters.Letters.{Letters}
+use Rattle.hubs.specs.declared.hub_table.letters.Letters.TheVariants as kind
+use Rattle.hubs.specs.declared.hub_table.shape.Numbers.{Numbers}
+use Rattle.hubs.specs.declared.hub_table.shape.Numbers.TheVariants.{Bare, One, Two, Three}
+use Rattle.chart_lines.specs.TokensWords.Number.{IsNumber}
 use Rattle.wiring_text.specs.declared.statement.HubName.{HubName}
 
 -- a point and a number

@@ -2,13 +2,13 @@
 use Rattle.std.specs.Prelude.{◌≡◌, ◌≢◌, ℕ, ◌≤◌, List, [], ◌∷◌, ◌||◌, not, Bool, true, Option, Some, None, codes, if◌then◌else◌}
 use Rattle.hubs.specs.Carries.{do_wires_agree, keeps_carry}
 use Rattle.hubs.specs.Hubs.{is_exit_hub, is_entry_hub}
-use Rattle.hub_table.specs.Ranges.{is_within}
-use Rattle.setups.specs.declared.fault.SetupFault.{SetupFault}
-use Rattle.setups.specs.declared.fault.SetupFault.TheVariants.{NotExit, NotEntry, CarryRing, TapeFault}
+use Rattle.hubs.specs.HubTable.Ranges.{is_within}
+use Rattle.hubs.specs.declared.setups.fault.SetupFault.{SetupFault}
+use Rattle.hubs.specs.declared.setups.fault.SetupFault.TheVariants.{NotExit, NotEntry, CarryRing, TapeFault}
 use Rattle.hubs.specs.declared.hub.Hub.{Hub}
 use Rattle.hubs.specs.declared.jack.Jack.{Jack}
 use Rattle.hubs.specs.declared.jack.Jack.TheVariants as jacks
-use Rattle.tokens.specs.Number.{IsNumber, IsNumberTo}
+use Rattle.chart_lines.specs.TokensWords.Number.{IsNumber, IsNumberTo}
 use Rattle.wiring_text.specs.HubNames.{IsGroup, IsHubName, carry_entry, carry_exit, hub_of, is_carry}
 use Rattle.wiring_text.specs.declared.statement.HubName.{HubName}
 use Rattle.wiring_text.specs.declared.statement.Statement.{Statement}

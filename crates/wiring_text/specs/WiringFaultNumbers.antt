@@ -1,6 +1,6 @@
 -- The numbers by which the faults of wiring charts are told.
 use Rattle.std.specs.Prelude.{ℕ, Option, Some, None}
-use Rattle.setups.specs.SetupFaults.{setup_fault_number}
+use Rattle.hubs.specs.SetupsWords.SetupFaults.{setup_fault_number}
 use Rattle.wiring_text.specs.declared.fault.WiringFault.{WiringFault}
 use Rattle.wiring_text.specs.declared.fault.WiringFault.TheVariants.{TooLarge, NoFirstLine, NotALine, LineTwice, Unfit, NoEnd, Memory}
 

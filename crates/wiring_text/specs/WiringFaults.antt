@@ -3,12 +3,12 @@
 -- before, and whether the panel can have what it says.
 use Rattle.std.specs.Prelude.{◌≡◌, ℕ, ◌<◌, ◌≤◌, false, List, length, ◌⊎◌, Some, None}
 use Rattle.card_code.specs.Lines.{lines_of}
-use Rattle.setups.specs.Tapes.{IsFormed}
-use Rattle.setups.specs.declared.fault.SetupFault.{SetupFault}
-use Rattle.setups.specs.declared.fault.SetupFault.TheVariants.{CarryRing, TapeFault}
-use Rattle.tokens.specs.Frame as frame
-pub use Rattle.tokens.specs.Frame.{line_at}
-use Rattle.tokens.specs.Frame.{IsLineFrom, LacksEnd}
+use Rattle.hubs.specs.SetupsWords.Tapes.{IsFormed}
+use Rattle.hubs.specs.declared.setups.fault.SetupFault.{SetupFault}
+use Rattle.hubs.specs.declared.setups.fault.SetupFault.TheVariants.{CarryRing, TapeFault}
+use Rattle.chart_lines.specs.TokensWords.Frame as frame
+pub use Rattle.chart_lines.specs.TokensWords.Frame.{line_at}
+use Rattle.chart_lines.specs.TokensWords.Frame.{IsLineFrom, LacksEnd}
 use Rattle.wiring_text.specs.Statements.{do_statements_agree, statement_fault}
 use Rattle.wiring_text.specs.WiringText.{IsFirstLine, IsFormLine, SaysLine, IsTooLarge}
 use Rattle.wiring_text.specs.declared.statement.FormNumbers.{FormNumbers}

@@ -4,15 +4,15 @@
 use Rattle.std.specs.Prelude.{◌≡◌, ◌≢◌, ◌↔◌, ℕ, true, List, [], ◌∷◌, All, AllPairs, Contains, None, codes}
 use Rattle.std.specs.List.{AllByRecursion}
 use Rattle.card_code.specs.Lines.{lines_of}
-use Rattle.setups.specs.Tapes.{IsFormed, has_stop}
-pub use Rattle.setups.specs.Wiring.{IsSameSetup}
-use Rattle.setups.specs.Wiring.{Wiring, HasWire, HasJack}
+use Rattle.hubs.specs.SetupsWords.Tapes.{IsFormed, has_stop}
+pub use Rattle.hubs.specs.SetupsWords.Wiring.{IsSameSetup}
+use Rattle.hubs.specs.SetupsWords.Wiring.{Wiring, HasWire, HasJack}
 use Rattle.hubs.specs.declared.hub.Hub.{Hub}
 use Rattle.hubs.specs.declared.jack.Jack.{Jack}
-pub use Rattle.tokens.specs.Frame.{IsEmptyLine, IsEndLine}
-use Rattle.tokens.specs.Frame.{IsLarger, IsTitleLine}
-use Rattle.tokens.specs.Number.{IsNumber}
-use Rattle.tokens.specs.Tokens.{HasTokens}
+pub use Rattle.chart_lines.specs.TokensWords.Frame.{IsEmptyLine, IsEndLine}
+use Rattle.chart_lines.specs.TokensWords.Frame.{IsLarger, IsTitleLine}
+use Rattle.chart_lines.specs.TokensWords.Number.{IsNumber}
+use Rattle.chart_lines.specs.TokensWords.Tokens.{HasTokens}
 use Rattle.wiring_text.specs.HubNames.{name_of}
 use Rattle.wiring_text.specs.Statements.{Says, do_statements_agree, statement_fault}
 use Rattle.wiring_text.specs.declared.statement.FormNumbers.{FormNumbers}

@@ -4,7 +4,7 @@ ghost use Rattle.std.specs.Prelude.{◌≡◌};
 ghost use Rattle.wiring_text.specs.WiringFaultNumbers.{wiring_fault_number, faulty_line, cause_number};
 ghost use Rattle.wiring_text.specs.declared.fault.WiringFault.TheVariants.{Memory};
 
-use setups::SetupFault;
+use hubs::setups::SetupFault;
 use std::alloc::AllocError;
 use thiserror::Error;
 

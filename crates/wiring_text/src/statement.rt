@@ -1,7 +1,7 @@
 //! What a line of a wiring chart says.
 
-use hub_table::{Letters, Numbers};
 use hubs::Jack;
+use hubs::hub_table::{Letters, Numbers};
 
 /// A hub as it is written: its letters and as many numbers as hubs of these letters have, each 0 to 999.
 #[derive(Clone, Copy, Debug, PartialEq, Eq)]

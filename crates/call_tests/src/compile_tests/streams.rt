@@ -3,10 +3,10 @@
 ghost use Rattle.std.specs.Prelude.{◌≤◌};
 
 use card_code::read_deck;
-use card_lines::ReadFault;
 use compile407::{Compiled, RunFault, StreamCause, StreamFault, compile, run, run_stream};
-use devices::limited::{LimitedReader, LimitedWriter, Stop};
-use devices::{FromKnown, ToKnown};
+use report_streams::card_lines::ReadFault;
+use report_streams::devices::limited::{LimitedReader, LimitedWriter, Stop};
+use report_streams::devices::{FromKnown, ToKnown};
 use std::alloc::Global;
 use std::test::Fail;
 

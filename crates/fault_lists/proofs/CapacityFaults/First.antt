@@ -7,11 +7,11 @@ use Rattle.allocate.specs.declared.fault.CapacityFault.{CapacityFault}
 use Rattle.allocate.specs.declared.fault.CapacityFault.TheVariants as fault
 use Rattle.capacity.specs.Capacities.{Capacities}
 use Rattle.fault_lists.specs.CapacityFaults.AllOver.{AreAllOver, IsOverBy, Tells, none, over, within}
-use Rattle.plans.specs.Excess.{IsOver, count_there}
-use Rattle.wanted.specs.Counts.{count_wanted}
-use Rattle.wanted.specs.Wanted.{Wanted}
-use Rattle.wanted.specs.declared.count.Capacity.{Capacity}
-use Rattle.wanted.specs.declared.count.Capacity.TheVariants as of
+use Rattle.chart_plans.specs.PlansWords.Excess.{IsOver, count_there}
+use Rattle.chart_plans.specs.WantedWords.Counts.{count_wanted}
+use Rattle.chart_plans.specs.WantedWords.Wanted.{Wanted}
+use Rattle.chart_plans.specs.declared.wanted.count.Capacity.{Capacity}
+use Rattle.chart_plans.specs.declared.wanted.count.Capacity.TheVariants as of
 
 module _ (wanted : Wanted) (machine : Capacities) where
   -- what is told of a capacity says that it is exceeded

@@ -5,8 +5,8 @@ use Rattle.std.proofs.Common.{◌≡◌, ◌∙◌, sym, ap, subst, ℕ, suc, �
 use Rattle.allocate.specs.declared.fault.CapacityFault.{CapacityFault}
 use Rattle.capacity.specs.Capacities.{Capacities}
 use Rattle.fault_lists.specs.CapacityFaults.AllOver.{AreAllOver, GainsOver, GoesOn, none, over, within}
-use Rattle.wanted.specs.Wanted.{Wanted}
-use Rattle.wanted.specs.declared.count.Capacity.{Capacity}
+use Rattle.chart_plans.specs.WantedWords.Wanted.{Wanted}
+use Rattle.chart_plans.specs.declared.wanted.count.Capacity.{Capacity}
 
 module _ (wanted : Wanted) (machine : Capacities) where
   -- one capacity more

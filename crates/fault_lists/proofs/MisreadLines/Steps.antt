@@ -3,7 +3,7 @@ use Rattle.std.proofs.Common.{◌≡◌, ◌≢◌, ℕ, suc, ◌+◌, ◌-◌, 
 use Rattle.chart_text.specs.TextFaults.{HasTextFault}
 use Rattle.chart_text.specs.declared.fault.TextFault.{TextFault}
 use Rattle.chart_text.specs.declared.fault.TextFault.TheVariants.{TooLarge, NoFirstLine, NotALine, NoEnd, Memory}
-use Rattle.line_marks.specs.Emptied.{emptied}
+use Rattle.fault_slips.specs.LineMarks.Emptied.{emptied}
 use Rattle.fault_lists.specs.MisreadLines.Misread.{AreMisread, enough, none, next, misread_line}
 
 -- the lines so far and those of what is left are those of the text

@@ -3,12 +3,12 @@ use Rattle.std.specs.Prelude.{◌≡◌, ℕ, ◌⊎◌, List, [], ◌∷◌, �
 use Rattle.allocate.specs.declared.fault.CapacityFault.{CapacityFault}
 use Rattle.allocate.specs.declared.fault.CapacityFault.TheVariants as fault
 use Rattle.capacity.specs.Capacities.{Capacities}
-use Rattle.plans.specs.Excess.{count_there, IsOver}
-use Rattle.wanted.specs.Counts.{count_wanted}
-use Rattle.wanted.specs.Units.{IsLowestOf}
-use Rattle.wanted.specs.Wanted.{Wanted}
-use Rattle.wanted.specs.declared.count.Capacity.{Capacity}
-use Rattle.wanted.specs.declared.count.Capacity.TheVariants as of
+use Rattle.chart_plans.specs.PlansWords.Excess.{count_there, IsOver}
+use Rattle.chart_plans.specs.WantedWords.Counts.{count_wanted}
+use Rattle.chart_plans.specs.WantedWords.Units.{IsLowestOf}
+use Rattle.chart_plans.specs.WantedWords.Wanted.{Wanted}
+use Rattle.chart_plans.specs.declared.wanted.count.Capacity.{Capacity}
+use Rattle.chart_plans.specs.declared.wanted.count.Capacity.TheVariants as of
 
 -- A capacity is exceeded, and these are the counts of what is wanted and of what is there.
 pub record IsOverBy (capacity : Capacity) (count there : ℕ) (wanted : Wanted) (machine : Capacities) : Type 0 where

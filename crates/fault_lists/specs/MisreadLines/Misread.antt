@@ -1,6 +1,6 @@
 -- The lines of a text that no form derives, each the lowest one once those before it are empty.
 use Rattle.std.specs.Prelude.{ℕ, List, [], ◌∷◌, Option, Some, None, suc, zero}
-use Rattle.line_marks.specs.Emptied.{emptied}
+use Rattle.fault_slips.specs.LineMarks.Emptied.{emptied}
 use Rattle.chart_text.specs.TextFaults.{HasTextFault}
 use Rattle.chart_text.specs.declared.fault.TextFault.{TextFault}
 use Rattle.chart_text.specs.declared.fault.TextFault.TheVariants.{TooLarge, NoFirstLine, NotALine, NoEnd, Memory}

@@ -3,13 +3,13 @@
 ghost use Rattle.std.specs.Prelude.{◌≡◌, IfOk, OnOk};
 ghost use Rattle.allocate.specs.Exceeded.{in_order};
 ghost use Rattle.fault_lists.specs.CapacityFaults.AllOver.{AreAllOver, GainsOver, Tells};
-ghost use Rattle.plans.specs.Excess.{IsOver, count_there};
+ghost use Rattle.chart_plans.specs.PlansWords.Excess.{IsOver, count_there};
 
 use allocate::CapacityFault;
 use capacity::Profile;
-use charts::ControlLevel;
+use chart_lines::charts::ControlLevel;
+use chart_plans::wanted::{Capacity, Wanted};
 use std::alloc::{AllocError, Global};
-use wanted::{Capacity, Wanted};
 
 /// The capacities in the order in which they are asked.
 static IN_ORDER: [Capacity; 12] = [

@@ -6,7 +6,7 @@ ghost use Rattle.fault_lists.specs.MisreadLines.Misread as law;
 ghost use Rattle.fault_lists.specs.MisreadLines.Misread.{AreMisread};
 
 use chart_text::{TextFault, read_chart};
-use line_marks::emptied;
+use fault_slips::line_marks::emptied;
 use std::alloc::{AllocError, Global};
 
 /// How many lines are listed at most; a chart has no more.

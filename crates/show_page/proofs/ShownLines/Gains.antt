@@ -5,15 +5,15 @@ use Rattle.std.specs.List.{AllZip, filter, flat_map}
 use Rattle.std.proofs.lemmas.Grind.{flat_map-append}
 use Rattle.std.proofs.lemmas.List.{map-append}
 use Rattle.std.proofs.lemmas.List.Elements.{All-head, All-tail, Contains-get_or}
-use Rattle.explanations.specs.Pages.{AreFoundLines, IsFoundLine, IsPage, found_of, line_found}
-use Rattle.explanations.specs.PlacedInRun.{IsFound, PrintsLine}
-use Rattle.explanations.specs.declared.explanation.LineWays.{LineWays}
-use Rattle.explanations.specs.declared.found.FoundLine.{FoundLine}
+use Rattle.explain_wheels.specs.ExplanationsWords.Pages.{AreFoundLines, IsFoundLine, IsPage, found_of, line_found}
+use Rattle.explain_wheels.specs.ExplanationsWords.PlacedInRun.{IsFound, PrintsLine}
+use Rattle.explain_wheels.specs.declared.explanations.explanation.LineWays.{LineWays}
+use Rattle.explain_wheels.specs.declared.explanations.found.FoundLine.{FoundLine}
 use Rattle.machine.specs.Kept.{is_on}
 use Rattle.machine.specs.Runs.{MachineLines}
 use Rattle.machine.proofs.OneOutcome.{MachineLines-one}
 use Rattle.page_text.specs.declared.placed_lines.placed_line.PlacedLine.{PlacedLine}
-use Rattle.setups.specs.Wiring.{Wiring}
+use Rattle.hubs.specs.SetupsWords.Wiring.{Wiring}
 use Rattle.show_page.specs.ShownLines.Helper.{GainsLines, GainsPage}
 use Rattle.show_page.specs.ShownLines.Shown.{AreShown, lines_on}
 

@@ -1,9 +1,9 @@
 -- Helper words of the code: lines come behind others, each with the cycle that placed it.
 use Rattle.std.specs.Prelude.{◌≡◌, ℕ, List, ◌++◌, map}
-use Rattle.explanations.specs.Pages.{HasPage, line_found}
-use Rattle.explanations.specs.declared.found.FoundLine.{FoundLine}
+use Rattle.explain_wheels.specs.ExplanationsWords.Pages.{HasPage, line_found}
+use Rattle.explain_wheels.specs.declared.explanations.found.FoundLine.{FoundLine}
 use Rattle.page_text.specs.declared.placed_lines.placed_line.PlacedLine.{PlacedLine}
-use Rattle.setups.specs.Wiring.{Wiring}
+use Rattle.hubs.specs.SetupsWords.Wiring.{Wiring}
 
 -- the lines of some cycles
 pub record GainsLines (some : List FoundLine) (lines lines_now : List PlacedLine) (found found_now : List FoundLine) : Type 0 where

@@ -1,12 +1,12 @@
 -- The lines of a run that are shown: all of them, or those of some pages.
 use Rattle.std.specs.Prelude.{◌≡◌, ℕ, List, Option, None, Some}
 use Rattle.std.specs.List.{filter, flat_map}
-use Rattle.explanations.specs.Pages.{AreFoundLines}
-use Rattle.explanations.specs.declared.found.FoundLine.{FoundLine}
+use Rattle.explain_wheels.specs.ExplanationsWords.Pages.{AreFoundLines}
+use Rattle.explain_wheels.specs.declared.explanations.found.FoundLine.{FoundLine}
 use Rattle.machine.specs.Kept.{is_on}
 use Rattle.machine.specs.Runs.{MachineLines}
 use Rattle.page_text.specs.declared.placed_lines.placed_line.PlacedLine.{PlacedLine}
-use Rattle.setups.specs.Wiring.{Wiring}
+use Rattle.hubs.specs.SetupsWords.Wiring.{Wiring}
 
 -- the lines on a page
 abbrev pub lines_on : List PlacedLine → (page : ℕ) → List PlacedLine

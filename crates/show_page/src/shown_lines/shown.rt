@@ -2,16 +2,16 @@
 
 ghost use Rattle.std.specs.Prelude.{◌≡◌, ◌≤◌, None, Some, [], ◌∷◌, ◌++◌, IfOk, OnOk, length, map};
 ghost use Rattle.card_code.specs.MostCards.{most_cards};
-ghost use Rattle.explanations.specs.PageFeeds.{found_by};
-ghost use Rattle.explanations.specs.Pages.{found_of, line_found};
+ghost use Rattle.explain_wheels.specs.ExplanationsWords.PageFeeds.{found_by};
+ghost use Rattle.explain_wheels.specs.ExplanationsWords.Pages.{found_of, line_found};
 ghost use Rattle.show_page.specs.ShownLines.Helper.{GainsLines, GainsPage};
 ghost use Rattle.show_page.specs.ShownLines.Shown.{AreShown};
 
 use card_code::Card;
-use explanations::{FoundLine, LineWays, PageWays, find_lines};
+use explain_wheels::explanations::{FoundLine, LineWays, PageWays, find_lines};
+use hubs::setups::Setup;
 use machine::{KeptCycle, KeptPoint, simulate};
 use page_text::placed_lines::PlacedLine;
-use setups::Setup;
 use std::alloc::{AllocError, Global};
 
 /// Lines of a run, in their order.

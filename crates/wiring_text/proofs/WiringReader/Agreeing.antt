@@ -6,8 +6,8 @@ use Rattle.std.proofs.Math.Seq.{get_or-append_seam}
 use Rattle.std.proofs.lemmas.List.Quantifiers.{all_pairs_push}
 use Rattle.std.proofs.lemmas.Option.{none-some, same_Some}
 use Rattle.std.specs.List.{list_all}
-use Rattle.setups.specs.declared.fault.SetupFault.{SetupFault}
-use Rattle.setups.specs.declared.fault.SetupFault.TheVariants.{CarryRing}
+use Rattle.hubs.specs.declared.setups.fault.SetupFault.{SetupFault}
+use Rattle.hubs.specs.declared.setups.fault.SetupFault.TheVariants.{CarryRing}
 use Rattle.wiring_text.specs.Statements.{do_statements_agree, statement_fault}
 use Rattle.wiring_text.specs.declared.statement.Statement.{Statement}
 use Rattle.wiring_text.specs.WiringReader.TextReading.{agrees_with, fault_said, fault_with}

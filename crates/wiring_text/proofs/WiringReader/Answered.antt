@@ -1,8 +1,8 @@
 -- What an answer of the reader says of a text, and laws of wiring charts.
 use Rattle.std.proofs.Common.{◌≡◌, ◌≢◌, ◌⊎◌, ◌↔◌, ℕ, Bool, true, false, List, Result, Ok, Err, IfOk, IfErr, refl, ap, sym, ◌∙◌, inl, inr, subst}
 use Rattle.std.specs.Prelude.{IsOkUnless}
-use Rattle.setups.specs.Tapes.{has_stop}
-use Rattle.setups.specs.Wiring.{Wiring, is_plugged}
+use Rattle.hubs.specs.SetupsWords.Tapes.{has_stop}
+use Rattle.hubs.specs.SetupsWords.Wiring.{Wiring, is_plugged}
 use Rattle.wiring_text.specs.WiringReader.TextReading.{Answers, Told, text_told}
 use Rattle.wiring_text.specs.WiringFaults.{HasWiringFault}
 use Rattle.wiring_text.specs.WiringText.{IsSameSetup, IsSetupOf, ReadsAs}

@@ -4,9 +4,9 @@ use Rattle.std.proofs.lemmas.Option.{same_Some}
 use Rattle.std.proofs.lemmas.Slice.Eq.{bytes_eq-Decides}
 use Rattle.std.specs.List.{find, list_all}
 use Rattle.std.specs.Str.{bytes_eq}
-use Rattle.hub_table.specs.HubTable.{row_of, exit_kinds, entry_kinds}
-use Rattle.hub_table.specs.declared.letters.Letters.{Letters}
-use Rattle.hub_table.specs.declared.letters.Letters.TheVariants.{FR}
+use Rattle.hubs.specs.HubTable.HubTable.{row_of, exit_kinds, entry_kinds}
+use Rattle.hubs.specs.declared.hub_table.letters.Letters.{Letters}
+use Rattle.hubs.specs.declared.hub_table.letters.Letters.TheVariants.{FR}
 use Rattle.wiring_text.specs.WiringReader.Reading.{is_point, letters_spelled}
 
 -- a byte that is no point

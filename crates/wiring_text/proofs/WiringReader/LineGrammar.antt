@@ -1,11 +1,11 @@
 -- A line is exactly what is read of it.
 use Rattle.std.proofs.Common.{◌≡◌, ℕ, List, [], ◌∷◌, None, codes, refl, sym}
-use Rattle.tokens.specs.Dividing.{tokens_of}
-use Rattle.tokens.proofs.LineContent as lines
+use Rattle.chart_lines.specs.TokensWords.Dividing.{tokens_of}
+use Rattle.chart_lines.proofs.TokensWords.LineContent as lines
 use Rattle.wiring_text.specs.WiringReader.Reading.{carry_of, statement_of}
 use Rattle.wiring_text.specs.WiringReader.TextReading.{Content, content_of, HasSayable}
 use Rattle.wiring_text.specs.WiringText.{IsEmptyLine, IsEndLine, SaysLine}
-use Rattle.tokens.specs.declared.frame.Content.TheVariants.{Empty, End, Says, NoLine}
+use Rattle.chart_lines.specs.declared.tokens.frame.Content.TheVariants.{Empty, End, Says, NoLine}
 use Rattle.wiring_text.specs.declared.statement.Statement.{Statement}
 use Rattle.wiring_text.proofs.WiringReader.StatementGrammar.{says_is, says_read, said_sayable}
 use Rattle.wiring_text.specs.declared.statement.Version.{Version}

@@ -1,20 +1,20 @@
 -- What the answer on the lines after a form says of them.
 use Rattle.std.proofs.Common.{◌≡◌, ℕ, ◌+◌, ◌-◌, ◌<◌, Bool, true, false, cond, List, [], ◌∷◌, ◌++◌, get_or, Option, Some, None, Result, Ok, Err, refl, ap, sym, ◌∙◌, subst, suc, inl, inr, arith}
-use Rattle.setups.specs.Tapes.{IsFormed}
-use Rattle.setups.specs.declared.fault.SetupFault.{SetupFault}
+use Rattle.hubs.specs.SetupsWords.Tapes.{IsFormed}
+use Rattle.hubs.specs.declared.setups.fault.SetupFault.{SetupFault}
 use Rattle.wiring_text.specs.WiringReader.Reading.{is_said}
 use Rattle.wiring_text.specs.Statements.{statement_fault}
 use Rattle.std.proofs.lemmas.Bool.{false≢true}
 use Rattle.std.proofs.lemmas.Option.{none-some}
 use Rattle.wiring_text.proofs.WiringReader.Agreeing.{agrees-each, apart-from, fault-none, fault-some}
 use Rattle.wiring_text.specs.WiringReader.TextReading.{Content, agrees_with, content_of, fault_said, go_on, lines_from, new_said, step, start}
-use Rattle.tokens.specs.Frame.{line_at, IsAfterEnd, LacksEnd}
+use Rattle.chart_lines.specs.TokensWords.Frame.{line_at, IsAfterEnd, LacksEnd}
 use Rattle.wiring_text.specs.WiringFaults.{CannotHave, IsMisplaced, SaysAt, IsRepeated, IsUnfit, IsAtFault, misplaced, repeated, unfit, AreGoodBefore}
 use Rattle.wiring_text.specs.WiringText.{IsEndLine}
 use Rattle.wiring_text.specs.declared.statement.FormNumbers.{FormNumbers}
 use Rattle.wiring_text.specs.declared.fault.WiringFault.{WiringFault}
 use Rattle.wiring_text.specs.declared.fault.WiringFault.TheVariants.{TooLarge, NoFirstLine, NotALine, LineTwice, Unfit, NoEnd, Memory}
-use Rattle.tokens.specs.declared.frame.Content.TheVariants.{Empty, End, Says, NoLine}
+use Rattle.chart_lines.specs.declared.tokens.frame.Content.TheVariants.{Empty, End, Says, NoLine}
 use Rattle.wiring_text.specs.declared.statement.Statement.{Statement}
 use Rattle.wiring_text.proofs.WiringReader.LineGrammar.{is_content, empty_read, end_read}
 use Rattle.wiring_text.proofs.WiringReader.LinesGrammar.{before_end, after_end}

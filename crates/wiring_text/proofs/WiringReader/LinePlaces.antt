@@ -1,13 +1,13 @@
 -- The lines of a text by their numbers: which of them are at fault, and what those before a line said.
 use Rattle.std.proofs.Common.{◌≡◌, ◌⊎◌, ℕ, ◌+◌, ◌<◌, ◌≤◌, List, [], ◌∷◌, ◌++◌, length, get_or, Contains, ap, sym, ◌∙◌, subst, suc, inl, inr, arith}
 use Rattle.std.proofs.lemmas.Bool.{cases_order}
-use Rattle.setups.specs.declared.fault.SetupFault.{SetupFault}
+use Rattle.hubs.specs.declared.setups.fault.SetupFault.{SetupFault}
 use Rattle.wiring_text.specs.WiringReader.TextReading.{Content, content_of}
-use Rattle.tokens.specs.Frame.{line_at, IsAfterEnd, IsNoLine}
+use Rattle.chart_lines.specs.TokensWords.Frame.{line_at, IsAfterEnd, IsNoLine}
 use Rattle.wiring_text.specs.WiringFaults.{IsAfterForm, IsMisplaced, SaysAt, IsRepeated, IsUnfitLine, IsAtFault, misplaced, repeated, unfit, AreGoodBefore}
 use Rattle.wiring_text.specs.WiringText.{IsEmptyLine, IsEndLine, SaysLine}
 use Rattle.wiring_text.specs.declared.statement.FormNumbers.{FormNumbers}
-use Rattle.tokens.specs.declared.frame.Content.TheVariants.{Empty, Says}
+use Rattle.chart_lines.specs.declared.tokens.frame.Content.TheVariants.{Empty, Says}
 use Rattle.wiring_text.specs.declared.statement.Statement.{Statement}
 use Rattle.wiring_text.proofs.WiringReader.LineGrammar.{is_content, said_read}
 use Rattle.wiring_text.proofs.WiringReader.SameStatement.{pushed_cases, pushed_said}

@@ -2,7 +2,7 @@
 use Rattle.std.proofs.Common.{◌≡◌, ◌⊎◌, ℕ, ◌+◌, Bool, true, false, List, [], ◌∷◌, length, Ok, Err, ap, sym, ◌∙◌, inl, inr, suc, arith}
 use Rattle.std.proofs.Math.Numerals.{add-one}
 use Rattle.card_code.specs.Lines.{lines_of}
-use Rattle.setups.specs.Wiring.{Wiring}
+use Rattle.hubs.specs.SetupsWords.Wiring.{Wiring}
 use Rattle.wiring_text.specs.WiringReader.TextReading.{Content, Answers, Holds, Refuses, SoFar, Takes, Told, content_of, go_on, lines_from, start, step, with_form}
 use Rattle.wiring_text.specs.declared.statement.FormNumbers.{FormNumbers}
 use Rattle.wiring_text.specs.declared.fault.WiringFault.{WiringFault}

@@ -6,7 +6,7 @@ use Rattle.std.proofs.lemmas.List.Elements.{All-head, All-tail, All-push}
 use Rattle.std.proofs.lemmas.List.Quantifiers.{all_pairs_push}
 use Rattle.std.proofs.Math.Seq.{get_or-append_seam}
 use Rattle.std.specs.List.{AllByRecursion}
-use Rattle.setups.specs.declared.fault.SetupFault.{SetupFault}
+use Rattle.hubs.specs.declared.setups.fault.SetupFault.{SetupFault}
 use Rattle.wiring_text.specs.WiringReader.Reading.{is_said}
 use Rattle.wiring_text.specs.Statements.{statement_fault}
 use Rattle.wiring_text.proofs.WiringReader.Agreeing.{AreTogether, agrees-before, fault-none, none-fault, together-more}
@@ -14,7 +14,7 @@ use Rattle.wiring_text.specs.WiringReader.TextReading.{Content, SoFar, content_o
 use Rattle.wiring_text.specs.WiringText.{IsEmptyLine, SaysLines, empty_line, said_line, end_line}
 use Rattle.wiring_text.specs.declared.fault.WiringFault.{WiringFault}
 use Rattle.wiring_text.specs.declared.fault.WiringFault.TheVariants.{LineTwice}
-use Rattle.tokens.specs.declared.frame.Content.TheVariants.{Empty, End, Says, NoLine}
+use Rattle.chart_lines.specs.declared.tokens.frame.Content.TheVariants.{Empty, End, Says, NoLine}
 use Rattle.wiring_text.specs.declared.statement.Statement.{Statement}
 use Rattle.wiring_text.proofs.WiringReader.LineGrammar.{is_content, empty_read, end_read, said_read}
 use Rattle.wiring_text.proofs.WiringReader.SameStatement.{not_said, none_contained}

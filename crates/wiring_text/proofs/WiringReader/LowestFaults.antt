@@ -2,9 +2,9 @@
 use Rattle.std.proofs.Common.{◌≡◌, ◌⊎◌, ℕ, ◌<◌, List, Result, Ok, Err, refl, ap, sym, ◌∙◌, subst, inl, inr}
 use Rattle.std.proofs.lemmas.Bool.{cases_order}
 use Rattle.std.proofs.lemmas.Option.{none-some, same_Some}
-use Rattle.setups.specs.Tapes.{IsFormed}
-use Rattle.setups.specs.declared.fault.SetupFault.{SetupFault}
-use Rattle.tokens.specs.Frame.{line_at, LacksEnd}
+use Rattle.hubs.specs.SetupsWords.Tapes.{IsFormed}
+use Rattle.hubs.specs.declared.setups.fault.SetupFault.{SetupFault}
+use Rattle.chart_lines.specs.TokensWords.Frame.{line_at, LacksEnd}
 use Rattle.wiring_text.specs.WiringFaults.{CannotHave, IsMisplaced, IsRepeated, IsUnfitLine, IsUnfit, IsAtFault, misplaced, repeated, unfit, AreGoodBefore}
 use Rattle.wiring_text.specs.declared.statement.FormNumbers.{FormNumbers}
 use Rattle.wiring_text.specs.declared.fault.WiringFault.{WiringFault}

@@ -4,14 +4,14 @@ use Rattle.std.proofs.lemmas.Bool.{and_parts, and_from, leb-true, ne_eqb}
 use Rattle.std.proofs.lemmas.Option.{none-some, same_Some}
 use Rattle.std.specs.Char.{is_ascii_digit}
 use Rattle.std.specs.List.{slice_split, list_all}
-use Rattle.hub_table.specs.HubTable.{row_of}
-use Rattle.hub_table.specs.Places.{has_as_many}
-use Rattle.hub_table.specs.declared.shape.Numbers.{Numbers}
-use Rattle.hub_table.specs.declared.shape.Numbers.TheVariants.{Bare, One, Two, Three}
-use Rattle.tokens.specs.Number.{IsNumber}
-use Rattle.tokens.specs.NumberReading.{number_of}
-use Rattle.tokens.proofs.NumberGrammar.{number_is, number_read}
-use Rattle.tokens.proofs.Steps.{bound, granted}
+use Rattle.hubs.specs.HubTable.HubTable.{row_of}
+use Rattle.hubs.specs.HubTable.Places.{has_as_many}
+use Rattle.hubs.specs.declared.hub_table.shape.Numbers.{Numbers}
+use Rattle.hubs.specs.declared.hub_table.shape.Numbers.TheVariants.{Bare, One, Two, Three}
+use Rattle.chart_lines.specs.TokensWords.Number.{IsNumber}
+use Rattle.chart_lines.specs.TokensWords.NumberReading.{number_of}
+use Rattle.chart_lines.proofs.TokensWords.NumberGrammar.{number_is, number_read}
+use Rattle.chart_lines.proofs.TokensWords.Steps.{bound, granted}
 use Rattle.wiring_text.specs.HubNames.{IsGroup, IsPointed, IsDotted, bare, one, two, three, IsHubName}
 use Rattle.wiring_text.specs.WiringReader.Reading.{is_point, letters_spelled, numbers_spelled, numbers_from_one, numbers_from_two, numbers_from_three, name_of_pieces, name_spelled}
 use Rattle.wiring_text.specs.declared.statement.HubName.{HubName}

@@ -1,9 +1,9 @@
 -- A setup of which nothing is said, and forms that a tape can have.
 use Rattle.std.proofs.Common.{◌≡◌, ◌↔◌, ℕ, ◌&&◌, Bool, true, false, leb, [], Contains, refl, ap, ◌∙◌, arith}
 use Rattle.std.proofs.lemmas.Bool.{and_parts, and_from, leb-true, le-leb}
-use Rattle.hub_table.specs.Ranges.{is_within}
-use Rattle.setups.specs.Tapes.{CarriageTape, IsFormed, has_stop}
-use Rattle.setups.specs.Wiring.{Wiring, HasWire, is_plugged}
+use Rattle.hubs.specs.HubTable.Ranges.{is_within}
+use Rattle.hubs.specs.SetupsWords.Tapes.{CarriageTape, IsFormed, has_stop}
+use Rattle.hubs.specs.SetupsWords.Wiring.{Wiring, HasWire, is_plugged}
 use Rattle.hubs.specs.declared.hub.Hub.{Hub}
 use Rattle.hubs.specs.declared.jack.Jack.{Jack}
 use Rattle.wiring_text.specs.WiringReader.TextReading.{Holds, is_formed, numbers_of_tape}

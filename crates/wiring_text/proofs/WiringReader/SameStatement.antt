@@ -6,11 +6,11 @@ use Rattle.std.proofs.lemmas.List.Folds.{list_any_at}
 use Rattle.std.proofs.lemmas.Map.Views.{Contains-from_any}
 use Rattle.std.proofs.lemmas.Slice.Eq.{bytes_eq-Decides}
 use Rattle.std.specs.Str.{bytes_eq}
-use Rattle.hub_table.specs.HubTable.{row_of}
+use Rattle.hubs.specs.HubTable.HubTable.{row_of}
 use Rattle.hubs.proofs.JackLemmas.{same_jack, own_jack}
-use Rattle.hub_table.specs.declared.shape.Numbers.{Numbers}
-use Rattle.hub_table.specs.declared.shape.Numbers.TheVariants.{Bare, One, Two, Three}
-use Rattle.hub_table.proofs.KindLemmas.{spelled-injective}
+use Rattle.hubs.specs.declared.hub_table.shape.Numbers.{Numbers}
+use Rattle.hubs.specs.declared.hub_table.shape.Numbers.TheVariants.{Bare, One, Two, Three}
+use Rattle.hubs.proofs.HubTable.KindLemmas.{spelled-injective}
 use Rattle.wiring_text.specs.WiringReader.Reading.{is_same_numbers, is_same_name, is_same_statement, is_said}
 use Rattle.wiring_text.specs.declared.statement.HubName.{HubName}
 use Rattle.wiring_text.specs.declared.statement.Statement.{Statement}

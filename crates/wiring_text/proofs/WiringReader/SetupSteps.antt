@@ -8,11 +8,11 @@ use Rattle.hubs.proofs.HubLemmas.{hub_named-own, hub_named-parts}
 use Rattle.hubs.specs.Hubs.{letters_of, is_exit_hub, is_entry_hub, is_hub_in_range}
 use Rattle.hubs.specs.Carries.{do_wires_agree, keeps_carry}
 use Rattle.hubs.specs.Jacks.{is_same_jack}
-use Rattle.hub_table.specs.Ranges.{is_within}
-use Rattle.setups.specs.Tapes.{has_stop, IsStop, AddsStop}
-use Rattle.setups.specs.Wiring.{CanJoin, Wiring, HasWire, is_plugged, SameWires, SameJacks, AddsWire, AddsJack}
-use Rattle.setups.specs.declared.fault.SetupFault.{SetupFault}
-use Rattle.setups.specs.declared.fault.SetupFault.TheVariants.{NotExit, NotEntry, CarryRing, TapeFault, Memory}
+use Rattle.hubs.specs.HubTable.Ranges.{is_within}
+use Rattle.hubs.specs.SetupsWords.Tapes.{has_stop, IsStop, AddsStop}
+use Rattle.hubs.specs.SetupsWords.Wiring.{CanJoin, Wiring, HasWire, is_plugged, SameWires, SameJacks, AddsWire, AddsJack}
+use Rattle.hubs.specs.declared.setups.fault.SetupFault.{SetupFault}
+use Rattle.hubs.specs.declared.setups.fault.SetupFault.TheVariants.{NotExit, NotEntry, CarryRing, TapeFault, Memory}
 use Rattle.hubs.specs.declared.hub.Hub.{Hub}
 use Rattle.hubs.specs.declared.jack.Jack.{Jack}
 use Rattle.hubs.proofs.JackLemmas.{same_jack, own_jack}
@@ -21,7 +21,7 @@ use Rattle.wiring_text.specs.WiringReader.Reading.{is_said}
 use Rattle.wiring_text.specs.Statements.{do_hubs_agree, do_statements_agree, statement_fault, wire_fault, fault_between}
 use Rattle.wiring_text.specs.WiringReader.TextReading.{Holds, IsPut, Puts, agrees_with, fault_said, fault_with}
 use Rattle.wiring_text.proofs.WiringReader.Agreeing.{agrees-each, agrees-from, apart-from, fault-none, none-fault, some-fault, together-more}
-use Rattle.setups.proofs.CarryWires.{agree-turned}
+use Rattle.hubs.proofs.SetupsWords.CarryWires.{agree-turned}
 use Rattle.wiring_text.specs.WiringText.{IsSetupOf}
 use Rattle.wiring_text.specs.declared.statement.FormNumbers.{FormNumbers}
 use Rattle.wiring_text.specs.declared.statement.HubName.{HubName}

@@ -4,18 +4,18 @@ use Rattle.std.proofs.lemmas.Bool.{leb-true, le-leb, and_from, both_ways, eq-eqb
 use Rattle.std.proofs.lemmas.Option.{same_Some}
 use Rattle.std.specs.List.{slice_split}
 use Rattle.std.specs.Str.{bytes_eq}
-use Rattle.hub_table.specs.declared.shape.Numbers.{Numbers}
-use Rattle.hub_table.specs.declared.shape.Numbers.TheVariants.{Two}
+use Rattle.hubs.specs.declared.hub_table.shape.Numbers.{Numbers}
+use Rattle.hubs.specs.declared.hub_table.shape.Numbers.TheVariants.{Two}
 use Rattle.hubs.specs.Jacks.{is_jack_in_range}
 use Rattle.hubs.specs.declared.jack.Jack.{Jack}
 use Rattle.hubs.specs.declared.jack.Jack.TheVariants as jacks
-use Rattle.tokens.specs.Number.{IsNumberTo}
-use Rattle.tokens.specs.NumberReading.{number_of, number_to}
-use Rattle.tokens.specs.Dividing.{tokens_of}
-use Rattle.tokens.proofs.NumberGrammar.{number_is, number_read, number_to_is, number_to_read}
-use Rattle.tokens.proofs.Steps.{bound, granted, refused}
-use Rattle.tokens.proofs.TokenWord.{is_word}
-use Rattle.tokens.proofs.TokenGrammar.{has_what_is_read, read_what_it_has, mapped}
+use Rattle.chart_lines.specs.TokensWords.Number.{IsNumberTo}
+use Rattle.chart_lines.specs.TokensWords.NumberReading.{number_of, number_to}
+use Rattle.chart_lines.specs.TokensWords.Dividing.{tokens_of}
+use Rattle.chart_lines.proofs.TokensWords.NumberGrammar.{number_is, number_read, number_to_is, number_to_read}
+use Rattle.chart_lines.proofs.TokensWords.Steps.{bound, granted, refused}
+use Rattle.chart_lines.proofs.TokensWords.TokenWord.{is_word}
+use Rattle.chart_lines.proofs.TokensWords.TokenGrammar.{has_what_is_read, read_what_it_has, mapped}
 use Rattle.wiring_text.specs.WiringReader.Reading.{carry_of, couple_of, is_point, name_spelled, numbers_spelled, ring_numbered, ring_of, numbered_jack, jack_of, stop_of, wire_of, statement_of, form_of}
 use Rattle.wiring_text.specs.Statements.{SaysJack, list, total, head, link, suppress, symbol, Says, stop, plug, wire, ring, couple, may_be_wired}
 use Rattle.wiring_text.specs.HubNames.{carry_entry, carry_exit}

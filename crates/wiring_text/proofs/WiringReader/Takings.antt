@@ -1,10 +1,10 @@
 -- Taking one line of a wiring chart.
 use Rattle.std.proofs.Common.{◌≡◌, ℕ, Bool, true, false, [], ◌∷◌, ◌++◌, Result, Ok, refl, ap, sym, inr, subst}
-use Rattle.setups.specs.Wiring.{Wiring}
-use Rattle.setups.specs.declared.fault.SetupFault.{SetupFault}
+use Rattle.hubs.specs.SetupsWords.Wiring.{Wiring}
+use Rattle.hubs.specs.declared.setups.fault.SetupFault.{SetupFault}
 use Rattle.wiring_text.specs.WiringReader.TextReading.{Content, IsPut, Puts, Refuses, SoFar, Takes, step}
 use Rattle.wiring_text.specs.declared.fault.WiringFault.TheVariants.{LineTwice}
-use Rattle.tokens.specs.declared.frame.Content.TheVariants.{Empty, End, Says}
+use Rattle.chart_lines.specs.declared.tokens.frame.Content.TheVariants.{Empty, End, Says}
 use Rattle.wiring_text.specs.declared.statement.Statement.{Statement}
 
 -- an empty line

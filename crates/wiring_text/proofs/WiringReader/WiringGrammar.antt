@@ -4,12 +4,12 @@ use Rattle.std.proofs.lemmas.Bool.{both_ways}
 use Rattle.std.proofs.lemmas.Option.{none-some, same_Some}
 use Rattle.std.specs.Bool.{Decides}
 use Rattle.card_code.specs.Lines.{lines_of}
-use Rattle.setups.specs.Tapes.{IsFormed}
-use Rattle.setups.specs.declared.fault.SetupFault.{SetupFault}
-use Rattle.setups.specs.declared.fault.SetupFault.TheVariants.{TapeFault}
-use Rattle.tokens.specs.Dividing.{tokens_of}
-use Rattle.tokens.proofs.TokenGrammar.{read_what_it_has}
-use Rattle.tokens.proofs.TextFrame.{larger_by, title_by, told_false, refused_by}
+use Rattle.hubs.specs.SetupsWords.Tapes.{IsFormed}
+use Rattle.hubs.specs.declared.setups.fault.SetupFault.{SetupFault}
+use Rattle.hubs.specs.declared.setups.fault.SetupFault.TheVariants.{TapeFault}
+use Rattle.chart_lines.specs.TokensWords.Dividing.{tokens_of}
+use Rattle.chart_lines.proofs.TokensWords.TokenGrammar.{read_what_it_has}
+use Rattle.chart_lines.proofs.TokensWords.TextFrame.{larger_by, title_by, told_false, refused_by}
 use Rattle.wiring_text.specs.WiringReader.TextReading.{Told, divided_form, formed_lines, headed_lines, is_first, is_formed, is_large, lines_from, lines_told, start, tested_version, text_told, version_named, with_form}
 use Rattle.wiring_text.specs.WiringFaults.{HasHead, IsUnfitForm, IsUnfit, IsAtFault, misplaced, repeated, unfit, AreGoodBefore, IsBegun, HaveFault, HasWiringFault}
 use Rattle.wiring_text.specs.WiringText.{IsFirstLine, IsTooLarge, IsWiringChart, SaysLines, version_text}

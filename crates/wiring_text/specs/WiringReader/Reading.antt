@@ -4,16 +4,16 @@ use Rattle.std.specs.Prelude.{ℕ, ◌==◌, ◌&&◌, Bool, true, false, List, 
 use Rattle.std.specs.List.{slice_split, list_any}
 use Rattle.std.specs.Str.{bytes_eq}
 use denote.Ref.{Bor}
-use Rattle.hub_table.specs.HubTable.{row_of, exit_kinds, entry_kinds}
+use Rattle.hubs.specs.HubTable.HubTable.{row_of, exit_kinds, entry_kinds}
 use Rattle.hubs.specs.Jacks.{is_same_jack}
-use Rattle.hub_table.specs.Places.{has_as_many}
+use Rattle.hubs.specs.HubTable.Places.{has_as_many}
 use Rattle.hubs.specs.declared.jack.Jack.{Jack}
 use Rattle.hubs.specs.declared.jack.Jack.TheVariants as jacks
-use Rattle.hub_table.specs.declared.letters.Letters.{Letters}
-use Rattle.hub_table.specs.declared.shape.Numbers.{Numbers}
-use Rattle.hub_table.specs.declared.shape.Numbers.TheVariants.{Bare, One, Two, Three}
-use Rattle.tokens.specs.NumberReading.{number_of, number_to}
-use Rattle.tokens.specs.Steps.{◌>>=◌}
+use Rattle.hubs.specs.declared.hub_table.letters.Letters.{Letters}
+use Rattle.hubs.specs.declared.hub_table.shape.Numbers.{Numbers}
+use Rattle.hubs.specs.declared.hub_table.shape.Numbers.TheVariants.{Bare, One, Two, Three}
+use Rattle.chart_lines.specs.TokensWords.NumberReading.{number_of, number_to}
+use Rattle.chart_lines.specs.TokensWords.Steps.{◌>>=◌}
 use Rattle.wiring_text.specs.HubNames.{carry_entry, carry_exit}
 use Rattle.wiring_text.specs.Statements.{may_be_wired}
 use Rattle.wiring_text.specs.declared.statement.FormNumbers.{FormNumbers}

@@ -4,16 +4,16 @@ use Rattle.std.specs.Prelude.{◌≡◌, ◌⊎◌, ℕ, ◌≤◌, ◌&&◌, Bo
 use Rattle.std.specs.List.{list_all}
 use Rattle.card_code.specs.Lines.{lines_of}
 use Rattle.hubs.specs.Jacks.{is_jack_in_range}
-use Rattle.hub_table.specs.Ranges.{is_within}
-use Rattle.setups.specs.Tapes.{CarriageTape, IsFormed}
-use Rattle.setups.specs.Wiring.{Wiring}
-use Rattle.setups.specs.declared.fault.SetupFault.{SetupFault}
-use Rattle.setups.specs.declared.fault.SetupFault.TheVariants as panel
-use Rattle.tokens.specs.Dividing.{tokens_of}
-use Rattle.tokens.specs.FrameReading.{is_larger, is_title_line}
-use Rattle.tokens.specs.HelperLines.{divided_content}
-use Rattle.tokens.specs.declared.frame.Content as frame
-use Rattle.tokens.specs.declared.frame.Content.TheVariants.{Empty, End, Says, NoLine}
+use Rattle.hubs.specs.HubTable.Ranges.{is_within}
+use Rattle.hubs.specs.SetupsWords.Tapes.{CarriageTape, IsFormed}
+use Rattle.hubs.specs.SetupsWords.Wiring.{Wiring}
+use Rattle.hubs.specs.declared.setups.fault.SetupFault.{SetupFault}
+use Rattle.hubs.specs.declared.setups.fault.SetupFault.TheVariants as panel
+use Rattle.chart_lines.specs.TokensWords.Dividing.{tokens_of}
+use Rattle.chart_lines.specs.TokensWords.FrameReading.{is_larger, is_title_line}
+use Rattle.chart_lines.specs.TokensWords.HelperLines.{divided_content}
+use Rattle.chart_lines.specs.declared.tokens.frame.Content as frame
+use Rattle.chart_lines.specs.declared.tokens.frame.Content.TheVariants.{Empty, End, Says, NoLine}
 use Rattle.wiring_text.specs.WiringReader.Reading.{statement_of, form_of, is_said}
 use Rattle.wiring_text.specs.Statements.{do_statements_agree, statement_fault}
 use Rattle.wiring_text.specs.WiringText.{IsSetupOf, version_text}

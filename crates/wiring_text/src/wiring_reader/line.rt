@@ -1,9 +1,9 @@
 //! Reading a line of a wiring chart.
 
 ghost use Rattle.std.specs.Prelude.{◌≡◌, IfOk};
-ghost use Rattle.tokens.specs.Dividing.{tokens_of};
-ghost use Rattle.tokens.specs.HelperLines.{tokens_content};
-ghost use Rattle.tokens.specs.Texts.{texts};
+ghost use Rattle.chart_lines.specs.TokensWords.Dividing.{tokens_of};
+ghost use Rattle.chart_lines.specs.TokensWords.HelperLines.{tokens_content};
+ghost use Rattle.chart_lines.specs.TokensWords.Texts.{texts};
 ghost use Rattle.wiring_text.specs.WiringReader.Reading.{carry_of, couple_of, form_of, jack_of, numbered_jack, ring_of, statement_of, stop_of, wire_of};
 ghost use Rattle.wiring_text.specs.WiringReader.TextReading.{content_of, divided_form};
 ghost use Rattle.wiring_text.specs.HubNames.{carry_entry, carry_exit, is_carry};
@@ -12,10 +12,10 @@ ghost use Rattle.wiring_text.specs.declared.statement.Statement.TheVariants.{Wir
 
 use crate::wiring_reader::name::{read_group, read_hub_name};
 use crate::{FormNumbers, HubName, Statement, Version};
-use hub_table::{Letters, Numbers};
+use chart_lines::tokens::{Content, is, read_number, read_number_to, split_line};
 use hubs::Jack;
+use hubs::hub_table::{Letters, Numbers};
 use std::alloc::{AllocError, Global};
-use tokens::{Content, is, read_number, read_number_to, split_line};
 
 /// The numbers of a line `FORM` with three numbers, or `None` for any other line.
 pub(crate) fn read_form(alloc: Global, line: &[u8]) -> Result<Option<FormNumbers>, AllocError>

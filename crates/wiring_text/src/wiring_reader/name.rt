@@ -5,8 +5,8 @@ ghost use Rattle.std.specs.List.{slice_split};
 ghost use Rattle.wiring_text.specs.WiringReader.Reading.{is_point, letters_spelled, numbers_from_three, pieces_after, numbers_spelled, name_spelled};
 
 use crate::HubName;
-use hub_table::{Letters, Numbers};
-use tokens::read_number;
+use chart_lines::tokens::read_number;
+use hubs::hub_table::{Letters, Numbers};
 
 /// The hub name that a token is: letters of the hub table, and as many numbers as hubs of these letters have, a point before
 /// each. `None` for any other token.

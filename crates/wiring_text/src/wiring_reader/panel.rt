@@ -6,8 +6,8 @@ ghost use Rattle.wiring_text.specs.WiringReader.TextReading.{IsSayable, Puts};
 ghost use Rattle.wiring_text.specs.declared.statement.Statement.TheVariants.{Stop, Plug, Wire};
 
 use crate::{HubName, Statement};
+use hubs::setups::{Setup, SetupFault};
 use hubs::{Hub, Jack};
-use setups::{Setup, SetupFault};
 
 /// Puts what a line says to a setup, and answers false where it was there.
 ///

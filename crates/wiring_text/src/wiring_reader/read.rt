@@ -2,8 +2,8 @@
 
 ghost use Rattle.std.specs.Prelude.{◌≡◌, ◌≢◌, ◌≤◌, ◌⊎◌, [], length, IfOk, IfErr, IfSome, IfNone, OnOk, IsOkUnless, true, false, ℕ, Err};
 ghost use Rattle.card_code.specs.Lines.{lines_of};
-ghost use Rattle.setups.specs.Tapes.{has_stop};
-ghost use Rattle.setups.specs.Wiring.{Wiring};
+ghost use Rattle.hubs.specs.SetupsWords.Tapes.{has_stop};
+ghost use Rattle.hubs.specs.SetupsWords.Wiring.{Wiring};
 ghost use Rattle.wiring_text.specs.WiringReader.TextReading.{Answers, HasSayable, Holds, Refuses, Takes, is_formed, lines_from, numbers_of_tape, start, text_told, version_named, with_form};
 ghost use Rattle.wiring_text.specs.WiringText.{ReadsAs};
 ghost use Rattle.wiring_text.specs.WiringFaults.{HasWiringFault};
@@ -12,9 +12,9 @@ use crate::wiring_reader::line::{read_form, read_line};
 use crate::wiring_reader::panel::put;
 use crate::{FormNumbers, Statement, Version, WiringFault};
 use card_code::next_line;
-use setups::{Setup, SetupFault, Tape};
+use chart_lines::tokens::{Content, is_larger, is_title_line};
+use hubs::setups::{Setup, SetupFault, Tape};
 use std::alloc::Global;
-use tokens::{Content, is_larger, is_title_line};
 
 /// How many lines a wiring chart has at most.
 const MAX_LINES: usize = 1_000_000;

@@ -1,4 +1,4 @@
-use Rattle.wanted.specs.declared.count.Capacity.TheVariants as of
+use Rattle.chart_plans.specs.declared.wanted.count.Capacity.TheVariants as of
 use Rattle.allocate.proofs.Order.{IsOver-first}
 use Rattle.allocate.proofs.exceeded.fault_of.Goals as goal
 

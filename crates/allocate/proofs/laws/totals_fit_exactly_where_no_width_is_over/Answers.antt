@@ -1,6 +1,6 @@
 use Rattle.allocate.proofs.Assignments.{widest_first, widest_first-assigns, none_where_over}
-use Rattle.wanted.proofs.Needs.{NeedsFit-lawful}
-use Rattle.wanted.specs.ChartTotals.{totals_of}
+use Rattle.chart_plans.proofs.WantedWords.Needs.{NeedsFit-lawful}
+use Rattle.chart_plans.specs.WantedWords.ChartTotals.{totals_of}
 use Rattle.allocate.proofs.laws.totals_fit_exactly_where_no_width_is_over.Goals as goal
 
 pub returns-clause-needs : goal.returns-clause-needs

@@ -1,7 +1,7 @@
 use Rattle.chart_rules.specs.ValidCard.{IsValidCard}
 use Rattle.chart_rules.proofs.Laws.{AreOnCard-lawful}
 use Rattle.chart_rules.proofs.ValidCards.{IsOk-valid}
-use Rattle.line_rules.specs.FieldRules.Fields.{fields_of}
+use Rattle.chart_line_rules.specs.FieldRules.Fields.{fields_of}
 use Rattle.chart_rules.proofs.card.valid_card.Goals as goal
 
 pub valid_fields-requires : goal.valid_fields-requires

@@ -4,7 +4,7 @@ use Rattle.chart_rules.proofs.Laws.{AreOnCard-lawful, AreSized-lawful}
 use Rattle.chart_rules.proofs.AmountMarks.{plain-amounts}
 use Rattle.chart_rules.proofs.TextMarks.{all-valid}
 use Rattle.chart_rules.proofs.ValidCards.{IsOk-valid}
-use Rattle.line_rules.specs.FieldRules.Fields.{fields_of}
+use Rattle.chart_line_rules.specs.FieldRules.Fields.{fields_of}
 use Rattle.chart_rules.proofs.card.valid_read_card.Goals as goal
 
 pub valid_fields-requires : goal.valid_fields-requires

@@ -1,8 +1,8 @@
 use Rattle.std.proofs.Common.{◌∙◌, sym, ap, refl, length, drop}
 use Rattle.std.proofs.lemmas.Option.{slice_get_read}
-use Rattle.line_rules.specs.FieldRules.Fields.{fields_of}
+use Rattle.chart_line_rules.specs.FieldRules.Fields.{fields_of}
 use Rattle.chart_rules.specs.Rules.{by_end}
-use Rattle.line_rules.proofs.FieldRules.Places.{fields_of-split}
+use Rattle.chart_line_rules.proofs.FieldRules.Places.{fields_of-split}
 use Rattle.chart_rules.proofs.Lowest.{PassesBefore-more, IsKept-passes, Broken-at, lowest-at, lowest-end}
 use Rattle.chart_rules.proofs.checking.lowest_line.Goals as goal
 

@@ -1,5 +1,5 @@
 use Rattle.std.proofs.Common.{◌∙◌, sym, ap}
-use Rattle.charts.specs.Levels.{control_number}
+use Rattle.chart_lines.specs.ChartsWords.Levels.{control_number}
 use Rattle.chart_rules.proofs.ControlFields.{controls-all, controls-none, controls-one}
 use Rattle.chart_rules.proofs.controls.controls_at.Goals as goal
 use Rattle.chart_rules.proofs.controls.controls_at.Goals.{in-Some+in_ok-push, in_default}

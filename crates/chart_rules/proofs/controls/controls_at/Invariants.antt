@@ -1,5 +1,5 @@
 use Rattle.std.proofs.Common.{◌≡◌, take}
-use Rattle.charts.specs.Levels.{control_number}
+use Rattle.chart_lines.specs.ChartsWords.Levels.{control_number}
 use Rattle.chart_rules.specs.Controls.{controls_among}
 use Rattle.chart_rules.proofs.controls.controls_at.Given as goal
 

@@ -1,7 +1,7 @@
 -- The numbers so far, before those that are left, are the numbers of the tokens.
 use Rattle.std.proofs.Common.{◌≡◌, length, drop}
-use Rattle.tokens.specs.Texts.{texts}
-use Rattle.tokens.specs.NumberReading.{numbers_of}
+use Rattle.chart_lines.specs.TokensWords.Texts.{texts}
+use Rattle.chart_lines.specs.TokensWords.NumberReading.{numbers_of}
 use Rattle.chart_text.proofs.Numbers.{led_by}
 use Rattle.chart_text.proofs.forms.read_numbers.Given as goal
 

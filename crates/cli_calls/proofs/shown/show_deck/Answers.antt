@@ -1,6 +1,6 @@
 use Rattle.std.proofs.Common.{ℕ, List, Some, subst, sym, ◌∙◌, refl}
 use Rattle.cli_calls.specs.Does.{faulty, of_chart, of_wiring}
-use Rattle.text_lists.specs.Endings.{AnswersText}
+use Rattle.fault_lists.specs.TextLists.Endings.{AnswersText}
 use Rattle.cli_calls.proofs.shown.show_deck.Goals as goal
 
 pub returns-in-Err : goal.returns-in-Err

@@ -2,15 +2,15 @@ use Rattle.std.proofs.Common.{◌≢◌, subst, sym}
 use Rattle.std.proofs.lemmas.Result.{err_from_is_err_and}
 use Rattle.allocate.specs.Exceeded.{FitsMachine, HasCapacityFault}
 use Rattle.allocate.specs.Allocated.{IsPlanOf}
-use Rattle.plans.specs.Below.wanted.Wanted.{wanted_of}
+use Rattle.chart_plans.specs.WantedWords.Wanted.{wanted_of}
 use Rattle.allocate.specs.declared.fault.CapacityFault.TheVariants as exceeds
 use Rattle.capacity.specs.Capacities.{Capacities}
 use Rattle.chart_text.specs.ChartText.{Reads}
 use Rattle.compile407.specs.ChartFaults.{HasChartFault}
 use Rattle.compile407.specs.Compilation.{Compilation}
-use Rattle.faults.specs.declared.chart.ChartFault.{ChartFault}
-use Rattle.faults.specs.declared.chart.ChartFault.TheVariants as chart
-use Rattle.streamed_runs.specs.PrintPromises.Promises.{BeginsReport, PrintsReport}
+use Rattle.fault_lines.specs.declared.faults.chart.ChartFault.{ChartFault}
+use Rattle.fault_lines.specs.declared.faults.chart.ChartFault.TheVariants as chart
+use Rattle.report_runs.specs.PrintPromises.Promises.{BeginsReport, PrintsReport}
 use Rattle.compile407.proofs.CapacityTold.{capacity_told}
 use Rattle.compile407.proofs.Headline.{sound_read, wired_setups_begin_reports, wired_setups_print_reports}
 use Rattle.compile407.proofs.compiling.compile.Goals as goal

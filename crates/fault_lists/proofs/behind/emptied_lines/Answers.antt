@@ -1,7 +1,7 @@
 use Rattle.std.proofs.Common.{◌∙◌, sym, ap, drop, ℕ, ◌+◌}
 use Rattle.fault_lists.proofs.Lefts.{all_emptied, emptied_at}
 use Rattle.fault_lists.specs.Behind.{emptied_lines}
-use Rattle.line_marks.specs.Emptied.{emptied}
+use Rattle.fault_slips.specs.LineMarks.Emptied.{emptied}
 use Rattle.fault_lists.proofs.behind.emptied_lines.Goals as goal
 
 pub loop-line-preserved : goal.loop-line-preserved

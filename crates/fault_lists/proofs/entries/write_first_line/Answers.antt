@@ -1,5 +1,5 @@
 use Rattle.std.proofs.KnownBytes.{Appends-trans}
-use Rattle.chart_faults.proofs.FaultWords.Writing.{then_writes}
+use Rattle.fault_chart_words.proofs.FaultWords.Writing.{then_writes}
 use Rattle.fault_lists.specs.TextEntries.{first_line_entry}
 use Rattle.fault_lists.proofs.entries.write_first_line.Goals as goal
 

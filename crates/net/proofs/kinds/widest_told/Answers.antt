@@ -1,5 +1,5 @@
 use Rattle.std.proofs.Common.{◌+◌, ◌-◌, ◌^◌, List, refl, replicate, subst, sym, true}
-use Rattle.bit_sets.specs.Bits.{has_place}
+use Rattle.machine_sets.specs.BitSets.Bits.{has_place}
 use Rattle.net.specs.Tellings.{AreBranches, is_led_at, is_told}
 use Rattle.net.specs.declared.tellings.Branch.{Branch}
 use Rattle.net.proofs.KindExits.{every-place, may-be-told}

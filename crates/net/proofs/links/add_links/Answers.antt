@@ -1,8 +1,8 @@
 use Rattle.std.proofs.Common.{◌∙◌, List, All, ap, refl, sym, subst, arith}
 use Rattle.std.proofs.lemmas.List.Elements.{All-push}
-use Rattle.spreads.specs.Links.{IsInRange, is_linked}
-use Rattle.spreads.specs.declared.links.Link.{Link}
-use Rattle.spreads.proofs.LinkLemmas.{linked-more}
+use Rattle.machine_sets.specs.SpreadsWords.Links.{IsInRange, is_linked}
+use Rattle.machine_sets.specs.declared.spreads.links.Link.{Link}
+use Rattle.machine_sets.proofs.SpreadsWords.LinkLemmas.{linked-more}
 use Rattle.net.proofs.NetWires.{Adds-all, Adds-more, Adds-none}
 use Rattle.net.proofs.links.add_links.Goals as goal
 

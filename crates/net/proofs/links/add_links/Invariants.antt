@@ -1,6 +1,6 @@
 use Rattle.std.proofs.Common.{All, take}
 use Rattle.net.specs.AddedWires.{AddsLinks}
-use Rattle.spreads.specs.Links.{IsInRange}
+use Rattle.machine_sets.specs.SpreadsWords.Links.{IsInRange}
 use Rattle.net.proofs.links.add_links.Given as goal
 
 -- the entries so far have their links

@@ -1,6 +1,6 @@
 use Rattle.std.proofs.Common.{◌≡◌, ◌<◌, ℕ, false, get_or}
-use Rattle.bit_sets.specs.Bits.{has_place}
-use Rattle.spreads.specs.declared.links.Link.{Link}
+use Rattle.machine_sets.specs.BitSets.Bits.{has_place}
+use Rattle.machine_sets.specs.declared.spreads.links.Link.{Link}
 use Rattle.net.proofs.links.leads_to_any.Given as goal
 
 -- no link so far leads to any of the places

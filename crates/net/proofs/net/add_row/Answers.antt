@@ -1,6 +1,6 @@
 use Rattle.std.proofs.Common.{◌∙◌, refl, arith}
 use Rattle.net.proofs.NetWires.{Adds-none, Adds-more, Adds-all}
-use Rattle.bit_sets.specs.Rows.{leads}
+use Rattle.machine_sets.specs.BitSets.Rows.{leads}
 use Rattle.net.proofs.net.add_row.Goals as goal
 
 pub loop-to-init : goal.loop-to-init

@@ -1,7 +1,7 @@
 use Rattle.std.proofs.Common.{ℕ, List, subst, sym}
 use Rattle.card_code.specs.Rows.{passing_place}
-use Rattle.spreads.proofs.PassLemmas.{not-true}
-use Rattle.spreads.specs.Links.{Spreads}
+use Rattle.machine_sets.proofs.SpreadsWords.PassLemmas.{not-true}
+use Rattle.machine_sets.specs.SpreadsWords.Links.{Spreads}
 use Rattle.net.proofs.DirectWires.{wires-lead}
 use Rattle.net.proofs.PassedHubs.{is_exit_of, may-listed, outer-fed, passes-behind, passes-on, spreads-on}
 use Rattle.net.proofs.PassedRows.{passed_once, passed_twice}

@@ -1,8 +1,8 @@
 use Rattle.std.proofs.Common.{◌≤◌, ◌≡◌, ◌∙◌, All, List, ap, subst, sym, arith}
 use Rattle.std.proofs.lemmas.List.Elements.{All-nil}
-use Rattle.bit_sets.specs.Rows.{leads}
-use Rattle.spreads.specs.Links.{IsInRange, is_linked}
-use Rattle.spreads.specs.declared.links.Link.{Link}
+use Rattle.machine_sets.specs.BitSets.Rows.{leads}
+use Rattle.machine_sets.specs.SpreadsWords.Links.{IsInRange, is_linked}
+use Rattle.machine_sets.specs.declared.spreads.links.Link.{Link}
 use Rattle.net.proofs.NetWires.{IsNetBelow-first, IsNetBelow-more, IsNetOf-all, agree-more, no_hub}
 use Rattle.net.proofs.net.wired_for.Goals as goal
 use Rattle.net.proofs.net.wired_for.Goals.{in-Some+in_ok-add_links, in_default}

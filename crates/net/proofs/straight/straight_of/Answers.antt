@@ -1,8 +1,8 @@
 use Rattle.std.proofs.Common.{◌+◌, ◌≡◌, ◌||◌, ◌&&◌, ℕ, refl, take, get_or}
 use Rattle.std.specs.Prelude.{◌==◌}
 use Rattle.std.proofs.lemmas.List.Folds.{list_any_more}
-use Rattle.spreads.specs.Links.{is_link, is_linked}
-use Rattle.spreads.specs.declared.links.Link.{Link}
+use Rattle.machine_sets.specs.SpreadsWords.Links.{is_link, is_linked}
+use Rattle.machine_sets.specs.declared.spreads.links.Link.{Link}
 use Rattle.net.proofs.StraightRuns.{runs-more, runs-past}
 use Rattle.net.proofs.straight.straight_of.Goals as goal
 use Rattle.net.proofs.straight.straight_of.Goals.{then-link-lt-FIRST_TELLING+else-not-is_to_wheel+in_ok-add_wire, else-link-lt-FIRST_TELLING}

@@ -1,5 +1,5 @@
 use Rattle.std.proofs.Common.{take}
-use Rattle.spreads.specs.Links.{is_linked}
+use Rattle.machine_sets.specs.SpreadsWords.Links.{is_linked}
 use Rattle.net.specs.Straight.{AreRunsOf}
 use Rattle.net.proofs.straight.straight_of.Given as goal
 

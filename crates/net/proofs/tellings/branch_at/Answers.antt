@@ -1,6 +1,6 @@
 use Rattle.std.proofs.Common.{◌∙◌, ℕ, List, subst, sym}
 use Rattle.std.proofs.lemmas.Bool.{not-true}
-use Rattle.bit_sets.specs.Contacts.{ArePlacesApart}
+use Rattle.machine_sets.specs.BitSets.Contacts.{ArePlacesApart}
 use Rattle.net.specs.HubSets.{has_hub}
 use Rattle.net.specs.Tellings.{is_led_at}
 use Rattle.net.proofs.TellingLemmas.{AreOrdersOf-same, no-commons}

@@ -1,6 +1,6 @@
 use Rattle.std.proofs.Common.{◌∙◌, ◌||◌, ap}
 use Rattle.std.specs.Prelude.{◌==◌}
-use Rattle.bit_sets.proofs.PlaceLemmas.{has_place-zeros}
+use Rattle.machine_sets.proofs.BitSets.PlaceLemmas.{has_place-zeros}
 use Rattle.net.specs.declared.contacts.TheConstants.{CONTACTS}
 use Rattle.net.proofs.TellingLemmas.{led-found}
 use Rattle.net.proofs.tellings.led_from.Goals as goal

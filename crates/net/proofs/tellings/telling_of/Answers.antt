@@ -1,5 +1,5 @@
 use Rattle.std.proofs.Common.{◌∙◌, List, ℕ, subst, sym}
-use Rattle.bit_sets.specs.Contacts.{ArePlacesApart}
+use Rattle.machine_sets.specs.BitSets.Contacts.{ArePlacesApart}
 use Rattle.net.specs.HubSets.{has_hub}
 use Rattle.net.specs.Tellings.{is_led_at}
 use Rattle.net.proofs.TellingLemmas.{AreBranches-none, AreBranches-same, AreOrdersOf-same, no-commons}

@@ -1,7 +1,7 @@
 use Rattle.std.proofs.Common.{◌∙◌, ◌+◌, List, [], arith, subst, sym, take}
 use Rattle.std.proofs.lemmas.Bool.{false≢true}
 use Rattle.std.proofs.lemmas.List.{take_all}
-use Rattle.bit_sets.specs.Bits.{has_place}
+use Rattle.machine_sets.specs.BitSets.Bits.{has_place}
 use Rattle.net.specs.Orders.{AreOrdersOf}
 use Rattle.net.specs.Tellings.{AreLast, is_told}
 use Rattle.net.specs.declared.tellings.Branch.{Branch}

@@ -1,6 +1,6 @@
 use Rattle.std.proofs.Common.{ℕ, Bool, All, take}
 use Rattle.hubs.specs.declared.hub.Hub.{Hub}
-use Rattle.bit_sets.specs.Bits.{has_place}
+use Rattle.machine_sets.specs.BitSets.Bits.{has_place}
 use Rattle.net.specs.Orders.{AreOrdersOf}
 use Rattle.net.specs.Tellings.{AreLast, is_told}
 use Rattle.net.proofs.tellings.told_through.Given as goal

@@ -1,5 +1,5 @@
 use Rattle.std.proofs.Common.{◌≡◌, ℕ, ◌+◌, ◌<◌, ◌&&◌, nat_lt}
-use Rattle.setups.specs.Wiring.{is_plugged}
+use Rattle.hubs.specs.SetupsWords.Wiring.{is_plugged}
 use Rattle.net.specs.HubSets.{is_bit}
 use Rattle.print_unit.specs.WheelWords.{jack_of}
 use Rattle.print_unit.proofs.wheel_words.plugged.Given as goal

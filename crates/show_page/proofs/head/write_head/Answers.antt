@@ -1,6 +1,6 @@
 use Rattle.std.proofs.Common.{◌≡◌, ◌++◌}
 use Rattle.std.specs.String.{string_bytes}
-use Rattle.markup.proofs.Pieces.{and_more, where_ok}
+use Rattle.show_drawings.proofs.MarkupWords.Pieces.{and_more, where_ok}
 use Rattle.show_page.specs.Frame.{document_open, header_open, style_open}
 use Rattle.show_page.specs.Helper.{GainsHead}
 use Rattle.show_page.specs.Marks.{page_rules}

@@ -1,6 +1,6 @@
 use Rattle.std.proofs.Common.{◌≡◌, ◌++◌, codes, decimal}
 use Rattle.std.specs.String.{string_bytes}
-use Rattle.markup.proofs.Pieces.{and_more, pushed, where_ok}
+use Rattle.show_drawings.proofs.MarkupWords.Pieces.{and_more, pushed, where_ok}
 use Rattle.show_page.specs.Marks.{page_rule}
 use Rattle.show_page.proofs.marks.push_page_rule.Goals as goal
 

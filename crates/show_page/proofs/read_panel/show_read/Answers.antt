@@ -1,6 +1,6 @@
 use Rattle.std.proofs.Common.{◌≡◌, ◌∙◌, ◌++◌, ap, ℕ, List}
 use Rattle.std.specs.String.{string_bytes}
-use Rattle.wheel_ledgers.specs.Totals.{totals_in}
+use Rattle.explain_wheel_ledgers.specs.Totals.{totals_in}
 use Rattle.show_page.specs.ReadPanel.{read_legend}
 use Rattle.show_page.proofs.Parts.{made, same_page}
 use Rattle.show_page.proofs.read_panel.show_read.Goals as goal

@@ -1,6 +1,6 @@
 use Rattle.std.proofs.Common.{◌≡◌, ◌++◌}
 use Rattle.std.specs.String.{string_bytes}
-use Rattle.markup.proofs.Pieces.{and_more, where_ok}
+use Rattle.show_drawings.proofs.MarkupWords.Pieces.{and_more, where_ok}
 use Rattle.show_page.specs.ReadPanel.{GainsReadLegend, given_text, read_legend, read_open}
 use Rattle.show_page.proofs.read_panel.write_read_legend.Goals as goal
 

@@ -1,17 +1,17 @@
 use Rattle.std.proofs.Common.{◌≡◌, ◌∙◌, ◌++◌, ap, subst, sym, ℕ, List, length}
 use Rattle.std.specs.Prelude.{All, map}
 use Rattle.std.specs.String.{string_bytes}
-use Rattle.explanations.specs.declared.found.FoundLine.{FoundLine}
-use Rattle.page_links.specs.declared.shown.ShownRun.{ShownRun}
+use Rattle.explain_wheels.specs.declared.explanations.found.FoundLine.{FoundLine}
+use Rattle.show_links.specs.declared.shown.ShownRun.{ShownRun}
 use Rattle.page_text.specs.declared.placed_lines.placed_line.PlacedLine.{PlacedLine}
-use Rattle.setups.specs.Tapes.{CarriageTape}
-use Rattle.page_sections.specs.WheelSections.ToldWheels.{AreTold, printed_places}
-use Rattle.page_sections.specs.declared.wheel_sections.told.ToldWheel.{ToldWheel}
-use Rattle.page_links.specs.declared.sum_places.places.SumPlace.{SumPlace}
-use Rattle.sum_sections.specs.Sums.{AreSums, IsExplained, place_of}
-use Rattle.sum_sections.specs.declared.sums.PageSum.{PageSum}
-use Rattle.traces.specs.Parts.{IsTracePart}
-use Rattle.traces.specs.declared.parts.CycleChoice.{CycleChoice}
+use Rattle.hubs.specs.SetupsWords.Tapes.{CarriageTape}
+use Rattle.show_sections.specs.WheelSections.ToldWheels.{AreTold, printed_places}
+use Rattle.explain_words.specs.declared.explanation_text.text.ToldWheel.{ToldWheel}
+use Rattle.show_links.specs.declared.sum_places.places.SumPlace.{SumPlace}
+use Rattle.show_sums.specs.SumSections.Sums.{AreSums, IsExplained, place_of}
+use Rattle.show_sums.specs.declared.sum_sections.sums.PageSum.{PageSum}
+use Rattle.explain_words.specs.TracesWords.Parts.{IsTracePart}
+use Rattle.explain_words.specs.declared.traces.parts.CycleChoice.{CycleChoice}
 use Rattle.show_page.specs.Choice.{cycles_shown}
 use Rattle.show_page.specs.Helper.{GainsBody, GainsHead}
 use Rattle.show_page.specs.Page.{cards_part, sheets_part}

@@ -1,7 +1,7 @@
 use Rattle.std.proofs.Common.{◌≡◌, ◌++◌, subst, ℕ, List}
 use Rattle.std.specs.String.{string_bytes}
-use Rattle.card_sections.specs.Sections.{sections_text}
-use Rattle.markup.proofs.Pieces.{where_ok}
+use Rattle.show_sums.specs.CardSections.Sections.{sections_text}
+use Rattle.show_drawings.proofs.MarkupWords.Pieces.{where_ok}
 use Rattle.show_page.specs.Frame.{document_close}
 use Rattle.show_page.specs.Helper.{GainsBody}
 use Rattle.show_page.proofs.Parts.{body_whole}

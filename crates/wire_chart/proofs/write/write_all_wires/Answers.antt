@@ -1,7 +1,7 @@
 use Rattle.std.proofs.Common.{subst, sym}
 use Rattle.std.specs.String.{string_bytes}
-use Rattle.setups.proofs.WireLists.{on_ok}
-use Rattle.setups.specs.Wires.{AreWiresOf}
+use Rattle.hubs.proofs.SetupsWords.WireLists.{on_ok}
+use Rattle.hubs.specs.SetupsWords.Wires.{AreWiresOf}
 use Rattle.wire_chart.specs.declared.form.WireForm.TheVariants.{Couple, Plain, Ring}
 use Rattle.wire_chart.proofs.WireGains.{all_forms, all_wires}
 use Rattle.wire_chart.proofs.write.write_all_wires.Goals as goal

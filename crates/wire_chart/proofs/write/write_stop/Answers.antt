@@ -1,6 +1,6 @@
 use Rattle.std.proofs.Common.{sym}
 use Rattle.std.specs.String.{string_bytes}
-use Rattle.setups.proofs.WireLists.{on_ok}
+use Rattle.hubs.proofs.SetupsWords.WireLists.{on_ok}
 use Rattle.wire_chart.proofs.StopGains.{stop_gained}
 use Rattle.wire_chart.proofs.write.write_stop.Goals as goal
 

@@ -1,7 +1,7 @@
 use Rattle.std.proofs.Common.{refl, sym, ◌∙◌}
 use Rattle.std.proofs.lemmas.Bool.{false≢true}
 use Rattle.std.specs.String.{string_bytes}
-use Rattle.setups.proofs.WireLists.{on_ok}
+use Rattle.hubs.proofs.SetupsWords.WireLists.{on_ok}
 use Rattle.wire_chart.proofs.WireGains.{wire_gained, other_form}
 use Rattle.wire_chart.proofs.write.write_wire.Goals as goal
 

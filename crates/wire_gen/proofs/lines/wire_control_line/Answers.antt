@@ -1,6 +1,6 @@
 use Rattle.std.proofs.Common.{sym}
 use Rattle.std.proofs.lemmas.Result.{on_ok_weaker}
-use Rattle.line_wires.proofs.Steps.{adds-some}
+use Rattle.wiring_lines.proofs.LineWires.Steps.{adds-some}
 use Rattle.wire_gen.proofs.lines.wire_control_line.Goals as goal
 
 pub returns-in-Some : goal.returns-in-Some

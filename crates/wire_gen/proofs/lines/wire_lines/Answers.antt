@@ -1,5 +1,5 @@
 use Rattle.std.proofs.Common.{ap, arith, length}
-use Rattle.line_wires.proofs.Steps.{adds-some, line-there, upto-all, upto-more, upto-none}
+use Rattle.wiring_lines.proofs.LineWires.Steps.{adds-some, line-there, upto-all, upto-more, upto-none}
 use Rattle.wire_gen.proofs.lines.wire_lines.Goals as goal
 
 pub loop-line-init : goal.loop-line-init

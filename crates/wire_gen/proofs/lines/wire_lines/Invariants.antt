@@ -1,4 +1,4 @@
-use Rattle.line_wires.specs.HelperAdds.{Adds}
+use Rattle.wiring_lines.specs.LineWires.HelperAdds.{Adds}
 use Rattle.wire_gen.specs.HelperLines.{WiresBefore}
 use Rattle.wire_gen.proofs.lines.wire_lines.Given as goal
 

@@ -1,6 +1,6 @@
 use Rattle.std.proofs.Common.{OnOk}
-use Rattle.line_wires.proofs.Steps.{by-said}
-use Rattle.line_wires.specs.HelperAdds.{Adds}
+use Rattle.wiring_lines.proofs.LineWires.Steps.{by-said}
+use Rattle.wiring_lines.specs.LineWires.HelperAdds.{Adds}
 use Rattle.wire_gen.specs.HelperLines.{StatementWires}
 use Rattle.wire_gen.proofs.lines.wire_statement.Goals as goal
 

@@ -3,7 +3,7 @@ use Rattle.std.proofs.lemmas.Bool.Decides.{nat_tests}
 use Rattle.std.proofs.lemmas.List.{length-reverse, length-take-le}
 use borrow.Rule.Slice.PartMut.{post_of}
 use Rattle.card_code.specs.Rows.{row_number}
-use Rattle.hub_table.specs.Places.{positions_before}
+use Rattle.hubs.specs.HubTable.Places.{positions_before}
 use Rattle.hubs.specs.declared.hub.Hub.TheVariants.{GE}
 use Rattle.net.proofs.KindRows.{row_bit, GE_numbered}
 use Rattle.net.specs.HubSets.{has_hub, is_bit}

@@ -1,8 +1,8 @@
 use Rattle.std.proofs.Common.{◌≡◌, ◌∙◌, sym, None, true}
 use Rattle.hubs.proofs.HubLemmas.{named_in_range, named_out_of_range, if_found}
-use Rattle.hub_table.specs.HubTable.{row_of}
+use Rattle.hubs.specs.HubTable.HubTable.{row_of}
 use Rattle.hubs.specs.Hubs.{is_hub_in_range}
-use Rattle.hub_table.specs.Places.{place_of}
+use Rattle.hubs.specs.HubTable.Places.{place_of}
 use Rattle.hubs.proofs.hub.Hub.named.Goals as goal
 
 pub returns-in_err-place-clause-found : goal.returns-in_err-place-clause-found

@@ -1,4 +1,4 @@
-use Rattle.setups.specs.Wiring.{Wiring}
+use Rattle.hubs.specs.SetupsWords.Wiring.{Wiring}
 use Rattle.net.specs.Nets.{IsNetOf}
 use Rattle.machine.specs.Cycles.{Reached}
 use Rattle.machine.specs.Keeps.{Keeps}

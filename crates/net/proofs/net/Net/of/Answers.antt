@@ -1,9 +1,9 @@
 use Rattle.std.proofs.Common.{◌≡◌, ◌∙◌, All, IfSome, List, false, rules, subst}
-use Rattle.bit_sets.specs.Bits.{has_place}
-use Rattle.bit_sets.specs.Rows.{leads}
-use Rattle.spreads.specs.Links.{is_linked}
-use Rattle.spreads.specs.declared.links.Link.{Link}
-use Rattle.spreads.specs.Paths.{AreParted}
+use Rattle.machine_sets.specs.BitSets.Bits.{has_place}
+use Rattle.machine_sets.specs.BitSets.Rows.{leads}
+use Rattle.machine_sets.specs.SpreadsWords.Links.{is_linked}
+use Rattle.machine_sets.specs.declared.spreads.links.Link.{Link}
+use Rattle.machine_sets.specs.SpreadsWords.Paths.{AreParted}
 use Rattle.net.specs.CyclePaths.{AreCyclePaths}
 use Rattle.net.specs.Straight.{AreRunsOf}
 use Rattle.net.specs.declared.contacts.TheConstants.{CONTACTS}

@@ -1,6 +1,6 @@
 use Rattle.std.proofs.Common.{◌≡◌, ◌∙◌, IfSome, None, Option, subst, sym}
-use Rattle.setups.specs.Wiring.{Wiring}
-use Rattle.spreads.specs.Paths.{PathLinks}
+use Rattle.hubs.specs.SetupsWords.Wiring.{Wiring}
+use Rattle.machine_sets.specs.SpreadsWords.Paths.{PathLinks}
 use Rattle.net.specs.CyclePaths.{AreCyclePaths, ArePathsIn, ArePathsOfKind}
 use Rattle.net.specs.Nets.{IsNetOf, NetRows}
 use Rattle.net.specs.Tells.{kind_of}

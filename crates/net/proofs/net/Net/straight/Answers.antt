@@ -1,10 +1,10 @@
 use Rattle.std.proofs.Common.{◌≡◌, All, List, Option, Vec, Global, IfSome, false, subst, sym}
-use Rattle.bit_sets.specs.Bits.{has_place}
-use Rattle.bit_sets.specs.Rows.{leads}
+use Rattle.machine_sets.specs.BitSets.Bits.{has_place}
+use Rattle.machine_sets.specs.BitSets.Rows.{leads}
 use Rattle.net.specs.Nets.{IsNetOf, NetRows}
 use Rattle.net.specs.Straight.{AreRunsOf}
 use Rattle.net.specs.declared.straight.Straight.{Straight}
-use Rattle.spreads.specs.declared.links.Link.{Link}
+use Rattle.machine_sets.specs.declared.spreads.links.Link.{Link}
 use Rattle.net.proofs.DirectWires.{direct-wires}
 use Rattle.net.proofs.StraightRows.{straight-wires}
 use Rattle.net.proofs.net.Net.straight.Goals as goal

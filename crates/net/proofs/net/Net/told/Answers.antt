@@ -1,5 +1,5 @@
 use Rattle.std.proofs.Common.{◌+◌, ◌∙◌, subst, sym}
-use Rattle.bit_sets.specs.Bits.{has_place}
+use Rattle.machine_sets.specs.BitSets.Bits.{has_place}
 use Rattle.net.specs.HubSets.{has_hub}
 use Rattle.net.specs.Nets.{IsNetOf, NetRows}
 use Rattle.net.specs.Orders.{AreOrdersOf, AreToldBy}

@@ -1,5 +1,5 @@
 use Rattle.hubs.specs.Hubs.{number_of}
-use Rattle.bit_sets.proofs.PlaceLemmas.{has_place-zeros}
+use Rattle.machine_sets.proofs.BitSets.PlaceLemmas.{has_place-zeros}
 use Rattle.net.proofs.Sets.{has_number-zeros}
 use Rattle.net.proofs.picture.Picture.new.Goals as goal
 

@@ -1,7 +1,7 @@
 use Rattle.std.proofs.Common.{subst, sym, List}
 use Rattle.std.specs.Prelude.{All}
-use Rattle.explanations.specs.Pages.{AreFoundLines}
-use Rattle.explanations.specs.PlacedInRun.{PrintsLine}
+use Rattle.explain_wheels.specs.ExplanationsWords.Pages.{AreFoundLines}
+use Rattle.explain_wheels.specs.ExplanationsWords.PlacedInRun.{PrintsLine}
 use Rattle.page_text.specs.declared.placed_lines.placed_line.PlacedLine.{PlacedLine}
 use Rattle.show_page.proofs.ShownLines.Gains.{all_print, all_shown}
 use Rattle.show_page.proofs.shown_lines.shown.all_lines.Goals as goal

@@ -1,8 +1,8 @@
 use Rattle.std.proofs.Common.{◌∙◌, sym, ap, subst, [], ◌∷◌, ◌++◌, List, map, take}
 use Rattle.std.proofs.lemmas.List.{map-append, take_all, take_more}
-use Rattle.explanations.specs.Pages.{found_of}
-use Rattle.explanations.specs.declared.explanation.LineWays.{LineWays}
-use Rattle.explanations.specs.declared.found.FoundLine.{FoundLine}
+use Rattle.explain_wheels.specs.ExplanationsWords.Pages.{found_of}
+use Rattle.explain_wheels.specs.declared.explanations.explanation.LineWays.{LineWays}
+use Rattle.explain_wheels.specs.declared.explanations.found.FoundLine.{FoundLine}
 use Rattle.show_page.specs.ShownLines.Helper.{GainsLines}
 use Rattle.show_page.proofs.ShownLines.Gains.{GainsLines-more, GainsLines-none}
 use Rattle.show_page.proofs.shown_lines.shown.push_lines.Goals as goal

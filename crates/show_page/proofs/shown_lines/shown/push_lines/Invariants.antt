@@ -1,5 +1,5 @@
 use Rattle.std.specs.Prelude.{map, take}
-use Rattle.explanations.specs.Pages.{found_of}
+use Rattle.explain_wheels.specs.ExplanationsWords.Pages.{found_of}
 use Rattle.show_page.specs.ShownLines.Helper.{GainsLines}
 use Rattle.show_page.proofs.shown_lines.shown.push_lines.Given as goal
 

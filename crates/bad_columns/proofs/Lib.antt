@@ -1,4 +1,0 @@
-mod Slips
-mod Rows
-mod Amounts
-mod Fields

@@ -1,7 +1,0 @@
-use Rattle.std.proofs.Common.{◌≡◌, drop}
-use Rattle.bad_columns.specs.Columns.{bad_among}
-use Rattle.bad_columns.proofs.column.bad_among.Given as goal
-
--- it is that of the fields from here on
-abbrev pub invariant-loop-field : goal.invariant-loop-field
-invariant-loop-field l = bad_among l.first l.line l.fields ≡ bad_among l.first l.line (drop l.field-index l.fields)

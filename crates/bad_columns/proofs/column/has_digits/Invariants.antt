@@ -1,7 +1,0 @@
-use Rattle.std.proofs.Common.{◌≡◌, ◌+◌, drop}
-use Rattle.bad_columns.specs.Columns.{has_digits}
-use Rattle.bad_columns.proofs.column.has_digits.Given as goal
-
--- a digit stands in a column exactly if one does from here on
-abbrev pub invariant-loop-place : goal.invariant-loop-place
-invariant-loop-place l = has_digits l.field 1 l.bytes ≡ has_digits l.field (l.place + 1) (drop l.place l.bytes)

@@ -1,9 +1,0 @@
-use Rattle.std.proofs.Common.{◌∙◌, ap, ◌*◌, ◌%◌, ◌^◌}
-use Rattle.bit_sets.specs.Bits.{is_bit}
-use Rattle.bit_sets.proofs.BitLemmas.{is_bit-where}
-use Rattle.bit_sets.proofs.bits.bit_where.Goals as goal
-
-pub returns : goal.returns
-returns c other =
-    ap (λ n. is_bit (n * 2 ^ c.args.bit % 2 ^ 64) other) c.from.ensures
-    ∙ is_bit-where c.args.test c.args.bit other c.requires

@@ -1,6 +1,0 @@
-use Rattle.std.proofs.Common.{◌≡◌, drop}
-use Rattle.bit_sets.specs.Contacts.{is_any_contact}
-use Rattle.bit_sets.proofs.bundles.is_in_runs.Given as goal
-
-abbrev pub invariant-loop-run : goal.invariant-loop-run
-invariant-loop-run l = is_any_contact (drop l.run-index l.runs) l.from l.to ≡ is_any_contact l.runs l.from l.to

@@ -1,6 +1,0 @@
-use Rattle.std.proofs.Common.{◌∙◌, sym}
-use Rattle.bit_sets.proofs.PlaceLemmas.{has_place-word}
-use Rattle.bit_sets.proofs.places.has_within.Goals as goal
-
-pub returns : goal.returns
-returns c = c.has_bit.ensures ∙ sym (has_place-word c.args.words.now c.args.place)

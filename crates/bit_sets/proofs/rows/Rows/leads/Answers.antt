@@ -1,8 +1,0 @@
-use Rattle.std.proofs.Common.{◌≤◌, sym, length, rules}
-use Rattle.bit_sets.proofs.LedLemmas.{leads-past}
-use Rattle.bit_sets.proofs.rows.Rows.leads.Goals as goal
-
-pub returns-else-from-len : goal.returns-else-from-len
-returns-else-from-len c =
-    let past : length c.self.inside.rows.items ≤ c.args.from = search rules in
-    rw (← c.self.view_is) (sym (leads-past c.self.inside.rows.items c.args.from c.args.to past))

@@ -1,6 +1,0 @@
-use Rattle.bit_sets.proofs.SearchLemmas.{IsReached-by_rows}
-use Rattle.bit_sets.proofs.search.reach_by_rows.Goals as goal
-
-pub returns-clause-reached : goal.returns-clause-reached
-returns-clause-reached c runs place =
-    IsReached-by_rows c.args.rows.now runs c.args.emits.now c.join_own.new.words c.join_own.ensures.gains place

@@ -1,2 +1,0 @@
-mod Showing
-mod Stopping

@@ -1,9 +1,0 @@
-use Rattle.std.specs.Prelude.{◌≡◌, ◌++◌}
-use Rattle.std.specs.List.{flat_map, range_with_len}
-use Rattle.std.specs.String.{string_bytes}
-use Rattle.card_sections.specs.Decks.{entry_text}
-use Rattle.card_sections.proofs.deck.write_entries.Given as goal
-
--- the cards so far are written
-abbrev pub invariant-loop-passed : goal.invariant-loop-passed
-invariant-loop-passed l = string_bytes l.text ≡ string_bytes l.initial.text ++ flat_map entry_text (range_with_len l.first l.passed)

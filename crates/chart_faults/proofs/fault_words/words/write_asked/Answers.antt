@@ -1,7 +1,0 @@
-use Rattle.chart_faults.specs.FaultWords.Words.{asked_words}
-use Rattle.chart_faults.proofs.FaultWords.Writing.{then_writes}
-use Rattle.chart_faults.proofs.fault_words.words.write_asked.Goals as goal
-
-pub returns : goal.returns
-unfolding asked_words
-returns g c = then_writes c.write_subject.result _ _ _ _ _ c.in_ok-write_all.ensures.bytes c.write_subject.ensures

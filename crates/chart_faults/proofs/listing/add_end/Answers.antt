@@ -1,7 +1,0 @@
-use Rattle.chart_rules.specs.HelperOrder.{in_order}
-use Rattle.chart_faults.specs.HelperLists.{faults_at_end}
-use Rattle.chart_faults.proofs.listing.add_end.Goals as goal
-
-pub returns : goal.returns
-unfolding faults_at_end in_order
-returns c = c.add_lacking.ensures

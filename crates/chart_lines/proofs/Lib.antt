@@ -1,0 +1,2 @@
+pub mod TokensWords
+pub mod ChartsWords

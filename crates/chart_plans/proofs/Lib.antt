@@ -1,0 +1,2 @@
+pub mod WantedWords
+pub mod PlansWords

@@ -1,0 +1,5 @@
+pub mod CounterGroups
+pub mod Enough
+pub mod Numbers
+pub mod Single
+pub mod EachKind

@@ -1,0 +1,9 @@
+pub mod ChartTotals
+pub mod Totals
+pub mod Pilots
+pub mod Positions
+pub mod Units
+pub mod Wanted
+pub mod Counts
+pub mod HelperAfter
+pub mod HelperLines

@@ -1,1 +1,0 @@
-pub use Rattle.card_code.specs as card_code

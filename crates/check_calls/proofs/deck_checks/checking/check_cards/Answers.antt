@@ -1,5 +1,0 @@
-use Rattle.check_calls.proofs.DeckChecks.Whole.{not_begun}
-use Rattle.check_calls.proofs.deck_checks.checking.check_cards.Goals as goal
-
-pub returns-in-Err-clause-ends : goal.returns-in-Err-clause-ends
-returns-in-Err-clause-ends g c = not_begun c.args.chart.now (g.R.Read.remaining c.args.deck) (g.W.Write.contents c.args.out.now)

@@ -1,6 +1,0 @@
-use Rattle.check_calls.specs.DeckChecks.HelperLines.{HasBegun}
-use Rattle.check_calls.proofs.deck_checks.line.next_line.Given as goal
-
--- the front of the line is kept
-abbrev pub invariant-loop : goal.invariant-loop
-invariant-loop g l = HasBegun (g.R.Read.remaining l.initial.reader) (g.R.Read.remaining l.reader) l.kept.items

@@ -1,7 +1,0 @@
-use Rattle.check_calls.proofs.DeckChecks.Showing.{taken_shown}
-use Rattle.check_calls.proofs.deck_checks.shown.Shown.take.Goals as goal
-
-pub returns-clause-takes : goal.returns-clause-takes
-returns-clause-takes c =
-    taken_shown c.add.result c.args.chart.now _ c.args.line.now c.args.standing.now c.take-told.new.self c.args.self.now c.add.new.self
-    c.take-told.result c.take-told.ensures.takes c.add.ensures.text c.add.ensures.first

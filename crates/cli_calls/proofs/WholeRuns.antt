@@ -1,0 +1,3 @@
+pub mod PageLaws
+pub mod Passing
+pub mod Printing

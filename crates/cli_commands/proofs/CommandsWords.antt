@@ -1,0 +1,11 @@
+pub mod Exclusions
+pub mod Outcomes
+pub mod PrintedPages
+pub mod Refusing
+pub mod Stopping
+pub mod RunEnds
+pub mod Streaming
+pub mod Upgrading
+pub mod ServedReplays
+pub mod UnitOrders
+pub mod DeckReplays

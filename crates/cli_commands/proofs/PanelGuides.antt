@@ -1,0 +1,9 @@
+pub mod Explaining
+pub mod Legending
+pub mod OnPages
+pub mod PanelFaults
+pub mod RefusedTexts
+pub mod Stopping
+pub mod TraceCalls
+pub mod LedgerCalls
+pub mod Written

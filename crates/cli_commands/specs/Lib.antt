@@ -1,0 +1,2 @@
+pub mod CommandsWords
+pub mod PanelGuides

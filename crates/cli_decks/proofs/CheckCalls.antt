@@ -1,0 +1,11 @@
+pub mod BadLines
+pub mod Checked
+pub mod EarlierGroups
+pub mod FirstFaults
+pub mod Fronts
+pub mod Grouped
+pub mod LargeTold
+pub mod Pairings
+pub mod Shown
+pub mod TakenBehind
+pub mod DeckChecks

@@ -1,0 +1,4 @@
+pub mod Bounds
+pub mod KeptLines
+pub mod Punched
+pub mod FoldCalls

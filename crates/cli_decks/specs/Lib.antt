@@ -1,0 +1,3 @@
+pub mod DeckNotes
+pub mod CheckCalls
+pub mod FoldingWords

@@ -1,0 +1,4 @@
+pub mod Slips
+pub mod Rows
+pub mod Amounts
+pub mod Fields

@@ -1,0 +1,2 @@
+pub mod BadColumns
+pub mod SheetsWords

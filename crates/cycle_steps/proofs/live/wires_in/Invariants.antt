@@ -1,9 +1,0 @@
-use Rattle.std.specs.Prelude.{◌≡◌, take}
-use Rattle.std.specs.List.{filter}
-use Rattle.net.specs.HubSets.{has_hub}
-use Rattle.cycle_steps.specs.Live.{leaves_any}
-use Rattle.cycle_steps.proofs.live.wires_in.Given as goal
-
--- the wires so far that leave a hub of the picture
-abbrev pub invariant-loop-wire : goal.invariant-loop-wire
-invariant-loop-wire l = l.live.items ≡ filter (leaves_any (has_hub l.picture)) (take l.wire-index l.wires)

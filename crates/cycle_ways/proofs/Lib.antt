@@ -1,5 +1,0 @@
-mod Points
-mod Following
-mod Named
-mod Controls
-mod Digits

@@ -1,8 +1,0 @@
-//! A law of decks in a row. The function does nothing: its contract is the law.
-
-ghost use Rattle.decks_in_row.specs.Laws.{DecksKeepTheirLines};
-
-/// The lines of decks in a row are those of the first, then those of the second, and so on.
-pub fn decks_keep_their_lines()
-    ensures { DecksKeepTheirLines }
-{}

@@ -1,9 +1,0 @@
-use Rattle.std.proofs.Common.{drop, ◌++◌, ◌≡◌}
-use Rattle.std.specs.List.{flat_map}
-use Rattle.std.specs.String.{string_bytes}
-use Rattle.differences.specs.PanelProgress.Standings.{count_line, counts_text}
-use Rattle.differences.proofs.panel_progress.standings.write_counts.Given as goal
-
-abbrev pub invariant-loop-count : goal.invariant-loop-count
-invariant-loop-count l =
-    string_bytes l.text ++ flat_map count_line (drop l.count-index l.counts) ≡ string_bytes l.initial.text ++ counts_text l.counts

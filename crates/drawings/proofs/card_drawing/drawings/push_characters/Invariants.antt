@@ -1,7 +1,0 @@
-use Rattle.std.specs.Prelude.{◌≡◌, ◌++◌, take}
-use Rattle.drawings.specs.CardDrawing.Drawings.{characters_of}
-use Rattle.drawings.proofs.card_drawing.drawings.push_characters.Given as goal
-
--- those so far are added
-abbrev pub invariant-loop-column : goal.invariant-loop-column
-invariant-loop-column l = l.characters.items ≡ l.initial.characters.items ++ characters_of (take l.column-index l.columns)

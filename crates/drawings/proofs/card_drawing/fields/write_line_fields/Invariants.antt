@@ -1,9 +1,0 @@
-use Rattle.std.specs.Prelude.{◌≡◌, ◌++◌, take}
-use Rattle.std.specs.List.{flat_map}
-use Rattle.std.specs.String.{string_bytes}
-use Rattle.drawings.specs.CardDrawing.Drawings.{line_field}
-use Rattle.drawings.proofs.card_drawing.fields.write_line_fields.Given as goal
-
--- those so far are written
-abbrev pub invariant-loop-line : goal.invariant-loop-line
-invariant-loop-line l = string_bytes l.text ≡ string_bytes l.initial.text ++ flat_map line_field (take l.line-index l.lines)

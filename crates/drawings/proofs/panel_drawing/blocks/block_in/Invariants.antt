@@ -1,7 +1,0 @@
-use Rattle.std.specs.Prelude.{◌≡◌, drop}
-use Rattle.drawings.specs.PanelDrawing.Blocks.{block_in}
-use Rattle.drawings.proofs.panel_drawing.blocks.block_in.Given as goal
-
--- the block is among those that are left
-abbrev pub invariant-loop-block : goal.invariant-loop-block
-invariant-loop-block l = block_in (drop l.block-index l.table) l.number ≡ block_in l.table l.number

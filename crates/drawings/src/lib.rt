@@ -1,8 +1,0 @@
-//! Punched cards and the control panel as drawings.
-//!
-//! - `card_drawing`: punched cards as drawings
-//! - `panel_drawing`: the control panel as a drawing
-#![tactic(auto)]
-
-pub mod card_drawing;
-pub mod panel_drawing;

@@ -1,0 +1,16 @@
+pub mod Points
+pub mod Sums
+pub mod Turns
+pub mod Small
+pub mod Places
+pub mod Whole
+pub mod Coupled
+pub mod Summaries
+pub mod Running
+pub mod Loops
+pub mod Keeping
+pub mod KeptLedgers
+pub mod SoughtLines
+pub mod InCycle
+pub mod CycleReadOuts
+pub mod LedgerText

@@ -1,0 +1,2 @@
+pub mod LedgersWords
+pub mod CycleWays

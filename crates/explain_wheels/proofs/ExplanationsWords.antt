@@ -1,0 +1,13 @@
+pub mod Feeding
+pub mod Givers
+pub mod PageFeeding
+pub mod PageLines
+pub mod PointsTold
+pub mod Printed
+pub mod ReadyRuns
+pub mod RowLists
+pub mod Says
+pub mod SeenRows
+pub mod Told
+pub mod ZeroControl
+pub mod LineFeeding

@@ -1,0 +1,2 @@
+pub mod WaysWords
+pub mod ExplanationsWords

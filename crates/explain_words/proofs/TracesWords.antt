@@ -1,0 +1,5 @@
+pub mod Pieces
+pub mod Running
+pub mod PartCycles
+pub mod PartRuns
+pub mod OneTrace

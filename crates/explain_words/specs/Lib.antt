@@ -1,0 +1,2 @@
+pub mod ExplanationText
+pub mod TracesWords

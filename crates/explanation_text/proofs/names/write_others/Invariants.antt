@@ -1,9 +1,0 @@
-use Rattle.std.specs.Prelude.{◌≡◌, ◌++◌, take}
-use Rattle.std.specs.List.{flat_map}
-use Rattle.std.specs.String.{string_bytes}
-use Rattle.explanation_text.specs.Text.{led_text}
-use Rattle.explanation_text.proofs.names.write_others.Given as goal
-
--- the hubs so far are written
-abbrev pub invariant-loop-hub : goal.invariant-loop-hub
-invariant-loop-hub l = string_bytes l.text ≡ string_bytes l.initial.text ++ flat_map led_text (take l.hub-index l.hubs)

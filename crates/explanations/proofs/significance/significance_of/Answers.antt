@@ -1,6 +1,0 @@
-use Rattle.std.proofs.Common.{sym}
-use Rattle.explanations.proofs.significance.significance_of.Goals as goal
-
-pub returns-in-Some : goal.returns-in-Some
-returns-in-Some c points pictures are seen =
-    (sym c.if-not-has_zero_control.ensures, c.in-Some.ensures points pictures are seen)

@@ -1,0 +1,3 @@
+pub mod FaultsWords
+pub mod ProgramIo
+pub mod FaultGuide

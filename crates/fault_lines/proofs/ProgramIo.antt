@@ -1,0 +1,5 @@
+pub mod Division
+pub mod Fronting
+pub mod Refusing
+pub mod Stopping
+pub mod StoppingWith

@@ -1,0 +1,5 @@
+pub mod ChartCauses
+pub mod FaultNumbers
+pub mod Lines
+pub mod Status
+pub mod ToldFaults

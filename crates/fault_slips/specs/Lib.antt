@@ -1,0 +1,3 @@
+pub mod LineMarks
+pub mod LineSlips
+pub mod WordSlips

@@ -1,0 +1,5 @@
+pub mod Spans
+pub mod Marks
+pub mod Emptied
+pub mod Entries
+pub mod FirstLines

@@ -1,0 +1,4 @@
+pub mod Slips
+pub mod Forms
+pub mod LineEntries
+pub mod Near

@@ -1,1 +1,0 @@
-pub use Rattle.chart_text.proofs as chart_text

@@ -1,1 +1,0 @@
-pub use Rattle.chart_text.specs as chart_text

@@ -1,6 +1,0 @@
-pub mod Below
-pub mod ChartCauses
-pub mod FaultNumbers
-pub mod Lines
-pub mod Status
-pub mod ToldFaults

@@ -1,4 +1,0 @@
-mod Bounds
-mod KeptLines
-mod Punched
-pub mod FoldCalls

@@ -1,6 +1,0 @@
-mod Impulses
-mod Asks
-mod Brushes
-mod Differences
-mod Cards
-mod Reasons

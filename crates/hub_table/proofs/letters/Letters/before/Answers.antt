@@ -1,9 +1,0 @@
-use Rattle.std.proofs.Common.{ap}
-use Rattle.hub_table.proofs.KindLemmas.{stands_within}
-use Rattle.hub_table.proofs.letters.Letters.before.Goals as goal
-
-pub returns-clause-value : goal.returns-clause-value
-returns-clause-value c = ap (λ row. row.before) c.row.ensures
-
-pub returns-clause-range : goal.returns-clause-range
-returns-clause-range c = rw (returns-clause-value c) (stands_within c.args.self)

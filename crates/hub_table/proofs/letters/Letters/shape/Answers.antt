@@ -1,5 +1,0 @@
-use Rattle.std.proofs.Common.{ap}
-use Rattle.hub_table.proofs.letters.Letters.shape.Goals as goal
-
-pub returns : goal.returns
-returns c = ap (λ row. row.shape) c.row.ensures

@@ -1,7 +1,0 @@
--- None of the kinds so far has a hub of the number.
-use Rattle.std.proofs.Common.{All, take}
-use Rattle.hub_table.specs.HubTable.{HasNumber}
-use Rattle.hub_table.proofs.letters.find_number.Given as goal
-
-abbrev pub invariant-loop-letters : goal.invariant-loop-letters
-invariant-loop-letters l = All (λ letters. ¬ HasNumber letters l.number) (take l.letters-index l.kinds)

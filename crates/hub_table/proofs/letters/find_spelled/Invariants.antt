@@ -1,7 +1,0 @@
--- None of the kinds so far is written so.
-use Rattle.std.proofs.Common.{◌≢◌, All, take}
-use Rattle.hub_table.specs.HubTable.{row_of}
-use Rattle.hub_table.proofs.letters.find_spelled.Given as goal
-
-abbrev pub invariant-loop-letters : goal.invariant-loop-letters
-invariant-loop-letters l = All (λ letters. (row_of letters).spelled ≢ l.token) (take l.letters-index l.kinds)

@@ -1,7 +1,0 @@
-use Rattle.std.proofs.Common.{◌≤◌}
-use Rattle.jacks_and_tape.specs.HelperJacks.{Punches, StopsBefore}
-use Rattle.jacks_and_tape.proofs.chart_tape.punched_tape.Given as goal
-
-abbrev pub invariant-loop-channel : goal.invariant-loop-channel
-invariant-loop-channel l =
-    (2 ≤ l.channel) × (l.channel ≤ 12) × Punches (StopsBefore l.lines l.channel) l.initial.tape l.tape

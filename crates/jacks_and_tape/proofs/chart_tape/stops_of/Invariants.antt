@@ -1,6 +1,0 @@
-use Rattle.wiring_table.specs.Below.report.ChartForm.{stops_of}
-use Rattle.std.proofs.Common.{drop, ◌≡◌}
-use Rattle.jacks_and_tape.proofs.chart_tape.stops_of.Given as goal
-
-abbrev pub invariant-loop-line : goal.invariant-loop-line
-invariant-loop-line l = stops_of (drop l.line-index l.lines) l.wanted ≡ stops_of l.lines l.wanted

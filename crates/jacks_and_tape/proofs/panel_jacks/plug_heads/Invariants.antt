@@ -1,8 +1,0 @@
-use Rattle.std.proofs.Common.{◌≤◌}
-use Rattle.jacks_and_tape.specs.HelperJacks.{Plugs, Ranged}
-use Rattle.hubs.specs.declared.jack.Jack.TheVariants as jack
-use Rattle.jacks_and_tape.proofs.panel_jacks.plug_heads.Given as goal
-
-abbrev pub invariant-loop-heading : goal.invariant-loop-heading
-invariant-loop-heading l =
-    (1 ≤ l.heading) × (l.heading ≤ l.end) × Plugs (Ranged jack.Head 1 l.heading) l.initial.setup l.setup

@@ -1,6 +1,0 @@
-use Rattle.std.proofs.Common.{◌≤◌}
-use Rattle.jacks_and_tape.specs.HelperJacks.{Plugs, TotalsBelow}
-use Rattle.jacks_and_tape.proofs.panel_jacks.plug_totals.Given as goal
-
-abbrev pub invariant-loop-level : goal.invariant-loop-level
-invariant-loop-level l = (l.level ≤ 5) × Plugs (TotalsBelow l.lines l.level) l.initial.setup l.setup

@@ -1,7 +1,0 @@
-use Rattle.std.specs.Prelude.{◌≡◌, map, take}
-use Rattle.ledgers.specs.SoughtLines.{unfound}
-use Rattle.ledgers.proofs.found.all_unfound.Given as goal
-
--- the lines so far
-abbrev pub invariant-loop-at : goal.invariant-loop-at
-invariant-loop-at l = l.sought.items ≡ map unfound (take l.at-index l.places)

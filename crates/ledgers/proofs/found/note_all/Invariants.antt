@@ -1,7 +1,0 @@
-use Rattle.std.proofs.Common.{◌≡◌, ◌++◌, map, take, drop}
-use Rattle.ledgers.specs.SoughtLines.{noted}
-use Rattle.ledgers.proofs.found.note_all.Given as goal
-
--- the cycle is noted at the lines so far
-abbrev pub invariant-loop-line : goal.invariant-loop-line
-invariant-loop-line l = l.sought ≡ map (noted l.one) (take l.line-index l.fn.sought) ++ drop l.line-index l.fn.sought

@@ -1,7 +1,0 @@
-use Rattle.std.specs.Prelude.{◌≡◌, map, take}
-use Rattle.ledgers.specs.KeptLedgers.{empty_ledger}
-use Rattle.ledgers.proofs.kept.empty_ledgers.Given as goal
-
--- the ledgers so far
-abbrev pub invariant-loop-one : goal.invariant-loop-one
-invariant-loop-one l = l.kept.items ≡ map (empty_ledger l.ends) (take l.one-index l.asked)

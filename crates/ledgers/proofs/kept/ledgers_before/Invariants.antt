@@ -1,6 +1,0 @@
-use Rattle.ledgers.proofs.KeptLedgers.{KeepsAll}
-use Rattle.ledgers.proofs.kept.ledgers_before.Given as goal
-
--- the machine stands in the run over the deck, and the ledgers are kept up to here
-abbrev pub invariant-loop-passed : goal.invariant-loop-passed
-invariant-loop-passed l = KeepsAll l.setup l.cards l.ends l.asked l.card l.passed l.machine l.hopper l.kept.items

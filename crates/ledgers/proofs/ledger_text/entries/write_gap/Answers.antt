@@ -1,9 +1,0 @@
-use Rattle.std.proofs.Common.{option_map}
-use Rattle.ledgers.specs.LedgerText.Titles.{words_of}
-use Rattle.ledgers.proofs.LedgerText.Texts.{gap-told}
-use Rattle.ledgers.proofs.ledger_text.entries.write_gap.Goals as goal
-
-pub returns : goal.returns
-returns c =
-    gap-told c.write_together.result (option_map words_of c.args.title.now) c.args.left_out c.decimals_in.result c.args.text.now.items
-    c.write_count.new.text.items c.write_together.new.text.items c.decimals_in.ensures c.in_ok-write_count.ensures c.write_together.ensures

@@ -1,5 +1,0 @@
-use Rattle.legend.proofs.Whole.{of-lines}
-use Rattle.legend.proofs.laws.lines_make_the_setup.Goals as goal
-
-pub returns : goal.returns
-returns c = of-lines

@@ -1,6 +1,0 @@
-use Rattle.legend.specs.LineSetups.{AreLineSetups}
-use Rattle.legend.proofs.writing.line_setups.Given as goal
-
--- the lines so far have words and what they ask for
-abbrev pub invariant-loop-line : goal.invariant-loop-line
-invariant-loop-line l = AreLineSetups l.chart.lines l.plan l.source l.line-index l.all.items

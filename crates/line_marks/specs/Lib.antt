@@ -1,6 +1,0 @@
-pub mod Below
-pub mod Spans
-pub mod Marks
-pub mod Emptied
-pub mod Entries
-pub mod FirstLines

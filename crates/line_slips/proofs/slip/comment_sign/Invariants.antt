@@ -1,6 +1,0 @@
-use Rattle.std.proofs.Common.{◌≡◌, drop, false}
-use Rattle.line_slips.specs.Slips.{comment_from}
-use Rattle.line_slips.proofs.slip.comment_sign.Given as goal
-
-abbrev pub invariant-loop-place : goal.invariant-loop-place
-invariant-loop-place l = comment_from false 0 l.line ≡ comment_from l.is_open l.place (drop l.place l.line)

@@ -1,1 +1,0 @@
-pub use Rattle.charts.specs as charts

@@ -1,5 +1,0 @@
-pub mod Below
-pub mod Slips
-pub mod Forms
-pub mod LineEntries
-pub mod Near

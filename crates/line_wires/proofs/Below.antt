@@ -1,1 +1,0 @@
-pub use Rattle.wiring_table.proofs as wiring_table

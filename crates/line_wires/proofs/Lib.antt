@@ -1,3 +1,0 @@
-pub mod Below
-mod RowSets
-pub mod Steps

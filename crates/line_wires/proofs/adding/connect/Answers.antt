@@ -1,5 +1,0 @@
-use Rattle.line_wires.proofs.Steps.{adds-one}
-use Rattle.line_wires.proofs.adding.connect.Goals as goal
-
-pub returns-in-Ok : goal.returns-in-Ok
-returns-in-Ok c = adds-one c.in-Ok.ensures.wires c.in-Ok.ensures.jacks c.in-Ok.ensures.tape

@@ -1,9 +1,0 @@
-use Rattle.std.proofs.Common.{◌+◌, ◌-◌}
-use Rattle.wiring_table.specs.Figures.{digit_wheel}
-use Rattle.line_wires.specs.HelperAdds.{Adds, Upto}
-use Rattle.line_wires.specs.HelperRows.{DigitWires}
-use Rattle.line_wires.proofs.detail.wire_digits.Given as goal
-
-abbrev pub invariant-loop-place : goal.invariant-loop-place
-invariant-loop-place l =
-    Adds (Upto l.place (λ place. DigitWires l.plan l.line l.sign (l.end - (place + 1)) (digit_wheel l.wheel l.digits l.decimals (place + 1)))) l.initial.setup l.setup

@@ -1,1 +1,0 @@
-pub use Rattle.wiring_table.specs as wiring_table

@@ -1,5 +1,0 @@
-pub mod Below
-pub mod HelperAdds
-pub mod HelperRows
-pub mod HelperRanges
-pub mod HelperItems

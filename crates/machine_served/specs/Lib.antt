@@ -1,0 +1,4 @@
+pub mod ServedWords
+pub mod WaitsWords
+pub mod ServedUnits
+pub mod ServedRuns

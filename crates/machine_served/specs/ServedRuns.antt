@@ -1,0 +1,5 @@
+pub mod Units
+pub mod Contacts
+pub mod Course
+pub mod Seen
+pub mod Runs

@@ -1,8 +1,0 @@
-use Rattle.markup.proofs.Reading.{read_back, written_well}
-use Rattle.markup.proofs.laws.escaped_texts_read_back.Goals as goal
-
-pub returns-clause-back : goal.returns-clause-back
-returns-clause-back c = read_back
-
-pub returns-clause-writable : goal.returns-clause-writable
-returns-clause-writable c = written_well

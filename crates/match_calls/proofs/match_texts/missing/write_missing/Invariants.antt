@@ -1,7 +1,0 @@
-use Rattle.std.specs.String.{string_bytes}
-use Rattle.match_calls.specs.MatchTexts.Helper.{GainsBefore}
-use Rattle.match_calls.proofs.match_texts.missing.write_missing.Given as goal
-
-abbrev pub invariant-loop-line : goal.invariant-loop-line
-invariant-loop-line l =
-    GainsBefore l.version l.chart.lines l.plan l.setup l.line-index (string_bytes l.initial.text) (string_bytes l.text)

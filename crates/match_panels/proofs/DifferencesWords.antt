@@ -1,0 +1,9 @@
+pub mod Steps
+pub mod Stops
+pub mod Wires
+pub mod Jacks
+pub mod Counts
+pub mod Counting
+pub mod Same
+pub mod Joined
+pub mod PanelProgress

@@ -1,0 +1,2 @@
+pub mod DifferencesWords
+pub mod MatchingWords

@@ -1,2 +1,0 @@
-mod Compared
-pub mod Told

@@ -1,1 +1,0 @@
-pub use Rattle.report.proofs as report

@@ -1,5 +1,0 @@
-use Rattle.misfits.proofs.OpenTotals.{groups_close}
-use Rattle.misfits.proofs.laws.ended_groups_close.Goals as goal
-
-pub returns : goal.returns
-returns c = groups_close

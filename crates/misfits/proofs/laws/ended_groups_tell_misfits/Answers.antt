@@ -1,5 +1,0 @@
-use Rattle.misfits.proofs.OpenTotals.{groups_tell}
-use Rattle.misfits.proofs.laws.ended_groups_tell_misfits.Goals as goal
-
-pub returns : goal.returns
-returns c = groups_tell

@@ -1,5 +1,0 @@
-use Rattle.misfits.proofs.Pending.{IsSettledTo}
-use Rattle.misfits.proofs.open_total.add_pending.Given as goal
-
-abbrev pub invariant-loop-k : goal.invariant-loop-k
-invariant-loop-k l = IsSettledTo l.fn.totals l.places l.amounts l.k l.totals

@@ -1,6 +1,0 @@
-use Rattle.std.proofs.Common.{◌≡◌, ◌++◌, map, take, drop}
-use Rattle.misfits.specs.HelperPending.{emptied}
-use Rattle.misfits.proofs.open_total.clear_all.Given as goal
-
-abbrev pub invariant-loop-amount : goal.invariant-loop-amount
-invariant-loop-amount l = l.amounts ≡ map emptied (take l.amount-index l.fn.amounts) ++ drop l.amount-index l.fn.amounts

@@ -1,9 +1,0 @@
-use Rattle.std.proofs.Common.{◌≡◌, drop}
-use Rattle.std.specs.List.{filter_map}
-use Rattle.report.specs.Misfits.{first_of}
-use Rattle.misfits.specs.OpenTotals.{misfit_at}
-use Rattle.misfits.proofs.open_total.first_misfit_at.Given as goal
-
-abbrev pub invariant-loop-total : goal.invariant-loop-total
-invariant-loop-total l =
-    first_of (filter_map (misfit_at l.level l.card) l.totals) ≡ first_of (filter_map (misfit_at l.level l.card) (drop l.total-index l.totals))

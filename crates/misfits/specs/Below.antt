@@ -1,1 +1,0 @@
-pub use Rattle.report.specs as report

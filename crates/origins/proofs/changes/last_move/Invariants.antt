@@ -1,7 +1,0 @@
-use Rattle.origins.proofs.Keeping.{Keeps}
-use Rattle.origins.specs.Changes.{moves}
-use Rattle.origins.proofs.changes.last_move.Given as goal
-
--- the machine stands in the run over the deck, and the last move up to here is known
-abbrev pub invariant-loop-passed : goal.invariant-loop-passed
-invariant-loop-passed l = Keeps l.setup l.cards l.card l.passed l.machine l.hopper (moves l.fn.holder) l.last

@@ -1,7 +1,0 @@
-use Rattle.std.proofs.Common.{◌≡◌, drop}
-use Rattle.origins.specs.Holders.{passes}
-use Rattle.origins.proofs.holders.passes.Given as goal
-
--- none of the hubs so far is such an exit
-abbrev pub invariant-loop-hub : goal.invariant-loop-hub
-invariant-loop-hub l = passes l.fn.holder (drop l.hub-index l.hubs) ≡ passes l.fn.holder l.hubs

@@ -1,5 +1,0 @@
-use Rattle.origins.proofs.Texts.{is-wired}
-use Rattle.origins.proofs.holes.is_wired.Goals as goal
-
-pub returns : goal.returns
-returns c = is-wired c.args.setup.now c.args.exit c.args.entry c.has.result c.has.ensures.value

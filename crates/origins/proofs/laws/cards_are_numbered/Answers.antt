@@ -1,5 +1,0 @@
-use Rattle.origins.proofs.Standing.{cards-numbered}
-use Rattle.origins.proofs.laws.cards_are_numbered.Goals as goal
-
-pub returns : goal.returns
-returns c = cards-numbered

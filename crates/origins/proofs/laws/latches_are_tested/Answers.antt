@@ -1,5 +1,0 @@
-use Rattle.origins.proofs.Leaving.{latches-tested}
-use Rattle.origins.proofs.laws.latches_are_tested.Goals as goal
-
-pub returns : goal.returns
-returns c = latches-tested

@@ -1,5 +1,0 @@
-use Rattle.origins.proofs.Leaving.{pilots-picked-up}
-use Rattle.origins.proofs.laws.pilots_are_picked_up.Goals as goal
-
-pub returns : goal.returns
-returns c = pilots-picked-up

@@ -1,6 +1,0 @@
-use Rattle.origins.specs.ToldOrigins.{AreHolderTexts}
-use Rattle.origins.proofs.telling.holder_texts.Given as goal
-
--- the texts of the holders so far are there
-abbrev pub invariant-loop-place : goal.invariant-loop-place
-invariant-loop-place l = AreHolderTexts l.setup l.cards l.fn.passed l.ways l.place l.text.items

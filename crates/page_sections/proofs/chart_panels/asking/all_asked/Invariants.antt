@@ -1,7 +1,0 @@
-use Rattle.std.specs.Prelude.{take}
-use Rattle.page_sections.specs.ChartPanels.Asking.{AreAsked}
-use Rattle.page_sections.proofs.chart_panels.asking.all_asked.Given as goal
-
--- the wires so far have their lines
-abbrev pub invariant-loop-pair : goal.invariant-loop-pair
-invariant-loop-pair l = AreAsked l.chart.lines l.plan (take l.pair-index l.pairs) l.wires.items

@@ -1,5 +1,0 @@
-use Rattle.page_writer.proofs.Opens.{open_grows}
-use Rattle.page_writer.proofs.laws.open_grows.Goals as goal
-
-pub returns : goal.returns
-returns c = open_grows

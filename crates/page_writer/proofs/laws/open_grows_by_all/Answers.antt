@@ -1,5 +1,0 @@
-use Rattle.page_writer.proofs.Opens.{open_grows_by_all}
-use Rattle.page_writer.proofs.laws.open_grows_by_all.Goals as goal
-
-pub returns : goal.returns
-returns c = open_grows_by_all

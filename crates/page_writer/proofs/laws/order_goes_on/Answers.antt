@@ -1,5 +1,0 @@
-use Rattle.page_writer.proofs.Opens.{order_goes_on}
-use Rattle.page_writer.proofs.laws.order_goes_on.Goals as goal
-
-pub returns : goal.returns
-returns c = order_goes_on

@@ -1,5 +1,0 @@
-use Rattle.page_writer.proofs.Opens.{pages_end}
-use Rattle.page_writer.proofs.laws.pages_end.Goals as goal
-
-pub returns : goal.returns
-returns c = pages_end

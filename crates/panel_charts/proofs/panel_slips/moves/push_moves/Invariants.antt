@@ -1,6 +1,0 @@
-use Rattle.std.specs.Prelude.{All}
-use Rattle.panel_charts.specs.PanelSlips.Slips.{IsMoveOf}
-use Rattle.panel_charts.proofs.panel_slips.moves.push_moves.Given as goal
-
-abbrev pub invariant-loop-to : goal.invariant-loop-to
-invariant-loop-to l = All (IsMoveOf l.wires) l.moves.items

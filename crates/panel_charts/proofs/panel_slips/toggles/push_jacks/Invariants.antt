@@ -1,5 +1,0 @@
-use Rattle.panel_charts.specs.PanelSlips.Slips.{BeginsWith}
-use Rattle.panel_charts.proofs.panel_slips.toggles.push_jacks.Given as goal
-
-abbrev pub invariant-loop-place : goal.invariant-loop-place
-invariant-loop-place l = BeginsWith l.initial.toggles.items l.toggles.items

@@ -1,5 +1,0 @@
-use Rattle.panel_guides.proofs.OnPages.{on_pages}
-use Rattle.panel_guides.proofs.laws.explained_lines_are_on_pages.Goals as goal
-
-pub returns : goal.returns
-returns c = on_pages c.wired_setups_print_reports.ensures c.placed_lines_are_printed.ensures

@@ -1,9 +1,0 @@
-use Rattle.std.proofs.Common.{refl}
-use Rattle.panel_guides.proofs.Explaining.{lacks_place}
-use Rattle.panel_guides.proofs.ledger_calls.explaining.basis_on.Goals as goal
-
-pub returns-in-Err-clause-lacks : goal.returns-in-Err-clause-lacks
-returns-in-Err-clause-lacks c =
-    lacks_place c.in-Err.refusal c.args.setup.now c.args.cards.now c.args.place c.unexplained_at.result c.args.place.wheel refl
-    (λ no_such. absurd (c.requires.wheel no_such)) (λ is. absurd (c.in-Err.ensures.there is)) c.in-Err.ensures.no_line
-    c.unexplained_at.ensures.wheel c.unexplained_at.ensures.line c.unexplained_at.ensures.memory

@@ -1,4 +1,0 @@
-mod DigitWheels
-mod HubRanges
-mod TextsRead
-mod ToWheels

@@ -1,6 +1,0 @@
-use Rattle.std.proofs.Common.{ℕ, ◌+◌, ◌<◌, Contains}
-use Rattle.panel_plans.specs.ComparedColumns.{IsCompared}
-use Rattle.panel_plans.proofs.compared.free_position.Given as goal
-
-abbrev pub invariant-loop-place : goal.invariant-loop-place
-invariant-loop-place l = (p : ℕ) → p < l.place → IsCompared l.setup l.column l.level (p + 1) → Contains l.taken (p + 1)

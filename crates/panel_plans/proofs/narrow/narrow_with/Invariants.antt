@@ -1,7 +1,0 @@
-use Rattle.std.proofs.Common.{ℕ, ◌<◌}
-use Rattle.panel_plans.specs.Groups.{group_with}
-use Rattle.panel_plans.specs.Narrow.{IsNarrow}
-use Rattle.panel_plans.proofs.narrow.narrow_with.Given as goal
-
-abbrev pub invariant-loop-place : goal.invariant-loop-place
-invariant-loop-place l = (p : ℕ) → p < l.place → ¬ IsNarrow l.setup l.units.level l.units.wheel l.units.need (group_with p)

@@ -1,5 +1,0 @@
-use Rattle.plans.specs.PartNumbers.{AreThere}
-use Rattle.panel_plans.proofs.near.filled.Given as goal
-
-abbrev pub invariant-loop-its : goal.invariant-loop-its
-invariant-loop-its l = AreThere l.last l.numbers.items

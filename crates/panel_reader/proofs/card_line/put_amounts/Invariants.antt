@@ -1,5 +1,0 @@
-use Rattle.panel_reader.specs.Items.{Gains, IsCardAmount}
-use Rattle.panel_reader.proofs.card_line.put_amounts.Given as goal
-
-abbrev pub invariant-loop-zone : goal.invariant-loop-zone
-invariant-loop-zone l = Gains IsCardAmount l.fn.draft l.draft

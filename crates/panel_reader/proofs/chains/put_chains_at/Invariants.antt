@@ -1,5 +1,0 @@
-use Rattle.panel_reader.specs.Chains.{GainsChains}
-use Rattle.panel_reader.proofs.chains.put_chains_at.Given as goal
-
-abbrev pub invariant-loop-total : goal.invariant-loop-total
-invariant-loop-total l = GainsChains l.setup l.fn.draft l.draft

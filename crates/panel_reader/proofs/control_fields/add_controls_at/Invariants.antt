@@ -1,6 +1,0 @@
-use Rattle.panel_reader.specs.Items.{Gains, IsTotalText}
-use Rattle.panel_reader.specs.Shown.{KeepsFields}
-use Rattle.panel_reader.proofs.control_fields.add_controls_at.Given as goal
-
-abbrev pub invariant-loop-place : goal.invariant-loop-place
-invariant-loop-place l = record { gained : Gains IsTotalText l.fn.draft l.draft; kept : KeepsFields l.fn.draft l.draft }

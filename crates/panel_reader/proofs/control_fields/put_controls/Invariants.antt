@@ -1,9 +1,0 @@
-use Rattle.panel_reader.specs.Items.{Gains, IsTotalText}
-use Rattle.panel_reader.specs.Shown.{KeepsFields}
-use Rattle.panel_reader.proofs.control_fields.put_controls.Given as goal
-
-abbrev pub invariant-loop-level : goal.invariant-loop-level
-invariant-loop-level l = record { gained : Gains IsTotalText l.fn.draft l.draft; kept : KeepsFields l.fn.draft l.draft }
-
-abbrev pub invariant-loop-column : goal.invariant-loop-column
-invariant-loop-column l = record { gained : Gains IsTotalText l.fn.draft l.draft; kept : KeepsFields l.fn.draft l.draft }

@@ -1,7 +1,0 @@
-use Rattle.std.proofs.Common.{ℕ, ◌≤◌}
-use Rattle.setups.specs.Wiring.{HasWire}
-use Rattle.panel_reader.specs.Lowest.{hub_in}
-use Rattle.panel_reader.proofs.hub_rows.lowest_exit.Given as goal
-
-abbrev pub invariant-loop-place : goal.invariant-loop-place
-invariant-loop-place l = (number : ℕ) → 1 ≤ number → number ≤ l.place → ¬ HasWire l.setup (hub_in l.row number) l.entry

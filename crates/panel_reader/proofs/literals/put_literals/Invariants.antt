@@ -1,6 +1,0 @@
-use Rattle.std.specs.Prelude.{◌≡◌}
-use Rattle.panel_reader.specs.Items.{Gains, IsLiteral}
-use Rattle.panel_reader.proofs.literals.put_literals.Given as goal
-
-abbrev pub invariant-loop-line : goal.invariant-loop-line
-invariant-loop-line l = record { gained : Gains IsLiteral l.fn.draft l.draft; fields : l.draft.fields ≡ l.fn.draft.fields }

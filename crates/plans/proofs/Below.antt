@@ -1,2 +1,0 @@
-pub use Rattle.chart_rules.proofs as chart_rules
-pub use Rattle.charts.proofs as charts

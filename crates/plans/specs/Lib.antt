@@ -1,8 +1,0 @@
-pub mod Below
-pub mod Assignments
-pub mod Counters
-pub mod Excess
-pub mod PartNumbers
-pub mod Renumbered
-pub mod Plans
-pub mod HelperEnough

@@ -1,4 +1,0 @@
-pub mod Below
-pub mod Shown
-pub mod Held
-pub mod Laws

@@ -1,1 +1,0 @@
-pub use Rattle.wired_panels.specs.Below.wiring_table

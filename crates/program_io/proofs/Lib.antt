@@ -1,5 +1,0 @@
-mod Division
-pub mod Fronting
-pub mod Refusing
-pub mod Stopping
-pub mod StoppingWith

@@ -1,9 +1,0 @@
-use Rattle.std.proofs.Common.{◌≤◌, ◌-◌, length}
-use Rattle.program_io.proofs.Division.{DividesAfter}
-use Rattle.program_io.proofs.input.chart_and_deck.Given as goal
-
-abbrev pub invariant-loop-length : goal.invariant-loop-length
-invariant-loop-length l = (l.taken ≤ length l.text) × DividesAfter l.text l.taken
-
-abbrev pub decreases-loop-length : goal.decreases-loop-length
-decreases-loop-length l = length l.text - l.taken

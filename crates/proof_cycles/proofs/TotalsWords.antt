@@ -1,0 +1,10 @@
+pub mod Counting
+pub mod Figures
+pub mod Levels
+pub mod Rooms
+pub mod Cards
+pub mod Ready
+pub mod GroupEnds
+pub mod Passing
+pub mod Examples
+pub mod CounterCycles

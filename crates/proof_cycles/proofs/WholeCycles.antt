@@ -1,0 +1,15 @@
+pub mod Sources
+pub mod Contacts
+pub mod Walks
+pub mod Parts
+pub mod Emitted
+pub mod Wheels
+pub mod Wholes
+pub mod Staying
+pub mod Ready
+pub mod Places
+pub mod Alone
+pub mod Carries
+pub mod Units
+pub mod Rings
+pub mod RingRuns

@@ -1,0 +1,2 @@
+pub mod WholeCycles
+pub mod TotalsWords

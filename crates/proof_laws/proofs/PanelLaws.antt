@@ -1,0 +1,4 @@
+pub mod DigitWheels
+pub mod HubRanges
+pub mod TextsRead
+pub mod ToWheels

@@ -1,0 +1,4 @@
+pub mod PanelLaws
+pub mod HoleLaws
+pub mod LedgerAmounts
+pub mod ServedReports

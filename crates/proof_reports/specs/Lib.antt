@@ -1,0 +1,3 @@
+pub mod PrintedLines
+pub mod WiredPanels
+pub mod PrintedReports

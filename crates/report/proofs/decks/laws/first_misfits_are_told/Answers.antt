@@ -1,5 +1,0 @@
-use Rattle.report.proofs.FollowedDecks.FitSoFar.{first_told}
-use Rattle.report.proofs.decks.laws.first_misfits_are_told.Goals as goal
-
-pub returns : goal.returns
-returns c = first_told

@@ -1,5 +1,0 @@
-use Rattle.report.proofs.FollowedDecks.FitSoFar.{fits_go_on}
-use Rattle.report.proofs.decks.laws.fits_go_on.Goals as goal
-
-pub returns : goal.returns
-returns c = fits_go_on

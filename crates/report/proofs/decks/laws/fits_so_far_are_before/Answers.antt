@@ -1,5 +1,0 @@
-use Rattle.report.proofs.FollowedDecks.FitSoFar.{fits_before}
-use Rattle.report.proofs.decks.laws.fits_so_far_are_before.Goals as goal
-
-pub returns : goal.returns
-returns c = fits_before

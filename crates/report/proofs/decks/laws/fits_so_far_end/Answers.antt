@@ -1,5 +1,0 @@
-use Rattle.report.proofs.FollowedDecks.FitSoFar.{fits_end}
-use Rattle.report.proofs.decks.laws.fits_so_far_end.Goals as goal
-
-pub returns : goal.returns
-returns c = fits_end

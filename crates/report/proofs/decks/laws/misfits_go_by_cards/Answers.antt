@@ -1,5 +1,0 @@
-use Rattle.report.proofs.FollowedDecks.Misfits.{misfits_of_cards}
-use Rattle.report.proofs.decks.laws.misfits_go_by_cards.Goals as goal
-
-pub returns : goal.returns
-returns c = misfits_of_cards

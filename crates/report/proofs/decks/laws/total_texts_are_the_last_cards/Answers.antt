@@ -1,5 +1,0 @@
-use Rattle.report.proofs.FollowedDecks.Alike.{total_texts}
-use Rattle.report.proofs.decks.laws.total_texts_are_the_last_cards.Goals as goal
-
-pub returns : goal.returns
-returns c = total_texts

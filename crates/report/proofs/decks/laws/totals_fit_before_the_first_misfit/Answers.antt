@@ -1,5 +1,0 @@
-use Rattle.report.proofs.FollowedDecks.FitBefore.{fit_before_misfits}
-use Rattle.report.proofs.decks.laws.totals_fit_before_the_first_misfit.Goals as goal
-
-pub returns : goal.returns
-returns c = fit_before_misfits

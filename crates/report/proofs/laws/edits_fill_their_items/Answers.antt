@@ -1,5 +1,0 @@
-use Rattle.report.proofs.EditLaws.{edits_fill}
-use Rattle.report.proofs.laws.edits_fill_their_items.Goals as goal
-
-pub returns : goal.returns
-returns c = edits_fill

@@ -1,5 +1,0 @@
-use Rattle.report.proofs.GroupLaws.{groups_whole}
-use Rattle.report.proofs.laws.groups_make_the_whole.Goals as goal
-
-pub returns : goal.returns
-returns c = groups_whole

@@ -1,7 +1,0 @@
-use Rattle.std.proofs.Common.{refl}
-use Rattle.page_text.specs.Pages.{Pages}
-use Rattle.report.proofs.laws.no_cards_give_no_bytes.Goals as goal
-
-pub returns : goal.returns
-unfolding Pages
-returns c chart = refl

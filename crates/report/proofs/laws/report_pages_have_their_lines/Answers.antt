@@ -1,5 +1,0 @@
-use Rattle.report.proofs.PageBytes.{report_pages_have_lines}
-use Rattle.report.proofs.laws.report_pages_have_their_lines.Goals as goal
-
-pub returns : goal.returns
-returns c = report_pages_have_lines

@@ -1,5 +1,0 @@
-use Rattle.report.proofs.OutlineByCards.{deck_by_cards}
-use Rattle.report.proofs.laws.the_outline_is_by_cards.Goals as goal
-
-pub returns : goal.returns
-returns c = deck_by_cards

@@ -1,0 +1,1 @@
+pub use Rattle.report_definition.proofs as report

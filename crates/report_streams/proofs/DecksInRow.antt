@@ -1,0 +1,2 @@
+pub mod KeptLines
+pub mod Reading

@@ -1,0 +1,2 @@
+pub mod CardLines
+pub mod DecksInRow

@@ -1,0 +1,3 @@
+pub mod DevicesWords
+pub mod CardLines
+pub mod DecksInRow

@@ -1,1 +1,0 @@
-pub use Rattle.served_units.proofs as served_units

@@ -1,6 +1,0 @@
-pub mod Below
-pub mod Units
-pub mod Contacts
-pub mod Course
-pub mod Seen
-pub mod Runs

@@ -1,6 +1,0 @@
-use Rattle.std.proofs.Common.{refl}
-use Rattle.setups.proofs.WiringLemmas.{IsLawfulSetup-same}
-use Rattle.setups.proofs.setup.Setup.punch.Goals as goal
-
-pub invariant_of-self : goal.invariant_of-self
-invariant_of-self c = IsLawfulSetup-same _ _ (λ n. refl) c.self.invariant

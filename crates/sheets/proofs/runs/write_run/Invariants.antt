@@ -1,6 +1,0 @@
-use Rattle.std.proofs.Common.{◌≡◌, ◌++◌, replicate}
-use Rattle.sheets.proofs.runs.write_run.Given as goal
-
--- so many are written
-abbrev pub invariant-loop : goal.invariant-loop
-invariant-loop l = l.text.items ≡ l.initial.text.items ++ replicate l.counter l.character

@@ -1,0 +1,2 @@
+pub mod MarkupWords
+pub mod DrawingsWords

@@ -1,0 +1,2 @@
+pub mod SumSections
+pub mod CardSections

@@ -1,7 +1,0 @@
-use Rattle.std.proofs.Common.{take}
-use Rattle.spreads.specs.Links.{AreEights}
-use Rattle.spreads.proofs.contact_runs.eights_of.Given as goal
-
--- the eights of the runs so far
-abbrev pub invariant-loop-run : goal.invariant-loop-run
-invariant-loop-run l = AreEights (take l.run-index l.runs) l.contacts l.eights.items

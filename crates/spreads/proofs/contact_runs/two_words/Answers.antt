@@ -1,9 +1,0 @@
-use Rattle.std.proofs.Common.{◌∙◌, bit_or, ◌*◌, ◌%◌, ◌^◌}
-use Rattle.bit_sets.specs.Bits.{is_bit}
-use Rattle.spreads.proofs.ContactRuns.{words-joined}
-use Rattle.spreads.proofs.contact_runs.two_words.Goals as goal
-
-pub returns : goal.returns
-returns c k within =
-    (λ i. is_bit (bit_or (c.from.ensures i) (c.from-2.ensures i * 2 ^ 64 % 2 ^ 128)) k)
-    ∙ words-joined c.args.low c.args.high k within

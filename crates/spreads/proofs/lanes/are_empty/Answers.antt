@@ -1,5 +1,0 @@
-use Rattle.spreads.proofs.EmptyLanes.{lanes-empty}
-use Rattle.spreads.proofs.lanes.are_empty.Goals as goal
-
-pub returns : goal.returns
-returns c none k row low = lanes-empty c.args.rows k row c.requires none low

@@ -1,5 +1,0 @@
-use Rattle.spreads.proofs.ContactRuns.{chosen-lanes}
-use Rattle.spreads.proofs.lanes.rows_in_lanes.Goals as goal
-
-pub returns-clause-rows : goal.returns-clause-rows
-returns-clause-rows c k row low = chosen-lanes c.args.bits c.args.rows k row low

@@ -1,7 +1,0 @@
-use Rattle.std.proofs.Common.{arith}
-use Rattle.spreads.proofs.LinkLemmas.{joined-at}
-use Rattle.spreads.proofs.links.follow.Goals as goal
-
-pub returns : goal.returns
-returns c place row =
-    joined-at c.args.sets.now c.args.link.to c.args.link.from place row (omega (arith, c.requires.high, c.told-sets))

@@ -1,7 +1,0 @@
-use Rattle.std.proofs.Common.{◌≡◌, drop}
-use Rattle.spreads.specs.Links.{is_led_to}
-use Rattle.spreads.proofs.passing.is_led_to.Given as goal
-
--- the links that are left lead there where all of them do
-abbrev pub invariant-loop-link : goal.invariant-loop-link
-invariant-loop-link l = is_led_to (drop l.link-index l.links) l.place ≡ is_led_to l.links l.place

@@ -1,7 +1,0 @@
-use Rattle.std.proofs.Common.{◌∙◌, ap, sym, ◌&&◌}
-use Rattle.bit_sets.proofs.BitLemmas.{is_bit-zero}
-use Rattle.bit_sets.specs.Bits.{is_bit}
-use Rattle.spreads.proofs.passing.rows_where.Goals as goal
-
-pub returns-else-test : goal.returns-else-test
-returns-else-test c row = is_bit-zero row ∙ ap (λ b. b && is_bit c.args.rows row) (sym c.if-test.false)

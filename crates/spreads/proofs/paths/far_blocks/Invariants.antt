@@ -1,8 +1,0 @@
-use Rattle.std.proofs.Common.{◌≡◌, ◌<◌, ◌/◌, ℕ, true, slice_index_or}
-use Rattle.bit_sets.specs.Bits.{is_bit}
-use Rattle.spreads.specs.declared.links.Link.{Link}
-use Rattle.spreads.proofs.paths.far_blocks.Given as goal
-
--- the blocks of the links so far
-abbrev pub invariant-loop-link : goal.invariant-loop-link
-invariant-loop-link l = (k : ℕ) (d : Link) → k < l.link-index → is_bit l.blocks ((slice_index_or l.links k d).to / 32) ≡ true

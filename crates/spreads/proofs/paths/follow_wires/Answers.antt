@@ -1,7 +1,0 @@
-use Rattle.spreads.proofs.FarBlocks.{touched-spread}
-use Rattle.spreads.proofs.paths.follow_wires.Goals as goal
-
-pub invariant_of-sets : goal.invariant_of-sets
-invariant_of-sets c =
-    touched-spread c.sets.inside.touched c.args.far c.args.wires.now c.sets.inside.sets c.follow_links.new.sets c.requires c.sets.invariant
-    c.follow_links.ensures.long c.follow_links.ensures.spread

@@ -1,8 +1,0 @@
-use Rattle.std.proofs.Common.{◌≡◌, take}
-use Rattle.std.specs.List.{filter}
-use Rattle.bit_sets.specs.Bits.{has_place}
-use Rattle.spreads.specs.declared.links.Link.{Link}
-use Rattle.spreads.proofs.paths.links_from.Given as goal
-
-abbrev pub invariant-loop-link : goal.invariant-loop-link
-invariant-loop-link l = l.from.items ≡ filter (λ (link : Link). has_place l.places link.from) (take l.link-index l.links)

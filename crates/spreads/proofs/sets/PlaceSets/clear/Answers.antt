@@ -1,6 +1,0 @@
-use Rattle.std.proofs.Common.{refl}
-use Rattle.spreads.proofs.Touched.{none-touched}
-use Rattle.spreads.proofs.sets.PlaceSets.clear.Goals as goal
-
-pub returns : goal.returns
-returns c place row = none-touched 0 c.clear_blocks.new.sets c.clear_blocks.ensures refl place row

@@ -1,5 +1,0 @@
-use Rattle.streamed_runs.proofs.Feeding.{feeds_in_order}
-use Rattle.streamed_runs.proofs.laws.feeds_place_in_order.Goals as goal
-
-pub returns : goal.returns
-returns c = feeds_in_order

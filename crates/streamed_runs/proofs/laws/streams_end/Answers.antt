@@ -1,5 +1,0 @@
-use Rattle.streamed_runs.proofs.Streams.{streams_end}
-use Rattle.streamed_runs.proofs.laws.streams_end.Goals as goal
-
-pub returns : goal.returns
-returns c = streams_end

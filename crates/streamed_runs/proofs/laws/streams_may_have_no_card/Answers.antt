@@ -1,5 +1,0 @@
-use Rattle.streamed_runs.proofs.Streams.{streams_of_none}
-use Rattle.streamed_runs.proofs.laws.streams_may_have_no_card.Goals as goal
-
-pub returns : goal.returns
-returns c = streams_of_none

@@ -1,5 +1,0 @@
-use Rattle.streamed_runs.proofs.OneCause.{texts_have_one_cause}
-use Rattle.streamed_runs.proofs.laws.texts_have_one_cause.Goals as goal
-
-pub returns : goal.returns
-returns c = texts_have_one_cause

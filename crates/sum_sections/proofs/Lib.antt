@@ -1,5 +1,0 @@
-mod Found
-mod Framed
-mod Taken
-mod Wanted
-mod FoundSums

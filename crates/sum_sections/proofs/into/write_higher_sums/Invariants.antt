@@ -1,8 +1,0 @@
-use Rattle.std.specs.Prelude.{◌≡◌, ◌++◌, take}
-use Rattle.std.specs.String.{string_bytes}
-use Rattle.sum_sections.specs.Into.{higher_sums}
-use Rattle.sum_sections.proofs.into.write_higher_sums.Given as goal
-
--- those so far are written
-abbrev pub invariant-loop-sum : goal.invariant-loop-sum
-invariant-loop-sum l = string_bytes l.text ≡ string_bytes l.initial.text ++ higher_sums (take l.sum-index l.sums) l.lower

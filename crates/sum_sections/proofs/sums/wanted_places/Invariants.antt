@@ -1,7 +1,0 @@
-use Rattle.std.specs.Prelude.{◌≡◌, map, take}
-use Rattle.sum_sections.specs.WantedSums.{wanted_at}
-use Rattle.sum_sections.proofs.sums.wanted_places.Given as goal
-
--- the places of those so far
-abbrev pub invariant-loop-one : goal.invariant-loop-one
-invariant-loop-one l = l.places.items ≡ map wanted_at (take l.one-index l.wanted)

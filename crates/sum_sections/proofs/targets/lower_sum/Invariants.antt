@@ -1,7 +1,0 @@
-use Rattle.std.specs.Prelude.{◌≡◌, drop}
-use Rattle.sum_sections.specs.Targets.{lower_sum}
-use Rattle.sum_sections.proofs.targets.lower_sum.Given as goal
-
--- it is the first of those that are left
-abbrev pub invariant-loop-sum : goal.invariant-loop-sum
-invariant-loop-sum l = lower_sum (drop l.sum-index l.sums) l.passed l.total ≡ lower_sum l.sums l.passed l.total

@@ -1,5 +1,0 @@
-use Rattle.tokens.proofs.FirstWord.{empty_by}
-use Rattle.tokens.proofs.frame.is_empty_line.Goals as goal
-
-pub returns : goal.returns
-returns c = rw c.is_empty.ensures (empty_by c.args.line.now _ c.without_spaces.ensures.tokens c.without_spaces.ensures.first)

@@ -1,8 +1,0 @@
-use Rattle.tokens.proofs.Answered.{number_by, no_number_by}
-use Rattle.tokens.proofs.number.read_number.Goals as goal
-
-pub returns-clause-number : goal.returns-clause-number
-returns-clause-number c = number_by c.args.token.now _ c.read_digits.ensures.value
-
-pub returns-clause-no_number : goal.returns-clause-no_number
-returns-clause-no_number c = no_number_by c.args.token.now _ c.read_digits.ensures.value

@@ -1,6 +1,0 @@
-use Rattle.std.proofs.lemmas.Result.{on_ok_weaker}
-use Rattle.line_wires.proofs.Steps.{adds-some}
-use Rattle.total_wires.proofs.amount.wire_sign.Goals as goal
-
-pub returns-in-Some : goal.returns-in-Some
-returns-in-Some c = on_ok_weaker c.wire_signed_total.result (adds-some c.in-Some.is) c.wire_signed_total.ensures

@@ -1,8 +1,0 @@
-use Rattle.hubs.specs.declared.hub.Hub.TheVariants.{GE, GX}
-use Rattle.std.proofs.Common.{◌+◌}
-use Rattle.line_wires.specs.HelperAdds.{Adds, One, Upto}
-use Rattle.total_wires.proofs.total.wire_feedback.Given as goal
-
-abbrev pub invariant-loop-place : goal.invariant-loop-place
-invariant-loop-place l =
-    Adds (Upto l.place (λ place. One (GX l.group (place + 1)) (GE l.group (place + 1)))) l.initial.setup l.setup

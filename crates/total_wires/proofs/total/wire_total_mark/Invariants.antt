@@ -1,9 +1,0 @@
-use Rattle.hubs.specs.declared.hub.Hub.TheVariants.{BAC, BAT, W}
-use Rattle.std.proofs.Common.{slice_get, ◌+◌}
-use Rattle.line_wires.specs.HelperAdds.{Adds, Both, OfSome, One, Upto}
-use Rattle.line_wires.specs.HelperRows.{CharacterWires}
-use Rattle.total_wires.proofs.total.wire_total_mark.Given as goal
-
-abbrev pub invariant-loop-k : goal.invariant-loop-k
-invariant-loop-k l =
-    Adds (Upto l.k (λ k. OfSome (slice_get l.character-items k) (λ character. Both (CharacterWires l.emitter (BAC l.group (3 + k)) character) (One (BAT l.group (3 + k)) (W (l.wheel + k)))))) l.initial.setup l.setup

@@ -1,8 +1,0 @@
-use Rattle.charts.specs.Levels.{level_number}
-use Rattle.std.proofs.Common.{ℕ, ◌<◌}
-use Rattle.line_wires.specs.Below.wiring_table.Parts.{HasTotal}
-use Rattle.total_wires.proofs.transfer.next_higher.Given as goal
-
-abbrev pub invariant-loop-higher : goal.invariant-loop-higher
-invariant-loop-higher l =
-    (level number : ℕ) → level_number l.fn.level < level → level < l.higher → ¬ HasTotal l.chart.lines l.name level number

@@ -1,1 +1,0 @@
-pub use Rattle.counters.proofs as counters

@@ -1,7 +1,0 @@
-pub mod Below
-pub mod Amounts
-pub mod Sums
-pub mod Standing
-pub mod Laws
-pub mod Examples
-pub mod CounterCycles

@@ -1,5 +1,0 @@
-pub mod Pieces
-mod Running
-mod PartCycles
-mod PartRuns
-mod OneTrace

@@ -1,9 +1,0 @@
--- A deck has one trace on a panel.
-use Rattle.std.specs.Prelude.{◌≡◌, ℕ, List}
-use Rattle.setups.specs.Wiring.{Wiring}
-use Rattle.traces.specs.Traces.{IsTrace}
-
--- two traces of a deck on a panel are the same
-abbrev pub TracesAreOne : Type 0
-TracesAreOne =
-    (wiring : Wiring) (deck : List (List ℕ)) (one other : List ℕ) → IsTrace wiring deck one → IsTrace wiring deck other → one ≡ other

@@ -1,1 +1,0 @@
-pub use Rattle.chart_rules.specs as chart_rules

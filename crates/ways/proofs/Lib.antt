@@ -1,5 +1,0 @@
-pub mod Layers
-pub mod LeadsLemmas
-pub mod Passes
-pub mod WayLemmas
-mod Fills

@@ -1,9 +1,0 @@
-use Rattle.std.proofs.Common.{arith}
-use Rattle.ways.proofs.Layers.{lead_range}
-use Rattle.ways.proofs.ways.before.Goals as goal
-
-pub returns-clause-none : goal.returns-clause-none
-returns-clause-none c is from less leads =
-    let low = lead_range _ _ from c.args.to leads in
-    let over = c.loop-from-test.false in
-    c.loop-from.invariant from (omega (arith, low, over)) less leads

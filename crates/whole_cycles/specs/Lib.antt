@@ -1,9 +1,0 @@
-pub mod Below
-pub mod WholeCycles
-pub mod Between
-pub mod Carries
-pub mod OneContactDeep
-pub mod Rings
-pub mod RingRuns
-pub mod Units
-pub mod Laws

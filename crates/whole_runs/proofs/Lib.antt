@@ -1,3 +1,0 @@
-mod PageLaws
-mod Passing
-mod Printing

@@ -1,5 +1,0 @@
-use Rattle.wired_panels.proofs.CycleAsks.WheelRowsLaws.{wheels-cards, wheels-headings, wheels-totals}
-use Rattle.wired_panels.proofs.panel_cycles.laws.wheels_receive_what_items_send.Goals as goal
-
-pub returns : goal.returns
-returns c = record { headings = wheels-headings; cards = wheels-cards; totals = wheels-totals }

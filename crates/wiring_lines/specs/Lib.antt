@@ -1,0 +1,2 @@
+pub mod LineWires
+pub mod JacksAndTape

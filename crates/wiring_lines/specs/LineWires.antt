@@ -1,0 +1,4 @@
+pub mod HelperAdds
+pub mod HelperRows
+pub mod HelperRanges
+pub mod HelperItems

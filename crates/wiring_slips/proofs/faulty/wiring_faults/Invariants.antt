@@ -1,5 +1,0 @@
-use Rattle.wiring_slips.proofs.Steps.{ListsSoFar}
-use Rattle.wiring_slips.proofs.faulty.wiring_faults.Given as goal
-
-abbrev pub invariant-loop : goal.invariant-loop
-invariant-loop l = ListsSoFar l.text l.good.items l.faults.items l.counter

@@ -1,7 +1,0 @@
-use Rattle.hub_table.specs.HubTable.{entry_kinds, exit_kinds}
-use Rattle.wiring_text.specs.WiringReader.Reading.{letters_spelled}
-use Rattle.wiring_slips.proofs.hub.letters_of.Goals as goal
-
-pub returns : goal.returns
-unfolding letters_spelled exit_kinds entry_kinds
-returns c = c.first_spelled.ensures

@@ -1,7 +1,0 @@
-use Rattle.hub_table.specs.HubTable.{entry_kinds, exit_kinds}
-use Rattle.wiring_slips.specs.HubWords.{near_kind}
-use Rattle.wiring_slips.proofs.hub.near_kind.Goals as goal
-
-pub returns : goal.returns
-unfolding near_kind exit_kinds entry_kinds
-returns c = c.first_near.ensures
