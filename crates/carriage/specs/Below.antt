@@ -1,2 +1,2 @@
+pub use Rattle.hubs.specs as hubs
 pub use Rattle.net.specs as net
-pub use Rattle.hubs.specs.SetupsWords as setups

@@ -1,1 +1,1 @@
-pub use Rattle.chart_lines.specs.ChartsWords as charts
+pub use Rattle.chart_lines.specs as chart_lines

@@ -4,22 +4,22 @@ use Rattle.std.specs.List.{All}
 use Rattle.std.proofs.lemmas.List.{length-replicate}
 use Rattle.std.proofs.lemmas.List.Elements.{All-nil, All-cons, All-head, All-replicate, All-tail, All-weaker}
 use Rattle.card_code.specs.CardCode.{code, deck_character}
-use Rattle.chart_text.specs.Below.charts.Chart.{Chart}
-use Rattle.chart_text.specs.Below.charts.Field.{sign_column}
-use Rattle.chart_text.specs.Below.charts.Levels.{level_number}
-use Rattle.chart_text.specs.Below.charts.declared.chart.Line.{Line}
-use Rattle.chart_text.specs.Below.charts.declared.statement.Field.{Field}
-use Rattle.chart_text.specs.Below.charts.declared.statement.FieldKind.{FieldKind}
-use Rattle.chart_text.specs.Below.charts.declared.statement.FieldKind.TheVariants as holds
+use Rattle.chart_text.specs.Below.chart_lines.ChartsWords.Chart.{Chart}
+use Rattle.chart_text.specs.Below.chart_lines.ChartsWords.Field.{sign_column}
+use Rattle.chart_text.specs.Below.chart_lines.ChartsWords.Levels.{level_number}
+use Rattle.chart_text.specs.Below.chart_lines.declared.charts.chart.Line.{Line}
+use Rattle.chart_text.specs.Below.chart_lines.declared.charts.statement.Field.{Field}
+use Rattle.chart_text.specs.Below.chart_lines.declared.charts.statement.FieldKind.{FieldKind}
+use Rattle.chart_text.specs.Below.chart_lines.declared.charts.statement.FieldKind.TheVariants as holds
 use Rattle.chart_rules.proofs.Laws.{AreOnCard-lawful}
 use Rattle.chart_rules.specs.HelperOnCard.{IsOnCard}
 use Rattle.chart_rules.specs.Rules.{IsLawful}
 use Rattle.chart_rules.specs.ValidCard.{IsValidCard, IsValidKind, column_of, digit_count, digit_rows, has_good_zone, is_printed}
-use Rattle.report_misfits.specs.Below.report.Amounts.{columns_in, digit_in, is_negated, number_in, signed, value_of}
-use Rattle.report_misfits.specs.Below.report.Groups.{cards_of, groups_of}
-use Rattle.report_misfits.specs.Below.report.Totals.{Fits, GroupFits, total_of}
-use Rattle.report_misfits.proofs.Below.report.FittingGroups.{All-parts}
-use Rattle.report_misfits.proofs.Below.report.GroupLaws.{groups_deck}
+use Rattle.report_misfits.specs.Below.report_definition.Amounts.{columns_in, digit_in, is_negated, number_in, signed, value_of}
+use Rattle.report_misfits.specs.Below.report_definition.Groups.{cards_of, groups_of}
+use Rattle.report_misfits.specs.Below.report_definition.Totals.{Fits, GroupFits, total_of}
+use Rattle.report_misfits.proofs.Below.report_definition.FittingGroups.{All-parts}
+use Rattle.report_misfits.proofs.Below.report_definition.GroupLaws.{groups_deck}
 use Rattle.compile407.specs.Runnable.{BlankDecksAreRunnable, blank_card}
 
 -- no column of a blank card is punched

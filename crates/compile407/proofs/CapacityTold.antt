@@ -6,7 +6,7 @@ use Rattle.allocate.specs.declared.fault.CapacityFault.{CapacityFault}
 use Rattle.allocate.specs.declared.fault.CapacityFault.TheVariants as exceeds
 use Rattle.capacity.specs.Capacities.{standard}
 use Rattle.chart_rules.specs.Rules.{IsLawful}
-use Rattle.chart_text.specs.Below.charts.Chart.{Chart}
+use Rattle.chart_text.specs.Below.chart_lines.ChartsWords.Chart.{Chart}
 use Rattle.chart_text.specs.ChartText.{Reads}
 use Rattle.fault_lines.specs.FaultsWords.ChartCauses.{of_capacity}
 use Rattle.compile407.specs.ChartFaults.{HasChartFault}

@@ -7,15 +7,15 @@ use Rattle.allocate.proofs.Exclusions.{fitting_charts_have_no_fault}
 use Rattle.allocate.specs.Exceeded.{HasCapacityFault}
 use Rattle.chart_plans.specs.WantedWords.Wanted.{wanted_of}
 use Rattle.capacity.specs.Capacities.{standard}
-use Rattle.chart_text.specs.Below.charts.Chart.{Chart}
+use Rattle.chart_text.specs.Below.chart_lines.ChartsWords.Chart.{Chart}
 use Rattle.chart_text.specs.declared.fault.TextFault.TheVariants as text
 use Rattle.chart_text.proofs.ChartGrammar.{one_chart, no_chart}
 use Rattle.chart_rules.specs.Rules.{Broken, IsKept, IsLawful}
-use Rattle.chart_rules.specs.Below.line_rules.FieldRules.Fields.{fields_of}
+use Rattle.chart_rules.specs.Below.chart_line_rules.FieldRules.Fields.{fields_of}
 use Rattle.chart_rules.specs.ValidCard.{IsValidCard, IsFirstInvalid}
 use Rattle.chart_rules.specs.declared.card.CardFault.{CardFault}
-use Rattle.report_misfits.specs.Below.report.Misfits.{first_of}
-use Rattle.report_misfits.proofs.Below.report.Fitting.{fit_without_misfits}
+use Rattle.report_misfits.specs.Below.report_definition.Misfits.{first_of}
+use Rattle.report_misfits.proofs.Below.report_definition.Fitting.{fit_without_misfits}
 use Rattle.fault_lines.specs.declared.faults.chart.ChartFault.TheVariants as chart
 use Rattle.fault_lines.specs.declared.faults.deck.RunFault.{RunFault}
 use Rattle.fault_lines.specs.declared.faults.deck.RunFault.TheVariants as deck

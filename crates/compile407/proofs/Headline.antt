@@ -8,9 +8,9 @@ use Rattle.chart_rules.specs.Rules.{IsLawful}
 use Rattle.chart_rules.specs.ValidCard.{IsValidCard}
 use Rattle.proof_reports.proofs.PrintedReports.Begun.{machines_begin_reports}
 use Rattle.proof_reports.proofs.PrintedReports.Reports.{machine_prints_reports}
-use Rattle.chart_text.specs.Below.charts.Chart.{Chart, NumbersRise}
+use Rattle.chart_text.specs.Below.chart_lines.ChartsWords.Chart.{Chart, NumbersRise}
 use Rattle.chart_text.specs.ChartText.{Reads}
-use Rattle.chart_text.specs.Below.charts.declared.chart.Line.{Line}
+use Rattle.chart_text.specs.Below.chart_lines.declared.charts.chart.Line.{Line}
 use Rattle.chart_text.proofs.ReadLiterals.{read_literals}
 use Rattle.hubs.specs.SetupsWords.Wiring.{Wiring}
 use Rattle.machine.proofs.SameSetups.{MachineLines-same}
@@ -18,12 +18,12 @@ use Rattle.machine.proofs.SomeOutcome.{FedLines-some, MachineLines-some}
 use Rattle.machine.specs.Machine.{machine_at_start}
 use Rattle.machine.specs.Runs.{MachineLines}
 use Rattle.page_text.specs.Pages.{Pages}
-use Rattle.report_misfits.specs.Below.report.ChartForm.{form_of}
-use Rattle.report_misfits.specs.Below.report.Report.{report_lines}
-use Rattle.report_misfits.specs.Below.report.Totals.{Fits}
+use Rattle.report_misfits.specs.Below.report_definition.ChartForm.{form_of}
+use Rattle.report_misfits.specs.Below.report_definition.Report.{report_lines}
+use Rattle.report_misfits.specs.Below.report_definition.Totals.{Fits}
 use Rattle.wiring_text.proofs.WiringReader.Answered.{one_setup}
 use Rattle.wiring_text.specs.WiringText.{IsSameSetup, ReadsAs}
-use Rattle.wiring_table.specs.WiredFor.{WiredFor}
+use Rattle.proof_reports.specs.Below.wiring_table.WiredFor.{WiredFor}
 use Rattle.compile407.specs.Compilation.{Compilation, IsCompiled}
 use Rattle.report_runs.specs.PrintPromises.Promises.{IsDeck}
 use Rattle.compile407.specs.Headline.{IsSound, ReadSetupsPrintAlike, WiredSetupsBeginReports, WiredSetupsPrintReports}

@@ -1,9 +1,9 @@
 -- What is promised of the chart and the setup of a compilation.
 use Rattle.std.proofs.Common.{◌≡◌, ◌∙◌, ap, sym, subst}
-use Rattle.chart_text.specs.Below.charts.Chart.{Chart}
+use Rattle.chart_text.specs.Below.chart_lines.ChartsWords.Chart.{Chart}
 use Rattle.compile407.proofs.Headline.{wired_setups_begin_reports, wired_setups_print_reports}
 use Rattle.compile407.specs.Compilation.{Compilation, IsCompiled}
-use Rattle.report_misfits.specs.Below.report.ChartForm.{form_of}
+use Rattle.report_misfits.specs.Below.report_definition.ChartForm.{form_of}
 use Rattle.hubs.specs.SetupsWords.Wiring.{Wiring}
 use Rattle.report_runs.specs.PrintPromises.Promises.{BeginsReport, PrintsReport}
 

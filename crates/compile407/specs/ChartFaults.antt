@@ -5,7 +5,7 @@ use Rattle.chart_plans.specs.WantedWords.Wanted.{wanted_of}
 use Rattle.allocate.specs.declared.fault.CapacityFault.{CapacityFault}
 use Rattle.allocate.specs.declared.fault.CapacityFault.TheVariants as capacity
 use Rattle.capacity.specs.Capacities.{standard}
-use Rattle.chart_text.specs.Below.charts.Chart.{Chart}
+use Rattle.chart_text.specs.Below.chart_lines.ChartsWords.Chart.{Chart}
 use Rattle.chart_text.specs.ChartText.{Reads}
 use Rattle.chart_text.specs.TextFaults.{HasTextFault}
 use Rattle.chart_text.specs.declared.fault.TextFault.TheVariants as text

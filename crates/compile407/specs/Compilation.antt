@@ -4,9 +4,9 @@ use Rattle.chart_plans.specs.PlansWords.Plans.{Lists, ServesChart}
 use Rattle.allocate.specs.Allocated.{IsPlanOf}
 use Rattle.chart_plans.specs.WantedWords.Wanted.{wanted_of}
 use Rattle.capacity.specs.Capacities.{standard}
-use Rattle.chart_text.specs.Below.charts.Chart.{Chart}
+use Rattle.chart_text.specs.Below.chart_lines.ChartsWords.Chart.{Chart}
 use Rattle.hubs.specs.SetupsWords.Wiring.{Wiring}
-use Rattle.wiring_table.specs.WiredFor.{WiredFor}
+use Rattle.proof_reports.specs.Below.wiring_table.WiredFor.{WiredFor}
 use Rattle.compile407.specs.Headline.{IsSound}
 
 -- a chart, its plan and a setup

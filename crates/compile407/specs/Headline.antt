@@ -3,14 +3,14 @@ use Rattle.std.specs.Prelude.{ℕ, List}
 use Rattle.chart_plans.specs.PlansWords.Plans.{Lists, ServesChart}
 use Rattle.page_text.specs.declared.placed_lines.placed_line.PlacedLine.{PlacedLine}
 use Rattle.chart_rules.specs.Rules.{IsLawful}
-use Rattle.chart_text.specs.Below.charts.Chart.{Chart, NumbersRise}
-use Rattle.chart_text.specs.Below.charts.Literals.{HaveLiteralTexts}
+use Rattle.chart_text.specs.Below.chart_lines.ChartsWords.Chart.{Chart, NumbersRise}
+use Rattle.chart_text.specs.Below.chart_lines.ChartsWords.Literals.{HaveLiteralTexts}
 use Rattle.report_runs.specs.PrintPromises.Promises.{BeginsReport, PrintsReport}
 use Rattle.hubs.specs.SetupsWords.Tapes.{IsCarriageTape}
 use Rattle.hubs.specs.SetupsWords.Wiring.{Wiring}
 use Rattle.machine.specs.Runs.{MachineLines}
 use Rattle.wiring_text.specs.WiringText.{ReadsAs}
-use Rattle.wiring_table.specs.WiredFor.{WiredFor}
+use Rattle.proof_reports.specs.Below.wiring_table.WiredFor.{WiredFor}
 
 -- A chart that breaks no rule; as in every chart that is read, the numbers of its lines rise and its literals are print characters.
 pub record IsSound (chart : Chart) : Type 0 where

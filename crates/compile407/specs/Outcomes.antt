@@ -1,6 +1,6 @@
 -- What can be answered excludes what else can be told, and one thing at most is told.
 use Rattle.std.specs.Prelude.{◌≡◌, ℕ, List}
-use Rattle.chart_text.specs.Below.charts.Chart.{Chart}
+use Rattle.chart_text.specs.Below.chart_lines.ChartsWords.Chart.{Chart}
 use Rattle.chart_text.specs.ChartText.{Reads}
 use Rattle.fault_lines.specs.declared.faults.chart.ChartFault.{ChartFault}
 use Rattle.fault_lines.specs.declared.faults.deck.RunFault.{RunFault}

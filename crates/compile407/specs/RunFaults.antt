@@ -1,11 +1,11 @@
 -- What a fault says of a deck of cards.
 use Rattle.std.specs.Prelude.{◌≡◌, ℕ, ◌+◌, ◌<◌, ◌≤◌, List, Some, length, take, slice_get, All}
 use Rattle.card_code.specs.MostCards.{most_cards}
-use Rattle.chart_text.specs.Below.charts.Chart.{Chart}
-use Rattle.chart_rules.specs.Below.line_rules.FieldRules.Fields.{fields_of}
+use Rattle.chart_text.specs.Below.chart_lines.ChartsWords.Chart.{Chart}
+use Rattle.chart_rules.specs.Below.chart_line_rules.FieldRules.Fields.{fields_of}
 use Rattle.chart_rules.specs.ValidCard.{IsValidCard, IsFirstInvalid}
 use Rattle.chart_rules.specs.declared.card.CardFault.{CardFault}
-use Rattle.report_misfits.specs.Below.report.Misfits.{Misfit, first_of, misfits}
+use Rattle.report_misfits.specs.Below.report_definition.Misfits.{Misfit, first_of, misfits}
 use Rattle.fault_lines.specs.FaultsWords.ToldFaults.{of_card}
 use Rattle.fault_lines.specs.declared.faults.deck.RunFault.{RunFault}
 use Rattle.fault_lines.specs.declared.faults.deck.RunFault.TheVariants as deck

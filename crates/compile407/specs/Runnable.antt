@@ -2,8 +2,8 @@
 use Rattle.std.specs.Prelude.{ℕ, ◌≤◌, List, replicate}
 use Rattle.card_code.specs.MostCards.{most_cards}
 use Rattle.chart_rules.specs.Rules.{IsLawful}
-use Rattle.chart_text.specs.Below.charts.Chart.{Chart}
-use Rattle.report_misfits.specs.Below.report.Totals.{Fits}
+use Rattle.chart_text.specs.Below.chart_lines.ChartsWords.Chart.{Chart}
+use Rattle.report_misfits.specs.Below.report_definition.Totals.{Fits}
 use Rattle.report_runs.specs.PrintPromises.Promises.{IsDeck}
 
 -- the deck can be run

@@ -1,10 +1,10 @@
 -- A chart of version 1, and the chart of version 2 of the same lines that bears the word COUPLED exactly where a total takes two
 -- counter groups.
 use Rattle.std.specs.Prelude.{◌≡◌, ◌↔◌, ℕ, List}
-use Rattle.chart_text.specs.Below.charts.declared.chart.Line.{Line}
+use Rattle.chart_text.specs.Below.chart_lines.declared.charts.chart.Line.{Line}
 use Rattle.chart_rules.specs.Versions.{in_first, in_second, AreCoupled}
 use Rattle.chart_plans.specs.PlansWords.Plans.{Lists}
-use Rattle.report_misfits.specs.Below.report.Report.{Report}
+use Rattle.report_misfits.specs.Below.report_definition.Report.{Report}
 use Rattle.hubs.specs.SetupsWords.Wiring.{Wiring}
 use Rattle.compile407.specs.Compilation.{IsCompiled}
 use Rattle.compile407.specs.Runnable.{IsRunnable}

@@ -3,11 +3,11 @@
 ghost use Rattle.std.specs.Prelude.{◌≡◌, ◌≢◌, ◌≤◌, ◌<◌, ◌+◌, length, IfOk, IfErr, OnOk, All, option_map};
 ghost use Rattle.card_code.specs.MostCards.{most_cards};
 ghost use Rattle.report_misfits.specs.ToldMisfits.{told};
-ghost use Rattle.report_misfits.specs.Below.report.Misfits.{first_of, misfits};
-ghost use Rattle.report_misfits.specs.Below.report.Totals.{Fits};
+ghost use Rattle.report_misfits.specs.Below.report_definition.Misfits.{first_of, misfits};
+ghost use Rattle.report_misfits.specs.Below.report_definition.Totals.{Fits};
 ghost use Rattle.compile407.specs.RunFaults.{HasRunFault, IsInvalidDeck, IsMisfit};
 ghost use Rattle.fault_lines.specs.declared.faults.deck.RunFault.TheVariants as deck;
-ghost use Rattle.report_misfits.specs.Below.report.Report.{Report};
+ghost use Rattle.report_misfits.specs.Below.report_definition.Report.{Report};
 ghost use Rattle.compile407.specs.Runnable.{IsRunnable};
 ghost use Rattle.chart_rules.specs.ValidCard.{IsValidCard};
 

@@ -1,7 +1,7 @@
 //! Running a deck that comes card by card, from a source of bytes to a sink.
 
 ghost use Rattle.std.specs.Prelude.{◌≡◌, ℕ, true, IfErr, MatchResult, OnOk};
-ghost use Rattle.report_runs.specs.Below.card_lines.declared.fault.ReadFault.TheVariants as read;
+ghost use Rattle.report_streams.specs.declared.card_lines.fault.ReadFault.TheVariants as read;
 ghost use Rattle.report_runs.specs.Runs.{RunsToEnd, StopsShort};
 ghost use Rattle.report_runs.specs.declared.fault.StreamCause.TheVariants as cause;
 

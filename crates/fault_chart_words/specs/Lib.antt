@@ -1,4 +1,3 @@
-pub mod Below
 pub mod Listed
 pub mod HelperLists
 pub mod FaultWords

@@ -1,3 +1,4 @@
+pub mod Below
 pub mod FaultsWords
 pub mod ProgramIo
 pub mod FaultGuide

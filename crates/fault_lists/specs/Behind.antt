@@ -18,7 +18,7 @@ use Rattle.chart_lines.specs.declared.charts.statement.Statement.TheVariants as 
 use Rattle.fault_lists.specs.TextEntries.{no_end_entry}
 use Rattle.fault_chart_words.specs.FaultWords.Entries.{entries_text}
 use Rattle.fault_chart_words.specs.FaultWords.Parts.{has_stops}
-use Rattle.card_code.specs.Deck.{line_at}
+use Rattle.fault_slips.specs.Below.card_code.Deck.{line_at}
 use Rattle.fault_slips.specs.LineMarks.Emptied.{emptied}
 use Rattle.fault_slips.specs.LineMarks.Spans.{word}
 

@@ -12,7 +12,7 @@ use Rattle.chart_lines.specs.declared.charts.statement.Statement.{Statement}
 use Rattle.chart_lines.specs.declared.charts.statement.Statement.TheVariants as says
 use Rattle.fault_lines.specs.FaultsWords.Lines.{fault_line}
 use Rattle.fault_lines.specs.FaultsWords.ToldFaults.{capacity_told}
-use Rattle.card_code.specs.Deck.{line_at}
+use Rattle.fault_slips.specs.Below.card_code.Deck.{line_at}
 use Rattle.fault_slips.specs.LineMarks.Entries.{below, shown}
 use Rattle.fault_slips.specs.LineMarks.Spans.{span_of}
 use Rattle.chart_plans.specs.WantedWords.Totals.{is_at_least, takes_two}

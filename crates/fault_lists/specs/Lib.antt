@@ -5,5 +5,4 @@ pub mod Behind
 pub mod Endings
 pub mod MisreadLines
 pub mod CapacityFaults
-pub mod Below
 pub mod TextLists

@@ -3,7 +3,7 @@ use Rattle.std.specs.Prelude.{ℕ, List, [], ◌++◌, Option, Some, None, codes
 use Rattle.std.specs.List.{flat_map}
 use Rattle.chart_text.specs.declared.fault.TextFault.{TextFault}
 use Rattle.chart_text.specs.declared.fault.TextFault.TheVariants as text
-use Rattle.card_code.specs.Deck.{line_at}
+use Rattle.fault_slips.specs.Below.card_code.Deck.{line_at}
 use Rattle.fault_slips.specs.LineMarks.Entries.{below}
 use Rattle.fault_slips.specs.LineMarks.FirstLines.{first_line, is_end}
 use Rattle.fault_slips.specs.LineSlips.LineEntries.{behind_entry}

@@ -1,3 +1,4 @@
+pub mod Below
 pub mod LineMarks
 pub mod LineSlips
 pub mod WordSlips

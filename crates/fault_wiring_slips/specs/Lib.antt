@@ -1,4 +1,3 @@
-pub mod Below
 pub mod HubWords
 pub mod LineSlips
 pub mod Meetings

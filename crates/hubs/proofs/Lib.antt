@@ -1,4 +1,3 @@
-pub mod Below
 pub mod HubLemmas
 pub mod JackLemmas
 pub mod HubTable

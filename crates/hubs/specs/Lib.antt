@@ -1,4 +1,3 @@
-pub mod Below
 pub mod Carries
 pub mod HelperKeys
 pub mod HubText

@@ -7,7 +7,7 @@ use Rattle.std.specs.List.{list_any}
 use Rattle.counters.specs.Counters.{Counter, counter_emits, counter_number, wheels_in}
 use Rattle.counters.specs.Wheels.{carries_out}
 use Rattle.hubs.specs.Hubs.{number_of}
-use Rattle.hubs.specs.Below.hub_table.Places.{group_place}
+use Rattle.hubs.specs.HubTable.Places.{group_place}
 use Rattle.hubs.specs.declared.hub.Hub.{Hub}
 use Rattle.hubs.specs.declared.hub.Hub.TheVariants.{CO}
 use Rattle.net.specs.HubSets.{is_bit, is_bit_from, is_in_row, is_same_number}

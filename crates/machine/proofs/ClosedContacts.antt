@@ -7,9 +7,9 @@ use Rattle.card_code.specs.declared.row.Row.{Row as CardRow}
 use Rattle.card_code.specs.declared.row.Row.TheVariants as rows
 use Rattle.counters.specs.Counters.{Counter, counter_number, counter_closes, counter_sensed, wheels_in}
 use Rattle.counters.specs.Wheels.{all_nines}
-use Rattle.hubs.specs.Below.hub_table.Places.{width_place, up_to, part_place}
-use Rattle.hubs.specs.Below.hub_table.Ranges.{is_within}
-use Rattle.hubs.proofs.Below.hub_table.PlaceLemmas.{width_place-range}
+use Rattle.hubs.specs.HubTable.Places.{width_place, up_to, part_place}
+use Rattle.hubs.specs.HubTable.Ranges.{is_within}
+use Rattle.hubs.proofs.HubTable.PlaceLemmas.{width_place-range}
 use Rattle.hubs.specs.declared.hub.Group.{Group}
 use Rattle.hubs.specs.declared.hub.Hub.{Hub}
 use Rattle.hubs.specs.declared.hub.Hub.TheVariants.{BAN, BAT, CO, PIN, PIT, CSD, CSZ}

@@ -9,7 +9,7 @@ use Rattle.card_code.specs.Rows.{rows}
 use Rattle.counters.specs.Counters.{Counter, counter_ended, counter_sensed, digits_ended, top_is_nine}
 use Rattle.counters.proofs.RowsSensed.{rows-sensed}
 use Rattle.hubs.specs.declared.hub.Hub.{Hub}
-use Rattle.net.proofs.Below.bit_sets.BitLemmas.{is_bit-zero}
+use Rattle.net.proofs.Below.machine_sets.BitSets.BitLemmas.{is_bit-zero}
 use Rattle.net.specs.HubSets.{is_bit}
 use Rattle.net.specs.RowSets.{after_rows}
 use Rattle.net.specs.declared.cycle.Cycle.{Cycle}

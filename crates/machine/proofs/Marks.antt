@@ -6,7 +6,7 @@ use Rattle.std.specs.Int.Bits.{bit_and}
 use Rattle.std.proofs.lemmas.Bool.{cases_lt}
 use Rattle.std.proofs.lemmas.Bool.Decides.{nat_tests}
 use Rattle.std.proofs.lemmas.Nat.{and_le_l}
-use Rattle.net.proofs.Below.bit_sets.BitLemmas.{is_bit-above, is_bit-taken, is_bit-zero, lowest_bit, taken_lower}
+use Rattle.net.proofs.Below.machine_sets.BitSets.BitLemmas.{is_bit-above, is_bit-taken, is_bit-zero, lowest_bit, taken_lower}
 use Rattle.net.specs.HubSets.{is_bit}
 use Rattle.machine.specs.Marked.{LosesBit, any_marked, marked_changed}
 

@@ -12,11 +12,11 @@ use Rattle.counters.proofs.Staying.{counters-stay}
 use Rattle.counters.specs.Wheels.{carries_out, turned}
 use Rattle.counters.specs.declared.controls.Controls.{Controls}
 use Rattle.hubs.specs.Hubs.{number_of}
-use Rattle.hubs.specs.Below.hub_table.Places.{group_place}
+use Rattle.hubs.specs.HubTable.Places.{group_place}
 use Rattle.hubs.specs.declared.hub.Group.{Group}
 use Rattle.hubs.specs.declared.hub.Hub.{Hub}
 use Rattle.hubs.specs.declared.hub.Hub.TheVariants.{CI, CO, GE, PL, MI, RO, BT}
-use Rattle.net.proofs.Below.bit_sets.BitLemmas.{is_bit-low, is_bit-or, is_bit-shr, is_bit-zero}
+use Rattle.net.proofs.Below.machine_sets.BitSets.BitLemmas.{is_bit-low, is_bit-or, is_bit-shr, is_bit-zero}
 use Rattle.std.specs.Int.Bits.{bit_and, bit_or}
 use Rattle.std.specs.Prelude.{◌==◌, slice_index_or}
 use Rattle.std.proofs.lemmas.Nat.{and_mask}

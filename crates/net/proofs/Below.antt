@@ -1,1 +1,1 @@
-pub use Rattle.machine_sets.proofs.BitSets as bit_sets
+pub use Rattle.machine_sets.proofs as machine_sets

@@ -7,8 +7,8 @@ use Rattle.std.proofs.lemmas.List.{get_or_past}
 use Rattle.card_code.specs.Rows.{passing_place}
 use Rattle.card_code.specs.declared.row.Row.{Row as CardRow}
 use Rattle.card_code.specs.declared.row.Row.TheVariants as row
-use Rattle.hubs.specs.Below.hub_table.Places.{row_place}
-use Rattle.hubs.specs.Below.hub_table.Ranges.{is_within}
+use Rattle.hubs.specs.HubTable.Places.{row_place}
+use Rattle.hubs.specs.HubTable.Ranges.{is_within}
 use Rattle.hubs.specs.Hubs.{number_of}
 use Rattle.hubs.specs.declared.hub.Hub.{Hub}
 use Rattle.hubs.specs.declared.hub.Hub.TheVariants.{EM}

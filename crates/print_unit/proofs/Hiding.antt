@@ -5,7 +5,7 @@ use Rattle.std.proofs.lemmas.Bool.Decides.{eqb_tells, nat_tests}
 use Rattle.std.proofs.lemmas.List.{get_or-set_same, get_or-set_other, length-set}
 use Rattle.std.proofs.lemmas.Nat.{and_le_l, and_le_r}
 use Rattle.std.specs.Int.{bit_not, w64, trailing_zeros}
-use Rattle.net.proofs.Below.bit_sets.BitLemmas.{is_bit-above, is_bit-low_word, is_bit-shr, is_bit-taken, lowest_bit}
+use Rattle.net.proofs.Below.machine_sets.BitSets.BitLemmas.{is_bit-above, is_bit-low_word, is_bit-shr, is_bit-taken, lowest_bit}
 use Rattle.net.specs.HubSets.{is_bit}
 use Rattle.print_unit.proofs.Bits.{is_bit-zero}
 

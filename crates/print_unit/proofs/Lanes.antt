@@ -4,7 +4,7 @@ use Rattle.std.specs.Prelude.{nat_le}
 use Rattle.std.proofs.lemmas.Bool.Decides.{nat_tests}
 use Rattle.std.proofs.lemmas.List.{get_or_past, get_or-map, length-map}
 use Rattle.std.proofs.lemmas.Simd.{bitmask_splat, bit_mask_l, get_or-chunk, length-chunk, map-map, mask_l-mod, zip2_of_maps, zip2_splat, zip2_splat_left}
-use Rattle.net.proofs.Below.bit_sets.BitLemmas.{is_bit-low, is_bit-or, is_bit-shl, is_bit-zero}
+use Rattle.net.proofs.Below.machine_sets.BitSets.BitLemmas.{is_bit-low, is_bit-or, is_bit-shl, is_bit-zero}
 use Rattle.net.specs.HubSets.{is_bit}
 use Rattle.print_unit.specs.WheelWords.{is_between}
 use lib.Lanes.{chunk, mask_l, top, zip2}

@@ -1,3 +1,4 @@
+pub mod Below
 pub mod PrintedLines
 pub mod WiredPanels
 pub mod PrintedReports

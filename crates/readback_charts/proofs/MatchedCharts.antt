@@ -5,7 +5,7 @@ use Rattle.chart_lines.specs.ChartsWords.Chart.{Chart}
 use Rattle.compile407.specs.ChartFaults.{HasChartFault}
 use Rattle.compile407.specs.Compilation.{Compilation}
 use Rattle.compile407.specs.Outcomes.{CompiledTextsHaveNoFault}
-use Rattle.chart_text.proofs.ChartGrammar.{one_chart}
+use Rattle.fault_lines.proofs.Below.chart_text.ChartGrammar.{one_chart}
 use Rattle.fault_lines.specs.declared.faults.chart.ChartFault.{ChartFault}
 use Rattle.fault_lines.specs.declared.faults.chart.ChartFault.TheVariants as chart
 use Rattle.match_panels.specs.MatchingWords.Answers.{IsMatched, plan_told}

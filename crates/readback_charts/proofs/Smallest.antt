@@ -2,8 +2,8 @@
 use Rattle.std.proofs.Common.{◌≡◌, ◌≢◌, ◌∙◌, refl, sym, ap, subst, arith, zero, suc, false, List, [], ◌∷◌, ℕ, Ok, codes}
 use Rattle.allocate.proofs.Exclusions.{fitting_charts_have_no_fault}
 use Rattle.allocate.specs.Exceeded.{FitsMachine, HasCapacityFault}
-use Rattle.card_code.specs.CardCode.{code, rows_of}
-use Rattle.card_code.specs.Lines.{lines_of}
+use Rattle.chart_lines.specs.Below.card_code.CardCode.{code, rows_of}
+use Rattle.chart_lines.specs.Below.card_code.Lines.{lines_of}
 use Rattle.chart_lines.specs.ChartsWords.Chart.{Chart}
 use Rattle.chart_lines.specs.declared.charts.chart.Line.{Line}
 use Rattle.chart_lines.specs.declared.charts.chart.Version.TheVariants.{Second}
@@ -12,19 +12,19 @@ use Rattle.chart_lines.specs.declared.charts.level.Level.TheVariants.{Final}
 use Rattle.chart_lines.specs.declared.charts.statement.Printing.TheVariants.{Group}
 use Rattle.chart_lines.specs.declared.charts.statement.Statement.TheVariants as says
 use Rattle.compile407.specs.ChartFaults.{HasChartFault}
-use Rattle.chart_text.proofs.ChartGrammar.{no_chart, one_chart, reads_is}
-use Rattle.chart_text.specs.ChartText.{Reads}
-use Rattle.chart_text.specs.HelperForms.{form_of, print_of, said_of, statement_of, total_literal_of, total_statement}
-use Rattle.chart_text.specs.HelperText.{chart_from, chart_of, content_of}
-use Rattle.chart_text.specs.HelperWords.{level_of, literal_of}
-use Rattle.chart_text.specs.declared.fault.TextFault.TheVariants as text
+use Rattle.fault_lines.proofs.Below.chart_text.ChartGrammar.{no_chart, one_chart, reads_is}
+use Rattle.fault_lines.specs.Below.chart_text.ChartText.{Reads}
+use Rattle.fault_lines.specs.Below.chart_text.HelperForms.{form_of, print_of, said_of, statement_of, total_literal_of, total_statement}
+use Rattle.fault_lines.specs.Below.chart_text.HelperText.{chart_from, chart_of, content_of}
+use Rattle.fault_lines.specs.Below.chart_text.HelperWords.{level_of, literal_of}
+use Rattle.fault_lines.specs.Below.chart_text.declared.fault.TextFault.TheVariants as text
 use Rattle.fault_lines.specs.declared.faults.chart.ChartFault.{ChartFault}
 use Rattle.fault_lines.specs.declared.faults.chart.ChartFault.TheVariants as chart
-use Rattle.chart_rules.proofs.Lowest.{IsKept-passes, PassesBefore}
-use Rattle.capacity.specs.Capacities.{standard}
-use Rattle.chart_rules.specs.Rules.{Broken, IsKept, IsLawful, breaks_at, lacks}
-use Rattle.chart_rules.specs.declared.rule.Rule.{Rule}
-use Rattle.chart_rules.specs.declared.rule.Rule.TheVariants as rule
+use Rattle.chart_plans.proofs.Below.chart_rules.Lowest.{IsKept-passes, PassesBefore}
+use Rattle.chart_plans.specs.Below.capacity.Capacities.{standard}
+use Rattle.chart_plans.specs.Below.chart_rules.Rules.{Broken, IsKept, IsLawful, breaks_at, lacks}
+use Rattle.chart_plans.specs.Below.chart_rules.declared.rule.Rule.{Rule}
+use Rattle.chart_plans.specs.Below.chart_rules.declared.rule.Rule.TheVariants as rule
 use Rattle.chart_plans.specs.WantedWords.Counts.{count_wanted}
 use Rattle.chart_plans.specs.WantedWords.Pilots.{wants_pilot}
 use Rattle.chart_plans.specs.WantedWords.Positions.{field_used, positions_for}

@@ -1,6 +1,6 @@
 -- The chart that a panel is read back as: a text that compiles, and what is found of the panel beside it.
 use Rattle.std.specs.Prelude.{ℕ, List}
-use Rattle.chart_text.specs.ChartText.{Reads}
+use Rattle.fault_lines.specs.Below.chart_text.ChartText.{Reads}
 use Rattle.compile407.specs.Compilation.{Compilation, IsCompiled}
 use Rattle.match_panels.specs.MatchingWords.Answers.{IsMatched, IsMatchingOf, plan_told}
 use Rattle.match_panels.specs.declared.matching.answer.Matching.{Matching}

@@ -1,3 +1,3 @@
+pub use Rattle.chart_lines.proofs as chart_lines
 pub use Rattle.chart_rules.proofs as chart_rules
-pub use Rattle.chart_rules.proofs.Below.charts
-pub use Rattle.chart_rules.proofs.Below.line_rules
+pub use Rattle.chart_rules.proofs.Below.chart_line_rules

@@ -3,9 +3,9 @@ use Rattle.std.proofs.Common.{◌≡◌, ◌∙◌, refl, ap, ℕ, zero, suc, �
 use Rattle.std.specs.Int.{is_negative}
 use Rattle.std.proofs.lemmas.Bool.Decides.{nat_tests}
 use Rattle.std.proofs.lemmas.List.{length-map, length-append, length-drop, length-replicate, length-take}
-use Rattle.chart_rules.specs.Below.charts.declared.statement.Mark.{Mark}
-use Rattle.chart_rules.specs.Below.charts.declared.statement.Mark.TheVariants as mark
-use Rattle.chart_rules.specs.Below.line_rules.PrintRules.Items.{figure_width, mark_width}
+use Rattle.chart_lines.specs.declared.charts.statement.Mark.{Mark}
+use Rattle.chart_lines.specs.declared.charts.statement.Mark.TheVariants as mark
+use Rattle.chart_rules.specs.Below.chart_line_rules.PrintRules.Items.{figure_width, mark_width}
 use Rattle.report_definition.specs.Edits.{last_digits, figure, without_leading_zeros, free_digits, point, marked, edited_digits, edited_blank}
 use Rattle.report_definition.specs.Laws.{EditsFillTheirItems}
 

@@ -1,7 +1,7 @@
 -- How many lines an outline has, and how many body lines a report: at most five for each card.
 use Rattle.std.proofs.Common.{◌≡◌, refl, ap, ℕ, zero, suc, ◌*◌, ◌≤◌, Bool, true, false, Option, Some, None, List, [], ◌∷◌, length, if◌then◌else◌, length-append, arith}
 use Rattle.std.specs.List.{flat_map}
-use Rattle.chart_rules.specs.Below.charts.declared.chart.Line.{Line}
+use Rattle.chart_lines.specs.declared.charts.chart.Line.{Line}
 use Rattle.report_definition.specs.Breaks.{ended_after, no_cards, taking, cleared, totals_to, chunk_of, flat}
 use Rattle.report_definition.specs.ChartForm.{prints_details, prints_totals}
 use Rattle.report_definition.specs.Outline.{OutlineLine, Detail, Total, outline_of}

@@ -2,10 +2,10 @@
 use Rattle.std.proofs.Common.{◌≡◌, refl, subst, ℕ, zero, suc, ◌+◌, ◌≤◌, List, [], ◌∷◌, length, arith}
 use Rattle.std.specs.List.{All}
 use Rattle.std.proofs.lemmas.List.Elements.{All-nil, All-cons, All-head, All-tail}
-use Rattle.chart_rules.specs.Below.charts.Levels.{level_number}
-use Rattle.chart_rules.specs.Below.charts.declared.chart.Line.{Line}
-use Rattle.chart_rules.specs.Below.charts.declared.level.Level.{Level}
-use Rattle.chart_rules.specs.Below.charts.declared.level.Level.TheVariants as level
+use Rattle.chart_lines.specs.ChartsWords.Levels.{level_number}
+use Rattle.chart_lines.specs.declared.charts.chart.Line.{Line}
+use Rattle.chart_lines.specs.declared.charts.level.Level.{Level}
+use Rattle.chart_lines.specs.declared.charts.level.Level.TheVariants as level
 use Rattle.report_definition.specs.Groups.{groups_in}
 use Rattle.report_definition.specs.Laws.{FitWithoutMisfits}
 use Rattle.report_definition.specs.Misfits.{Misfit, misfits}

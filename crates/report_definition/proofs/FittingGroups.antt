@@ -3,7 +3,7 @@ use Rattle.std.proofs.Common.{◌≡◌, ◌∙◌, refl, sym, ap, subst, ℕ, z
 use Rattle.std.specs.List.{All}
 use Rattle.std.proofs.lemmas.List.{length-append}
 use Rattle.std.proofs.lemmas.List.Elements.{All-nil, All-cons, All-head, All-tail, All-append}
-use Rattle.chart_rules.specs.Below.charts.declared.chart.Line.{Line}
+use Rattle.chart_lines.specs.declared.charts.chart.Line.{Line}
 use Rattle.report_definition.specs.Groups.{cards_of, groups_in, groups_within}
 use Rattle.report_definition.specs.Outline.{OutlineLine, Detail, Total, by_parts, details, outline}
 use Rattle.report_definition.specs.Misfits.{Misfit, misfits_after, misfits_in}

@@ -3,8 +3,8 @@ use Rattle.std.proofs.Common.{◌≡◌, ◌∙◌, refl, sym, ap, ℕ, zero, su
 use Rattle.std.specs.List.{flat_map}
 use Rattle.std.proofs.lemmas.Bool.Decides.{nat_tests}
 use Rattle.std.proofs.lemmas.Int.{ints}
-use Rattle.chart_rules.specs.Below.charts.declared.chart.Line.{Line}
-use Rattle.chart_rules.specs.Below.charts.declared.statement.Field.{Field}
+use Rattle.chart_lines.specs.declared.charts.chart.Line.{Line}
+use Rattle.chart_lines.specs.declared.charts.statement.Field.{Field}
 use Rattle.report_definition.specs.Groups.{cards_of, rest_of_run, later_runs, groups_in, groups_within, is_same_at}
 use Rattle.report_definition.specs.Laws.{totals_of, GroupsMakeTheDeck, GroupsMakeTheWhole, TotalsAddUp}
 use Rattle.report_definition.specs.Totals.{total_of}

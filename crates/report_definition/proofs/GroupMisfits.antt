@@ -3,13 +3,13 @@ use Rattle.std.proofs.Common.{◌≡◌, ◌∙◌, refl, sym, ap, ℕ, suc, ◌
 use Rattle.std.specs.List.{All, Contains, cons_option, filter_map}
 use Rattle.std.proofs.lemmas.Bool.Decides.{nat_tests}
 use Rattle.std.proofs.lemmas.List.Elements.{All-nil, All-cons, All-contains}
-use Rattle.chart_rules.specs.Below.charts.Levels.{level_number}
-use Rattle.chart_rules.specs.Below.charts.declared.chart.Line.{Line}
-use Rattle.chart_rules.specs.Below.charts.declared.statement.Field.{Field}
-use Rattle.chart_rules.specs.Below.charts.declared.statement.Statement.{Statement}
-use Rattle.chart_rules.specs.Below.charts.declared.statement.TotalLine.{TotalLine}
-use Rattle.chart_rules.specs.Below.charts.declared.statement.Statement.TheVariants as says
-use Rattle.chart_rules.specs.Below.line_rules.FieldRules.Fields.{field_named}
+use Rattle.chart_lines.specs.ChartsWords.Levels.{level_number}
+use Rattle.chart_lines.specs.declared.charts.chart.Line.{Line}
+use Rattle.chart_lines.specs.declared.charts.statement.Field.{Field}
+use Rattle.chart_lines.specs.declared.charts.statement.Statement.{Statement}
+use Rattle.chart_lines.specs.declared.charts.statement.TotalLine.{TotalLine}
+use Rattle.chart_lines.specs.declared.charts.statement.Statement.TheVariants as says
+use Rattle.chart_rules.specs.Below.chart_line_rules.FieldRules.Fields.{field_named}
 use Rattle.report_definition.specs.Misfits.{Misfit, fits_in, misfit_of, misfit_on, misfits_in}
 use Rattle.report_definition.specs.Totals.{GroupFits, total_of}
 

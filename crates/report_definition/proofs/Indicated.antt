@@ -4,13 +4,13 @@ use Rattle.std.specs.List.{flat_map}
 use Rattle.std.proofs.lemmas.Bool.Decides.{nat_tests}
 use Rattle.std.proofs.lemmas.Grind.{flat_map-append}
 use Rattle.std.proofs.lemmas.List.{map-append}
-use Rattle.chart_rules.specs.Below.charts.Levels.{control_number}
-use Rattle.chart_rules.specs.Below.charts.declared.chart.Line.{Line}
-use Rattle.chart_rules.specs.Below.charts.declared.level.ControlLevel.{ControlLevel}
-use Rattle.chart_rules.specs.Below.charts.declared.level.ControlLevel.TheVariants as control
-use Rattle.chart_rules.specs.Below.charts.declared.statement.DetailOption.TheVariants as shown
-use Rattle.chart_rules.specs.Below.charts.declared.statement.Statement.{Statement}
-use Rattle.chart_rules.specs.Below.charts.declared.statement.Statement.TheVariants as says
+use Rattle.chart_lines.specs.ChartsWords.Levels.{control_number}
+use Rattle.chart_lines.specs.declared.charts.chart.Line.{Line}
+use Rattle.chart_lines.specs.declared.charts.level.ControlLevel.{ControlLevel}
+use Rattle.chart_lines.specs.declared.charts.level.ControlLevel.TheVariants as control
+use Rattle.chart_lines.specs.declared.charts.statement.DetailOption.TheVariants as shown
+use Rattle.chart_lines.specs.declared.charts.statement.Statement.{Statement}
+use Rattle.chart_lines.specs.declared.charts.statement.Statement.TheVariants as says
 use Rattle.report_definition.specs.BodyLines.{Piece, card_piece}
 use Rattle.report_definition.specs.Groups.{cards_of, groups_in, groups_within, is_same_at, later_runs, rest_of_run}
 use Rattle.report_definition.specs.Outline.{OutlineLine, Detail, Total, by_parts, details, outline}

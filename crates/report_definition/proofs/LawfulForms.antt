@@ -3,20 +3,20 @@ use Rattle.std.proofs.Common.{◌≡◌, ◌∙◌, refl, sym, ap, subst, ℕ, �
 use Rattle.std.specs.List.{Contains}
 use Rattle.std.proofs.lemmas.Bool.{and_parts, not-false}
 use Rattle.std.proofs.lemmas.Bool.Decides.{nat_tests}
-use Rattle.chart_rules.specs.Below.charts.Chart.{Chart}
-use Rattle.chart_rules.specs.Below.charts.declared.chart.Line.{Line}
-use Rattle.chart_rules.specs.Below.charts.Spacings.{spacing_number}
-use Rattle.chart_rules.specs.Below.charts.declared.heading.HeadingLine.TheVariants as heading
-use Rattle.chart_rules.specs.Below.charts.declared.spacing.Spacing.{Spacing}
-use Rattle.chart_rules.specs.Below.charts.declared.spacing.Spacing.TheVariants.{Single, Double, Triple}
-use Rattle.chart_rules.specs.Below.charts.declared.statement.After.TheVariants as action
-use Rattle.chart_rules.specs.Below.charts.declared.statement.Statement.{Statement}
-use Rattle.chart_rules.specs.Below.charts.declared.statement.Statement.TheVariants as says
-use Rattle.chart_rules.proofs.Below.charts.Listed.{any-passing}
+use Rattle.chart_lines.specs.ChartsWords.Chart.{Chart}
+use Rattle.chart_lines.specs.declared.charts.chart.Line.{Line}
+use Rattle.chart_lines.specs.ChartsWords.Spacings.{spacing_number}
+use Rattle.chart_lines.specs.declared.charts.heading.HeadingLine.TheVariants as heading
+use Rattle.chart_lines.specs.declared.charts.spacing.Spacing.{Spacing}
+use Rattle.chart_lines.specs.declared.charts.spacing.Spacing.TheVariants.{Single, Double, Triple}
+use Rattle.chart_lines.specs.declared.charts.statement.After.TheVariants as action
+use Rattle.chart_lines.specs.declared.charts.statement.Statement.{Statement}
+use Rattle.chart_lines.specs.declared.charts.statement.Statement.TheVariants as says
+use Rattle.chart_lines.proofs.ChartsWords.Listed.{any-passing}
 use Rattle.chart_rules.specs.declared.rule.Rule.TheVariants as rule
-use Rattle.chart_rules.specs.Below.line_rules.PrintRules.Forms.{has_form, has_room, heading_of, breaks_form}
+use Rattle.chart_rules.specs.Below.chart_line_rules.PrintRules.Forms.{has_form, has_room, heading_of, breaks_form}
 use Rattle.chart_rules.specs.Rules.{IsLawful}
-use Rattle.chart_rules.specs.Below.line_rules.PrintRules.Tapes.{form_lines, form_lines_of, rise_above, are_within, is_good_tape, is_tape_of, has_tape, breaks_tape}
+use Rattle.chart_rules.specs.Below.chart_line_rules.PrintRules.Tapes.{form_lines, form_lines_of, rise_above, are_within, is_good_tape, is_tape_of, has_tape, breaks_tape}
 use Rattle.chart_rules.proofs.Laws.{kept-line, lacks-lawful}
 use Rattle.report_definition.specs.ChartForm.{Form, after_of, form_of, form_from, heading_count, spacing_from, spacing_of, kind_number, stops_of}
 use Rattle.report_definition.proofs.Said.{SaysTape, after-said, form-said, tape-said}

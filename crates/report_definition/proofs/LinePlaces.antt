@@ -1,10 +1,10 @@
 -- Where lines of a lawful chart's report stand.
 use Rattle.std.proofs.Common.{◌≡◌, refl, sym, ap, subst, ℕ, ◌+◌, ◌-◌, ◌<◌, ◌==◌, nat_le, Bool, true, false, List, [], ◌∷◌, ◌++◌, Option, Some, None, if◌then◌else◌, arith}
 use Rattle.std.proofs.lemmas.Bool.Decides.{nat_tests}
-use Rattle.chart_rules.specs.Below.charts.declared.chart.Line.{Line}
-use Rattle.chart_rules.specs.Below.charts.declared.statement.After.{After}
-use Rattle.chart_rules.specs.Below.charts.declared.statement.After.TheVariants as action
-use Rattle.chart_rules.specs.Below.line_rules.PrintRules.Tapes.{rise_above}
+use Rattle.chart_lines.specs.declared.charts.chart.Line.{Line}
+use Rattle.chart_lines.specs.declared.charts.statement.After.{After}
+use Rattle.chart_lines.specs.declared.charts.statement.After.TheVariants as action
+use Rattle.chart_rules.specs.Below.chart_line_rules.PrintRules.Tapes.{rise_above}
 use Rattle.report_definition.specs.ChartForm.{form_of, heading_count, spacing_of, after_of, stops_of}
 use Rattle.report_definition.specs.PlaceLaws.{ComesTo, stays, skips, EndsPage, full, asked, no_stop, standing, headings_on, first_body_line, Follow, no_more, on_its_page, on_the_next, ArePlaced, nothing, from_page_1, LinesStandByTheLineBefore}
 use Rattle.report_definition.specs.Places.{BodyText, before_all, top_line, next_stop, after_action, above_overflow, placed}

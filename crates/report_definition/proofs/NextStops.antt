@@ -4,7 +4,7 @@ use Rattle.std.specs.List.{list_any}
 use Rattle.std.proofs.lemmas.Bool.Decides.{nat_tests}
 use Rattle.std.proofs.lemmas.Bool.{or_right, and_parts, eq-eqb, eqb-true, leb-true}
 use Rattle.std.proofs.lemmas.List.Folds.{list_any_at}
-use Rattle.chart_rules.specs.Below.line_rules.PrintRules.Tapes.{rise_above, are_within}
+use Rattle.chart_rules.specs.Below.chart_line_rules.PrintRules.Tapes.{rise_above, are_within}
 
 -- whether stops have one at a line
 abbrev pub has_stop : List ℕ → ℕ → Bool

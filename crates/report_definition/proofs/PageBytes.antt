@@ -4,8 +4,8 @@ use Rattle.std.specs.List.{All, AllPass, flat_map, range_with_len}
 use Rattle.std.proofs.lemmas.Bool.{eqb-true}
 use Rattle.std.proofs.lemmas.List.Elements.{All-head, All-tail, All-weaker}
 use Rattle.page_text.specs.declared.placed_lines.placed_line.PlacedLine.{PlacedLine}
-use Rattle.chart_rules.specs.Below.charts.Literal.{is_printable}
-use Rattle.chart_rules.specs.Below.card_code.CardCode.{code, rows_of}
+use Rattle.chart_lines.specs.ChartsWords.Literal.{is_printable}
+use Rattle.card_code.specs.CardCode.{code, rows_of}
 use Rattle.page_text.specs.Pages.{Pages, onto_cut, without_trailing_blanks, text_at, line_bytes, page_bytes, last_page}
 use Rattle.report_definition.specs.ChartForm.{form_of}
 use Rattle.report_definition.specs.PageLaws.{count_of, HasPrintCharacters, IsOneLine, PagesHaveTheirLines, ReportLinesAreOneLine, ReportPagesHaveTheirLines}

@@ -6,23 +6,23 @@ use Rattle.std.proofs.lemmas.List.Elements.{All-nil, All-cons, All-head, All-tai
 use Rattle.std.proofs.lemmas.List.FromFn.{get_or-range_with_len, length-range_with_len}
 use Rattle.std.proofs.lemmas.List.Sums.{AllPass-from_list_all}
 use Rattle.std.proofs.lemmas.Bool.{and_parts}
-use Rattle.chart_rules.specs.Below.card_code.CardCode.{code, character_in, deck_character, print_character, printed_for, rows_of}
+use Rattle.card_code.specs.CardCode.{code, character_in, deck_character, print_character, printed_for, rows_of}
 use Rattle.page_text.specs.declared.placed_lines.placed_line.PlacedLine.{PlacedLine}
-use Rattle.chart_rules.specs.Below.charts.Field.{columns_of, decimals_of}
-use Rattle.chart_rules.specs.Below.charts.Headings.{heading_number}
-use Rattle.chart_rules.specs.Below.charts.Levels.{level_number}
-use Rattle.chart_rules.specs.Below.charts.Literal.{is_printable}
-use Rattle.chart_rules.specs.Below.charts.Literals.{HaveLiteralTexts, literal_in}
-use Rattle.chart_rules.specs.Below.charts.declared.chart.Line.{Line}
-use Rattle.chart_rules.specs.Below.charts.declared.statement.Field.{Field}
-use Rattle.chart_rules.specs.Below.charts.declared.statement.FieldKind.{FieldKind}
-use Rattle.chart_rules.specs.Below.charts.declared.statement.FieldKind.TheVariants as holds
-use Rattle.chart_rules.specs.Below.charts.declared.statement.Mark.{Mark}
-use Rattle.chart_rules.specs.Below.charts.declared.statement.Mark.TheVariants as mark
-use Rattle.chart_rules.specs.Below.charts.declared.statement.Statement.{Statement}
-use Rattle.chart_rules.specs.Below.charts.declared.statement.Statement.TheVariants as says
-use Rattle.chart_rules.specs.Below.line_rules.FieldRules.Fields.{field_named}
-use Rattle.chart_rules.specs.Below.line_rules.PrintRules.Items.{mark_shown, mark_width}
+use Rattle.chart_lines.specs.ChartsWords.Field.{columns_of, decimals_of}
+use Rattle.chart_lines.specs.ChartsWords.Headings.{heading_number}
+use Rattle.chart_lines.specs.ChartsWords.Levels.{level_number}
+use Rattle.chart_lines.specs.ChartsWords.Literal.{is_printable}
+use Rattle.chart_lines.specs.ChartsWords.Literals.{HaveLiteralTexts, literal_in}
+use Rattle.chart_lines.specs.declared.charts.chart.Line.{Line}
+use Rattle.chart_lines.specs.declared.charts.statement.Field.{Field}
+use Rattle.chart_lines.specs.declared.charts.statement.FieldKind.{FieldKind}
+use Rattle.chart_lines.specs.declared.charts.statement.FieldKind.TheVariants as holds
+use Rattle.chart_lines.specs.declared.charts.statement.Mark.{Mark}
+use Rattle.chart_lines.specs.declared.charts.statement.Mark.TheVariants as mark
+use Rattle.chart_lines.specs.declared.charts.statement.Statement.{Statement}
+use Rattle.chart_lines.specs.declared.charts.statement.Statement.TheVariants as says
+use Rattle.chart_rules.specs.Below.chart_line_rules.FieldRules.Fields.{field_named}
+use Rattle.chart_rules.specs.Below.chart_line_rules.PrintRules.Items.{mark_shown, mark_width}
 use Rattle.chart_rules.specs.ValidCard.{column_of}
 use Rattle.report_definition.specs.Amounts.{columns_in, is_blank_on, value_of}
 use Rattle.report_definition.specs.BodyLines.{Piece, piece_at, char_at, line_of, text_on, amount_on, field_on, is_shown, card_piece, card_line, a_card_of, total_piece, total_line, heading_piece, heading_line}

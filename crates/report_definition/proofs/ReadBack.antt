@@ -9,9 +9,9 @@ use Rattle.std.proofs.lemmas.Bool.{false≢true}
 use Rattle.std.proofs.lemmas.Bool.Decides.{nat_tests}
 use Rattle.std.proofs.lemmas.List.{take-append-drop}
 use Rattle.std.proofs.lemmas.List.Folds.{list_any-append}
-use Rattle.chart_rules.specs.Below.card_code.CardCode.{has_row}
-use Rattle.chart_rules.specs.Below.charts.declared.statement.Mark.{Mark}
-use Rattle.chart_rules.specs.Below.charts.declared.statement.Mark.TheVariants as mark
+use Rattle.card_code.specs.CardCode.{has_row}
+use Rattle.chart_lines.specs.declared.charts.statement.Mark.{Mark}
+use Rattle.chart_lines.specs.declared.charts.statement.Mark.TheVariants as mark
 use Rattle.chart_rules.specs.ValidCard.{column_of}
 use Rattle.report_definition.specs.AmountLaws.{spelled_after, is_of_mark, EditsReadBack, SignByPunch, SignByAbsence, SizesAreOfDigits}
 use Rattle.report_definition.specs.Amounts.{digits_on, number_in, is_negated, signed}

@@ -4,7 +4,7 @@ use Rattle.std.specs.List.{range_with_len}
 use Rattle.std.proofs.lemmas.Bool.Decides.{nat_tests}
 use Rattle.page_text.specs.PlacedLines.InOrder.{IsAfter, FollowInOrder, IsInOrder}
 use Rattle.page_text.specs.declared.placed_lines.placed_line.PlacedLine.{PlacedLine}
-use Rattle.chart_rules.specs.Below.charts.declared.chart.Line.{Line}
+use Rattle.chart_lines.specs.declared.charts.chart.Line.{Line}
 use Rattle.report_definition.specs.ChartForm.{form_of, heading_count, spacing_of}
 use Rattle.report_definition.specs.PlaceLaws.{ComesTo, stays, skips, standing, headings_on, first_body_line, Follow, no_more, on_its_page, on_the_next, ArePlaced, nothing, from_page_1, PlacesRise}
 use Rattle.report_definition.specs.Places.{BodyText, heading_on}

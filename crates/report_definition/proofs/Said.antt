@@ -3,15 +3,15 @@
 use Rattle.std.proofs.Common.{◌≡◌, ◌∙◌, refl, ap, ℕ, ◌≤◌, ◌==◌, ◌||◌, ◌⊎◌, inl, inr, Bool, true, false, List, [], ◌∷◌, Some, if◌then◌else◌, arith}
 use Rattle.std.specs.List.{Contains}
 use Rattle.std.proofs.lemmas.Bool.Decides.{nat_tests}
-use Rattle.chart_rules.specs.Below.charts.Spacings.{spacing_number}
-use Rattle.chart_rules.specs.Below.charts.declared.chart.Line.{Line}
-use Rattle.chart_rules.specs.Below.charts.declared.spacing.Spacing.{Spacing}
-use Rattle.chart_rules.specs.Below.charts.declared.statement.After.{After}
-use Rattle.chart_rules.specs.Below.charts.declared.statement.BodyLine.{BodyLine}
-use Rattle.chart_rules.specs.Below.charts.declared.statement.Statement.{Statement}
-use Rattle.chart_rules.specs.Below.charts.declared.statement.Statement.TheVariants as says
-use Rattle.chart_rules.proofs.Below.charts.Listed.{listed-first, listed-after}
-use Rattle.chart_rules.specs.Below.line_rules.PrintRules.Forms.{has_form, is_form}
+use Rattle.chart_lines.specs.ChartsWords.Spacings.{spacing_number}
+use Rattle.chart_lines.specs.declared.charts.chart.Line.{Line}
+use Rattle.chart_lines.specs.declared.charts.spacing.Spacing.{Spacing}
+use Rattle.chart_lines.specs.declared.charts.statement.After.{After}
+use Rattle.chart_lines.specs.declared.charts.statement.BodyLine.{BodyLine}
+use Rattle.chart_lines.specs.declared.charts.statement.Statement.{Statement}
+use Rattle.chart_lines.specs.declared.charts.statement.Statement.TheVariants as says
+use Rattle.chart_lines.proofs.ChartsWords.Listed.{listed-first, listed-after}
+use Rattle.chart_rules.specs.Below.chart_line_rules.PrintRules.Forms.{has_form, is_form}
 use Rattle.report_definition.specs.ChartForm.{after_from, after_of, form_from, form_of, kind_number, spacing_from, spacing_of, stops_from, stops_of}
 
 -- A line of a chart gives the kind of body line with a number a spacing of so many lines.

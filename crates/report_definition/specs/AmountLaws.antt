@@ -3,11 +3,11 @@ use Rattle.std.specs.Prelude.{◌≡◌, ◌↔◌, ℕ, ℤ, ◌+◌, ◌-◌, 
 use Rattle.std.specs.Char.{is_ascii_digit}
 use Rattle.std.specs.Int.{is_negative}
 use Rattle.std.specs.List.{list_any}
-use Rattle.chart_rules.specs.Below.card_code.CardCode.{has_row}
-use Rattle.chart_rules.specs.Below.charts.declared.statement.Field.{Field}
-use Rattle.chart_rules.specs.Below.charts.declared.statement.FieldKind.TheVariants as holds
-use Rattle.chart_rules.specs.Below.charts.declared.statement.Mark.{Mark}
-use Rattle.chart_rules.specs.Below.charts.declared.statement.SignRule.TheVariants as sign
+use Rattle.card_code.specs.CardCode.{has_row}
+use Rattle.chart_lines.specs.declared.charts.statement.Field.{Field}
+use Rattle.chart_lines.specs.declared.charts.statement.FieldKind.TheVariants as holds
+use Rattle.chart_lines.specs.declared.charts.statement.Mark.{Mark}
+use Rattle.chart_lines.specs.declared.charts.statement.SignRule.TheVariants as sign
 use Rattle.chart_rules.specs.ValidCard.{column_of}
 use Rattle.report_definition.specs.Amounts.{digits_on, number_in, signed, value_of}
 use Rattle.report_definition.specs.Edits.{edited}

@@ -3,13 +3,13 @@
 use Rattle.std.specs.Prelude.{ℕ, ◌+◌, ◌*◌, ◌^◌, Bool, false, not, List, [], ◌∷◌, Option, Some, None, length, map, is_some, find, if◌then◌else◌}
 use Rattle.std.specs.Prelude.{ℤ, pos, neg_ℤ}
 use Rattle.std.specs.List.{list_any, range_with_len}
-use Rattle.chart_rules.specs.Below.card_code.CardCode.{has_row}
-use Rattle.chart_rules.specs.Below.charts.Field.{columns_of}
-use Rattle.chart_rules.specs.Below.charts.declared.statement.Field.{Field}
-use Rattle.chart_rules.specs.Below.charts.declared.statement.FieldKind.{FieldKind}
-use Rattle.chart_rules.specs.Below.charts.declared.statement.FieldKind.TheVariants as holds
-use Rattle.chart_rules.specs.Below.charts.declared.statement.SignRule.{SignRule}
-use Rattle.chart_rules.specs.Below.charts.declared.statement.SignRule.TheVariants as sign
+use Rattle.card_code.specs.CardCode.{has_row}
+use Rattle.chart_lines.specs.ChartsWords.Field.{columns_of}
+use Rattle.chart_lines.specs.declared.charts.statement.Field.{Field}
+use Rattle.chart_lines.specs.declared.charts.statement.FieldKind.{FieldKind}
+use Rattle.chart_lines.specs.declared.charts.statement.FieldKind.TheVariants as holds
+use Rattle.chart_lines.specs.declared.charts.statement.SignRule.{SignRule}
+use Rattle.chart_lines.specs.declared.charts.statement.SignRule.TheVariants as sign
 use Rattle.chart_rules.specs.ValidCard.{column_of}
 
 -- the numbers of the columns of a field, from the left

@@ -2,21 +2,21 @@
 -- character of each of its columns, an amount is edited, and a literal stands as it is.
 use Rattle.std.specs.Prelude.{ℕ, ◌+◌, ◌-◌, ◌==◌, ◌&&◌, Bool, true, nat_le, nat_lt, List, [], ◌∷◌, Option, Some, None, map, length, option_map, slice_index_or, if◌then◌else◌}
 use Rattle.std.specs.List.{filter_map, range_with_len}
-use Rattle.chart_rules.specs.Below.card_code.CardCode.{print_character}
-use Rattle.chart_rules.specs.Below.charts.Field.{columns_of, decimals_of}
-use Rattle.chart_rules.specs.Below.charts.Headings.{heading_number}
-use Rattle.chart_rules.specs.Below.charts.Levels.{control_number, level_number}
-use Rattle.chart_rules.specs.Below.charts.declared.chart.Line.{Line}
-use Rattle.chart_rules.specs.Below.charts.declared.statement.DetailOption.{DetailOption}
-use Rattle.chart_rules.specs.Below.charts.declared.statement.DetailOption.TheVariants as shown
-use Rattle.chart_rules.specs.Below.charts.declared.statement.Field.{Field}
-use Rattle.chart_rules.specs.Below.charts.declared.statement.FieldKind.{FieldKind}
-use Rattle.chart_rules.specs.Below.charts.declared.statement.FieldKind.TheVariants as holds
-use Rattle.chart_rules.specs.Below.charts.declared.statement.Mark.{Mark}
-use Rattle.chart_rules.specs.Below.charts.declared.statement.Statement.{Statement}
-use Rattle.chart_rules.specs.Below.charts.declared.statement.Statement.TheVariants as says
-use Rattle.chart_rules.specs.Below.line_rules.FieldRules.Fields.{field_named}
-use Rattle.chart_rules.specs.Below.line_rules.PrintRules.Items.{mark_shown}
+use Rattle.card_code.specs.CardCode.{print_character}
+use Rattle.chart_lines.specs.ChartsWords.Field.{columns_of, decimals_of}
+use Rattle.chart_lines.specs.ChartsWords.Headings.{heading_number}
+use Rattle.chart_lines.specs.ChartsWords.Levels.{control_number, level_number}
+use Rattle.chart_lines.specs.declared.charts.chart.Line.{Line}
+use Rattle.chart_lines.specs.declared.charts.statement.DetailOption.{DetailOption}
+use Rattle.chart_lines.specs.declared.charts.statement.DetailOption.TheVariants as shown
+use Rattle.chart_lines.specs.declared.charts.statement.Field.{Field}
+use Rattle.chart_lines.specs.declared.charts.statement.FieldKind.{FieldKind}
+use Rattle.chart_lines.specs.declared.charts.statement.FieldKind.TheVariants as holds
+use Rattle.chart_lines.specs.declared.charts.statement.Mark.{Mark}
+use Rattle.chart_lines.specs.declared.charts.statement.Statement.{Statement}
+use Rattle.chart_lines.specs.declared.charts.statement.Statement.TheVariants as says
+use Rattle.chart_rules.specs.Below.chart_line_rules.FieldRules.Fields.{field_named}
+use Rattle.chart_rules.specs.Below.chart_line_rules.PrintRules.Items.{mark_shown}
 use Rattle.chart_rules.specs.ValidCard.{column_of}
 use Rattle.report_definition.specs.Amounts.{columns_in, is_blank_on, value_of}
 use Rattle.report_definition.specs.Edits.{edited, edited_blank}

@@ -1,7 +1,7 @@
 -- Reports card by card. A break of a level stands between two consecutive cards that differ on a control field of that level. It ends the
 -- groups of its level and of all lower ones. The last card of a deck ends them all.
 use Rattle.std.specs.Prelude.{ℕ, zero, suc, nat_le, List, [], ◌∷◌, ◌++◌, Option, Some, None, if◌then◌else◌}
-use Rattle.chart_rules.specs.Below.charts.declared.chart.Line.{Line}
+use Rattle.chart_lines.specs.declared.charts.chart.Line.{Line}
 use Rattle.report_definition.specs.Groups.{is_same_at}
 use Rattle.report_definition.specs.Outline.{OutlineLine, Detail, Total}
 

@@ -2,16 +2,16 @@
 -- the channels.
 use Rattle.std.specs.Prelude.{ℕ, ◌==◌, Bool, true, false, List, [], ◌∷◌, Option, Some, None, if◌then◌else◌}
 use Rattle.std.specs.List.{list_any}
-use Rattle.chart_rules.specs.Below.charts.Levels.{level_number}
-use Rattle.chart_rules.specs.Below.charts.Spacings.{spacing_number}
-use Rattle.chart_rules.specs.Below.charts.declared.chart.Line.{Line}
-use Rattle.chart_rules.specs.Below.charts.declared.statement.After.{After}
-use Rattle.chart_rules.specs.Below.charts.declared.statement.BodyLine.{BodyLine}
-use Rattle.chart_rules.specs.Below.charts.declared.statement.BodyLine.TheVariants as body
-use Rattle.chart_rules.specs.Below.charts.declared.statement.Printing.TheVariants as prints
-use Rattle.chart_rules.specs.Below.charts.declared.statement.Statement.{Statement}
-use Rattle.chart_rules.specs.Below.charts.declared.statement.Statement.TheVariants as says
-pub use Rattle.chart_rules.specs.Below.line_rules.PrintRules.Forms.{heading_count}
+use Rattle.chart_lines.specs.ChartsWords.Levels.{level_number}
+use Rattle.chart_lines.specs.ChartsWords.Spacings.{spacing_number}
+use Rattle.chart_lines.specs.declared.charts.chart.Line.{Line}
+use Rattle.chart_lines.specs.declared.charts.statement.After.{After}
+use Rattle.chart_lines.specs.declared.charts.statement.BodyLine.{BodyLine}
+use Rattle.chart_lines.specs.declared.charts.statement.BodyLine.TheVariants as body
+use Rattle.chart_lines.specs.declared.charts.statement.Printing.TheVariants as prints
+use Rattle.chart_lines.specs.declared.charts.statement.Statement.{Statement}
+use Rattle.chart_lines.specs.declared.charts.statement.Statement.TheVariants as says
+pub use Rattle.chart_rules.specs.Below.chart_line_rules.PrintRules.Forms.{heading_count}
 
 -- A form: how many lines a page has, its first line, and the line at which it is full.
 pub record Form : Type 0 where

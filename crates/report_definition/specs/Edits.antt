@@ -3,9 +3,9 @@
 use Rattle.std.specs.Prelude.{ℕ, ◌+◌, ◌-◌, ◌^◌, ◌/◌, ◌%◌, ◌==◌, zero, suc, max, Bool, List, [], ◌∷◌, ◌++◌, Option, Some, None, length, map, take, drop, replicate, codes, if◌then◌else◌, unsigned_abs}
 use Rattle.std.specs.Prelude.{ℤ}
 use Rattle.std.specs.Int.{is_negative}
-use Rattle.chart_rules.specs.Below.charts.declared.statement.Mark.{Mark}
-use Rattle.chart_rules.specs.Below.charts.declared.statement.Mark.TheVariants as mark
-use Rattle.chart_rules.specs.Below.line_rules.PrintRules.Items.{mark_width}
+use Rattle.chart_lines.specs.declared.charts.statement.Mark.{Mark}
+use Rattle.chart_lines.specs.declared.charts.statement.Mark.TheVariants as mark
+use Rattle.chart_rules.specs.Below.chart_line_rules.PrintRules.Items.{mark_width}
 
 -- the last so many digits of a number, the first of them first
 abbrev pub last_digits : (count number : ℕ) → List ℕ

@@ -2,8 +2,8 @@
 -- a group of the level above, that are equal on all control fields of the level. A level without control fields cuts nothing.
 use Rattle.std.specs.Prelude.{ℕ, zero, suc, ◌==◌, Bool, List, [], ◌∷◌, ◌++◌, if◌then◌else◌}
 use Rattle.std.specs.List.{flat_map, list_all}
-use Rattle.chart_rules.specs.Below.charts.declared.chart.Line.{Line}
-use Rattle.chart_rules.specs.Below.charts.declared.statement.Field.{Field}
+use Rattle.chart_lines.specs.declared.charts.chart.Line.{Line}
+use Rattle.chart_lines.specs.declared.charts.statement.Field.{Field}
 use Rattle.chart_rules.specs.Controls.{controls_of}
 use Rattle.chart_rules.specs.ValidCard.{column_of}
 use Rattle.report_definition.specs.Amounts.{columns_in}

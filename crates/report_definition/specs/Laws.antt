@@ -1,10 +1,10 @@
 -- Laws of reports, by which a reader can check what a report is.
 use Rattle.std.specs.Prelude.{◌≡◌, ◌↔◌, ℕ, ℤ, pos, ◌+ℤ◌, ◌≤◌, List, [], ◌∷◌, length}
-use Rattle.chart_rules.specs.Below.charts.Chart.{Chart}
-use Rattle.chart_rules.specs.Below.charts.declared.chart.Line.{Line}
-use Rattle.chart_rules.specs.Below.charts.declared.statement.Field.{Field}
-use Rattle.chart_rules.specs.Below.line_rules.PrintRules.Items.{figure_width}
-use Rattle.chart_rules.specs.Below.line_rules.declared.print_rules.items.Figure.{Figure}
+use Rattle.chart_lines.specs.ChartsWords.Chart.{Chart}
+use Rattle.chart_lines.specs.declared.charts.chart.Line.{Line}
+use Rattle.chart_lines.specs.declared.charts.statement.Field.{Field}
+use Rattle.chart_rules.specs.Below.chart_line_rules.PrintRules.Items.{figure_width}
+use Rattle.chart_rules.specs.Below.chart_line_rules.declared.print_rules.items.Figure.{Figure}
 use Rattle.report_definition.specs.BodyLines.{Piece, line_of}
 use Rattle.report_definition.specs.Edits.{edited, edited_blank}
 use Rattle.report_definition.specs.Groups.{cards_of, groups_of, groups_within}

@@ -1,7 +1,7 @@
 -- The lines of a report in their order, before they are printed: a group gives the lines of its parts, and then its total line. What a
 -- line tells of is a card, with the groups that it opens, or a whole group.
 use Rattle.std.specs.Prelude.{ℕ, zero, suc, List, [], ◌∷◌, ◌++◌}
-use Rattle.chart_rules.specs.Below.charts.declared.chart.Line.{Line}
+use Rattle.chart_lines.specs.declared.charts.chart.Line.{Line}
 use Rattle.report_definition.specs.Groups.{groups_within}
 
 -- A line of the outline. The card of a detail line is the first of groups of the levels 1 to `opens`, and of no higher one; levels

@@ -1,12 +1,12 @@
 -- Laws of groups and of the outline: where groups end, in which order their totals stand, and which cards show an indicated field.
 use Rattle.std.specs.Prelude.{◌≡◌, ℕ, true, false, List, [], ◌∷◌, Option, None, map}
 use Rattle.std.specs.List.{All, flat_map}
-use Rattle.chart_rules.specs.Below.charts.Levels.{control_number}
-use Rattle.chart_rules.specs.Below.charts.declared.chart.Line.{Line}
-use Rattle.chart_rules.specs.Below.charts.declared.level.ControlLevel.{ControlLevel}
-use Rattle.chart_rules.specs.Below.charts.declared.statement.DetailOption.TheVariants as shown
-use Rattle.chart_rules.specs.Below.charts.declared.statement.Statement.{Statement}
-use Rattle.chart_rules.specs.Below.charts.declared.statement.Statement.TheVariants as says
+use Rattle.chart_lines.specs.ChartsWords.Levels.{control_number}
+use Rattle.chart_lines.specs.declared.charts.chart.Line.{Line}
+use Rattle.chart_lines.specs.declared.charts.level.ControlLevel.{ControlLevel}
+use Rattle.chart_lines.specs.declared.charts.statement.DetailOption.TheVariants as shown
+use Rattle.chart_lines.specs.declared.charts.statement.Statement.{Statement}
+use Rattle.chart_lines.specs.declared.charts.statement.Statement.TheVariants as says
 use Rattle.report_definition.specs.BodyLines.{Piece, a_card_of, card_piece}
 use Rattle.report_definition.specs.Breaks.{flat_outline}
 use Rattle.report_definition.specs.Groups.{groups_of, groups_within, is_same_at}

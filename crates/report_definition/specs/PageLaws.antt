@@ -2,9 +2,9 @@
 use Rattle.std.specs.Prelude.{◌≡◌, ℕ, ◌+◌, ◌*◌, ◌==◌, List, [], ◌∷◌, if◌then◌else◌}
 use Rattle.std.specs.List.{All, AllPass}
 use Rattle.page_text.specs.declared.placed_lines.placed_line.PlacedLine.{PlacedLine}
-use Rattle.chart_rules.specs.Below.charts.Chart.{Chart}
-use Rattle.chart_rules.specs.Below.charts.Literal.{is_printable}
-use Rattle.chart_rules.specs.Below.charts.Literals.{HaveLiteralTexts}
+use Rattle.chart_lines.specs.ChartsWords.Chart.{Chart}
+use Rattle.chart_lines.specs.ChartsWords.Literal.{is_printable}
+use Rattle.chart_lines.specs.ChartsWords.Literals.{HaveLiteralTexts}
 use Rattle.page_text.specs.Pages.{page_bytes, last_page}
 use Rattle.report_definition.specs.ChartForm.{form_of}
 use Rattle.report_definition.specs.Report.{Report, report_lines}

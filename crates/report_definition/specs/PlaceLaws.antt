@@ -1,12 +1,12 @@
 -- Laws of places: where a line stands by the line before it, and that places rise on the form.
 use Rattle.std.specs.Prelude.{◌≡◌, ℕ, ◌+◌, ◌-◌, ◌<◌, ◌≤◌, ◌==◌, true, List, [], ◌∷◌, ◌++◌, Some, None, length, map, if◌then◌else◌}
 use Rattle.std.specs.List.{list_any, range_with_len}
-use Rattle.chart_rules.specs.Below.card_code.MostCards.{most_cards}
+use Rattle.card_code.specs.MostCards.{most_cards}
 use Rattle.page_text.specs.PlacedLines.InOrder.{IsInOrder}
 use Rattle.page_text.specs.declared.placed_lines.placed_line.PlacedLine.{PlacedLine}
-use Rattle.chart_rules.specs.Below.charts.Chart.{Chart}
-use Rattle.chart_rules.specs.Below.charts.declared.chart.Line.{Line}
-use Rattle.chart_rules.specs.Below.charts.declared.statement.After.TheVariants as action
+use Rattle.chart_lines.specs.ChartsWords.Chart.{Chart}
+use Rattle.chart_lines.specs.declared.charts.chart.Line.{Line}
+use Rattle.chart_lines.specs.declared.charts.statement.After.TheVariants as action
 use Rattle.chart_rules.specs.Rules.{IsLawful}
 use Rattle.report_definition.specs.BodyLines.{heading_line}
 use Rattle.report_definition.specs.ChartForm.{form_of, heading_count, spacing_of, after_of, stops_of}

@@ -4,9 +4,9 @@
 use Rattle.std.specs.Prelude.{ℕ, ◌+◌, ◌-◌, List, [], ◌∷◌, ◌++◌, Option, Some, None, map, max, nat_le, nat_lt, if◌then◌else◌}
 use Rattle.std.specs.List.{find, range_with_len}
 use Rattle.page_text.specs.declared.placed_lines.placed_line.PlacedLine.{PlacedLine}
-use Rattle.chart_rules.specs.Below.charts.declared.chart.Line.{Line}
-use Rattle.chart_rules.specs.Below.charts.declared.statement.After.{After}
-use Rattle.chart_rules.specs.Below.charts.declared.statement.After.TheVariants as action
+use Rattle.chart_lines.specs.declared.charts.chart.Line.{Line}
+use Rattle.chart_lines.specs.declared.charts.statement.After.{After}
+use Rattle.chart_lines.specs.declared.charts.statement.After.TheVariants as action
 use Rattle.report_definition.specs.BodyLines.{heading_line}
 use Rattle.report_definition.specs.ChartForm.{form_of, heading_count, spacing_of, after_of, stops_of}
 

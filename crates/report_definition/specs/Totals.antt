@@ -2,13 +2,13 @@
 -- each total that a total line shows has no more digits than the line gives it, for each group of the line's level.
 use Rattle.std.specs.Prelude.{◌≡◌, ℕ, ℤ, pos, ◌+ℤ◌, ◌^◌, ◌<◌, List, [], ◌∷◌, Some, unsigned_abs}
 use Rattle.std.specs.List.{All, Contains}
-use Rattle.chart_rules.specs.Below.charts.Levels.{level_number}
-use Rattle.chart_rules.specs.Below.charts.declared.chart.Line.{Line}
-use Rattle.chart_rules.specs.Below.charts.declared.level.Level.{Level}
-use Rattle.chart_rules.specs.Below.charts.declared.statement.Field.{Field}
-use Rattle.chart_rules.specs.Below.charts.declared.statement.Statement.TheVariants as says
-use Rattle.chart_rules.specs.Below.charts.declared.statement.TotalLine.{TotalLine}
-use Rattle.chart_rules.specs.Below.line_rules.FieldRules.Fields.{field_named}
+use Rattle.chart_lines.specs.ChartsWords.Levels.{level_number}
+use Rattle.chart_lines.specs.declared.charts.chart.Line.{Line}
+use Rattle.chart_lines.specs.declared.charts.level.Level.{Level}
+use Rattle.chart_lines.specs.declared.charts.statement.Field.{Field}
+use Rattle.chart_lines.specs.declared.charts.statement.Statement.TheVariants as says
+use Rattle.chart_lines.specs.declared.charts.statement.TotalLine.{TotalLine}
+use Rattle.chart_rules.specs.Below.chart_line_rules.FieldRules.Fields.{field_named}
 use Rattle.report_definition.specs.Amounts.{value_of}
 use Rattle.report_definition.specs.Groups.{groups_of}
 

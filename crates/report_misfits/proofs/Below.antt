@@ -1,1 +1,1 @@
-pub use Rattle.report_definition.proofs as report
+pub use Rattle.report_definition.proofs as report_definition

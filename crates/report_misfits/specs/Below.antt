@@ -1,1 +1,1 @@
-pub use Rattle.report_definition.specs as report
+pub use Rattle.report_definition.specs as report_definition

@@ -1,2 +1,1 @@
-pub use Rattle.report_streams.specs.CardLines as card_lines
-pub use Rattle.page_text.specs as page_text
+pub use Rattle.report_streams.specs as report_streams

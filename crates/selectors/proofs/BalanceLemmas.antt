@@ -8,7 +8,7 @@ use Rattle.std.proofs.lemmas.Bool.Decides.{nat_tests}
 use Rattle.std.proofs.lemmas.List.{get_or-set_same, get_or-set_other, length-set}
 use Rattle.std.proofs.lemmas.Nat.{and_le_l, or_lt}
 use Rattle.std.proofs.Math.Nat.{mod-lt}
-use Rattle.net.proofs.Below.bit_sets.BitLemmas.{is_bit-and, is_bit-low, is_bit-not, is_bit-ones, is_bit-or, is_bit-shl}
+use Rattle.net.proofs.Below.machine_sets.BitSets.BitLemmas.{is_bit-and, is_bit-low, is_bit-not, is_bit-ones, is_bit-or, is_bit-shl}
 use Rattle.net.specs.HubSets.{is_bit}
 use Rattle.selectors.specs.Fields.{latches_in}
 use Rattle.selectors.specs.Numbered.{tests_to}

@@ -5,7 +5,7 @@ use Rattle.std.proofs.lemmas.Nat.{and_mask}
 use Rattle.hubs.specs.HubTable.Ranges.{is_within}
 use Rattle.hubs.specs.declared.hub.Hub.{Hub}
 use Rattle.hubs.specs.declared.hub.Hub.TheVariants.{PIX}
-use Rattle.net.proofs.Below.bit_sets.BitLemmas.{is_bit-low, is_bit-zero}
+use Rattle.net.proofs.Below.machine_sets.BitSets.BitLemmas.{is_bit-low, is_bit-zero}
 use Rattle.net.proofs.KindRows.{row_bit, PIX_numbered}
 use Rattle.net.specs.HubRows.{has_at}
 use Rattle.net.specs.HubSets.{HubSet, has_hub, is_bit, is_in_row, is_in_reach}

@@ -7,7 +7,7 @@ use Rattle.std.proofs.lemmas.List.FromFn.{get_or-map-range_with_len}
 use Rattle.std.proofs.lemmas.Nat.{and_le_l, or_lt}
 use Rattle.std.proofs.Math.Nat.{mod-le, pow-le-pow_right}
 use Rattle.hubs.specs.HubTable.Ranges.{is_within}
-use Rattle.net.proofs.Below.bit_sets.BitLemmas.{is_bit-above, is_bit-low, is_bit-ones, is_bit-or, is_bit-shl, is_bit-taken, is_bit-zero, lowest_bit}
+use Rattle.net.proofs.Below.machine_sets.BitSets.BitLemmas.{is_bit-above, is_bit-low, is_bit-ones, is_bit-or, is_bit-shl, is_bit-taken, is_bit-zero, lowest_bit}
 use Rattle.net.specs.HubSets.{is_bit}
 use Rattle.selectors.specs.Numbered.{tests_to}
 use Rattle.selectors.specs.PilotWords.{pilots_in}

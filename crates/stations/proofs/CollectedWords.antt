@@ -4,7 +4,7 @@ use Rattle.std.proofs.lemmas.Bool.Decides.{eqb_tells, nat_tests}
 use Rattle.std.proofs.lemmas.List.{get_or-set_other, get_or-set_same, get_or-take, get_or_past, length-set, length-take-le}
 use Rattle.card_code.specs.Rows.{passing_place}
 use Rattle.card_code.specs.declared.row.Row.{Row}
-use Rattle.net.proofs.Below.bit_sets.BitLemmas.{is_bit-zero}
+use Rattle.net.proofs.Below.machine_sets.BitSets.BitLemmas.{is_bit-zero}
 use Rattle.net.specs.HubRows.{has_at}
 use Rattle.net.specs.HubSets.{is_bit}
 use Rattle.stations.proofs.EntryLanes.{bits-cut}

@@ -10,7 +10,7 @@ use Rattle.card_code.specs.declared.row.Row.TheVariants.{Zero}
 use Rattle.hubs.specs.HubTable.Ranges.{is_within}
 use Rattle.hubs.specs.declared.hub.Hub.{Hub}
 use Rattle.hubs.specs.declared.hub.Hub.TheVariants.{FR, SR}
-use Rattle.net.proofs.Below.bit_sets.MaskLemmas.{is_bit-mask}
+use Rattle.net.proofs.Below.machine_sets.BitSets.MaskLemmas.{is_bit-mask}
 use Rattle.net.proofs.SetLemmas.{sets-row}
 use Rattle.net.specs.HubSets.{is_bit}
 use Rattle.net.specs.HubRows.{has_at}

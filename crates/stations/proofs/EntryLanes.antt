@@ -4,8 +4,8 @@ use Rattle.std.proofs.lemmas.Bool.Decides.{nat_tests}
 use Rattle.std.proofs.lemmas.List.{get_or-map, get_or-take, length-map, length-set, length-take-le}
 use Rattle.std.proofs.Math.Bool.{and_comm}
 use Rattle.std.proofs.lemmas.Simd.{get_or-zip2, length-zip2, mask_l-mod, tops_compared, zip2_splat}
-use Rattle.net.proofs.Below.bit_sets.MaskLemmas.{is_bit-mask}
-use Rattle.net.proofs.Below.bit_sets.BitLemmas.{is_bit-and, is_bit-ones, is_bit-or, is_bit-zero}
+use Rattle.net.proofs.Below.machine_sets.BitSets.MaskLemmas.{is_bit-mask}
+use Rattle.net.proofs.Below.machine_sets.BitSets.BitLemmas.{is_bit-and, is_bit-ones, is_bit-or, is_bit-zero}
 use Rattle.net.specs.HubSets.{is_bit}
 use Rattle.net.specs.HubRows.{has_at}
 use Rattle.stations.specs.Comparing.{differ_at, set_after_point}

@@ -9,7 +9,7 @@ use Rattle.card_code.specs.Columns.{column_of}
 use Rattle.card_code.specs.Rows.{passing_place, row_number}
 use Rattle.card_code.specs.declared.row.Row.{Row}
 use Rattle.hubs.specs.HubTable.Ranges.{is_within}
-use Rattle.net.proofs.Below.bit_sets.BitLemmas.{is_bit-zero}
+use Rattle.net.proofs.Below.machine_sets.BitSets.BitLemmas.{is_bit-zero}
 use Rattle.net.specs.HubSets.{is_bit}
 use Rattle.net.specs.HubRows.{has_at}
 use Rattle.stations.specs.Kept.{card_of}

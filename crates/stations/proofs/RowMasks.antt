@@ -3,7 +3,7 @@ use Rattle.std.proofs.Common.{◌≡◌, ◌∙◌, ℕ, ◌+◌, ◌-◌, ◌*�
 use Rattle.std.specs.Prelude.{nat_le}
 use Rattle.std.proofs.lemmas.Bool.Decides.{nat_tests}
 use Rattle.std.proofs.lemmas.List.{get_or_past}
-use Rattle.net.proofs.Below.bit_sets.BitLemmas.{is_bit-above, is_bit-low, is_bit-or, is_bit-shl, is_bit-zero}
+use Rattle.net.proofs.Below.machine_sets.BitSets.BitLemmas.{is_bit-above, is_bit-low, is_bit-or, is_bit-shl, is_bit-zero}
 use Rattle.net.specs.HubSets.{is_bit}
 use Rattle.net.specs.HubRows.{has_at}
 

@@ -13,7 +13,7 @@ use Rattle.card_code.specs.declared.row.Row.{Row as CardRow}
 use Rattle.hubs.specs.declared.hub.Hub.{Hub}
 use Rattle.hubs.specs.declared.hub.Hub.TheVariants.{CA, CB}
 use Rattle.net.proofs.SetLemmas.{set-read}
-use Rattle.net.proofs.Below.bit_sets.BitLemmas.{is_bit-or, is_bit-pow, is_bit-zero}
+use Rattle.net.proofs.Below.machine_sets.BitSets.BitLemmas.{is_bit-or, is_bit-pow, is_bit-zero}
 use Rattle.net.specs.HubSets.{HubSet, has_hub, is_bit, is_in_reach, is_in_row}
 use Rattle.net.specs.HubRows.{has_at}
 use Rattle.net.specs.RowSets.{after_rows, pictures_of}

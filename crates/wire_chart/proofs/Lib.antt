@@ -1,4 +1,3 @@
-pub mod Below
 mod Gains
 mod HubRanges
 mod JackGains

@@ -2,23 +2,23 @@
 use Rattle.std.proofs.Common.{ℕ, ◌+◌, ◌-◌, List, Some, None, sym, ap, subst, ◌∙◌}
 use Rattle.std.proofs.lemmas.Option.{slice_get_within, same_Some}
 use Rattle.chart_plans.specs.PlansWords.Plans.{Lists}
-use Rattle.chart_rules.specs.Below.line_rules.FieldRules.Fields.{field_named}
+use Rattle.chart_rules.specs.Below.chart_line_rules.FieldRules.Fields.{field_named}
 use Rattle.chart_lines.specs.ChartsWords.Field.{columns_of, decimals_of}
 use Rattle.chart_lines.specs.declared.charts.chart.Line.{Line}
 use Rattle.chart_lines.specs.declared.charts.statement.Statement.TheVariants as says
 use Rattle.chart_lines.specs.declared.charts.statement.TotalLine.{TotalLine}
 use Rattle.hubs.specs.declared.hub.Hub.{Hub}
 use Rattle.hubs.specs.declared.hub.Hub.TheVariants.{BAC, BAN, BAT, BT, CC, EM, GE, GX, MI, PL, PX, RO, SR, W}
-use Rattle.wiring_table.specs.Figures.{on_total, IsFigure, rule_of, digit_wheel, mark_wheel, mark_text, total_emitter}
-use Rattle.wiring_table.specs.Figures as figures
+use Rattle.wiring_lines.specs.Below.wiring_table.Figures.{on_total, IsFigure, rule_of, digit_wheel, mark_wheel, mark_text, total_emitter}
+use Rattle.wiring_lines.specs.Below.wiring_table.Figures as figures
 use Rattle.wiring_lines.specs.LineWires.HelperAdds.{One, one, first, second, below, some, given, punched}
 use Rattle.wiring_totals.specs.HelperTotals.{IsGoodTotal}
 use Rattle.wire_gen.specs.HelperKnown.{IsNamed}
 use Rattle.wiring_totals.specs.HelperLevels.{next}
 use Rattle.wire_gen.specs.HelperLines.{StatementWires}
-use Rattle.wiring_table.specs.Wires.{LineWire}
-use Rattle.wiring_table.specs.Wires as table
-use Rattle.wiring_table.specs.Parts.{negative_side, positive_side, top_group}
+use Rattle.wiring_lines.specs.Below.wiring_table.Wires.{LineWire}
+use Rattle.wiring_lines.specs.Below.wiring_table.Wires as table
+use Rattle.wiring_lines.specs.Below.wiring_table.Parts.{negative_side, positive_side, top_group}
 use Rattle.wiring_totals.specs.HelperCounters.{CarryUpWires, RingWires, entry_of, exit_of, place_of}
 use Rattle.wiring_totals.specs.HelperTotalRows.{FeedbackWires}
 use Rattle.chart_lines.specs.ChartsWords.Levels.{level_number}

@@ -2,7 +2,7 @@
 use Rattle.std.proofs.Common.{◌≡◌, ◌∙◌, ℕ, ◌-◌, ◌<◌, ◌≤◌, nat_le, Bool, true, false, List, Some, option_map, refl, sym, ap, subst, inl, inr, if◌then◌else◌, arith}
 use Rattle.std.proofs.lemmas.Bool.Decides.{nat_tests}
 use Rattle.std.proofs.lemmas.Option.{same_Some}
-use Rattle.capacity.specs.declared.group.CounterGroup.{CounterGroup}
+use Rattle.chart_plans.specs.Below.capacity.declared.group.CounterGroup.{CounterGroup}
 use Rattle.chart_lines.specs.declared.charts.chart.Line.{Line}
 use Rattle.hubs.specs.declared.hub.Group.{Group}
 use Rattle.hubs.specs.declared.hub.Hub.{Hub}
@@ -14,8 +14,8 @@ use Rattle.chart_plans.specs.declared.plans.counter.TotalCounter.{TotalCounter}
 use Rattle.chart_plans.specs.declared.plans.counter.TotalCounter.TheVariants as of
 use Rattle.wiring_totals.specs.HelperCounters.{ControlWires, EachGroup, IsCounterOnPanel, RingWires, entry_of, exit_of, place_of, positions_of}
 use Rattle.wire_gen.proofs.JoinLines.{by-one}
-use Rattle.wiring_table.proofs.Groups.{is-single}
-use Rattle.wiring_table.specs.Parts.{HasPanelGroup, IsPlaceOf, ServesPosition, ServesTotal, StandsAt, counter_for, group_for, panel_group, top_for, top_group}
+use Rattle.wiring_lines.proofs.Below.wiring_table.Groups.{is-single}
+use Rattle.wiring_lines.specs.Below.wiring_table.Parts.{HasPanelGroup, IsPlaceOf, ServesPosition, ServesTotal, StandsAt, counter_for, group_for, panel_group, top_for, top_group}
 
 -- a wire of each group of a counter is one of some group of it
 pub each-there : (P : Wires) (wires : Group → Wires) (counter : TotalCounter) (exit to : Hub) → EachGroup counter wires exit to

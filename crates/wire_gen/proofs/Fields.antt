@@ -7,9 +7,9 @@ use Rattle.chart_lines.specs.declared.charts.statement.FieldKind.TheVariants as 
 use Rattle.chart_lines.specs.declared.charts.statement.Mark.{Mark}
 use Rattle.chart_lines.specs.declared.charts.statement.Mark.TheVariants as marks
 use Rattle.chart_lines.specs.declared.charts.statement.SignRule.{SignRule}
-use Rattle.wiring_table.specs.Figures.{HasPunchAt, rule_of, mark_text}
+use Rattle.wiring_lines.specs.Below.wiring_table.Figures.{HasPunchAt, rule_of, mark_text}
 use Rattle.wire_gen.specs.HelperKnown.{IsNamed}
-use Rattle.card_code.specs.CardCode.{code, rows_of, set_of}
+use Rattle.chart_lines.specs.Below.card_code.CardCode.{code, rows_of, set_of}
 
 -- a field with a sign rule is an amount
 pub ruled-amount : (kind : FieldKind) (rule : SignRule) → rule_of kind ≡ Some rule → is_amount kind ≡ true

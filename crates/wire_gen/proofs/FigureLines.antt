@@ -1,8 +1,8 @@
 -- The amounts of a line of a lawful chart as its items.
 use Rattle.std.proofs.Common.{option_map, ◌≡◌, ℕ, ◌+◌, ◌≤◌, true, List, Option, Some, None, refl, sym, ap, ◌∙◌, subst, arith}
 use Rattle.chart_plans.specs.PlansWords.Plans.{Lists}
-use Rattle.chart_rules.specs.Below.line_rules.FieldRules.Fields.{field_named}
-use Rattle.chart_rules.specs.Below.line_rules.PrintRules.Items.{mark_shown, item_of, detail_item, total_item}
+use Rattle.chart_rules.specs.Below.chart_line_rules.FieldRules.Fields.{field_named}
+use Rattle.chart_rules.specs.Below.chart_line_rules.PrintRules.Items.{mark_shown, item_of, detail_item, total_item}
 use Rattle.chart_lines.specs.ChartsWords.Field.{columns_of, decimals_of, is_amount}
 use Rattle.chart_lines.specs.ChartsWords.Levels.{level_number}
 use Rattle.chart_lines.specs.declared.charts.chart.Line.{Line}
@@ -14,14 +14,14 @@ use Rattle.chart_lines.specs.declared.charts.statement.Mark.{Mark}
 use Rattle.chart_lines.specs.declared.charts.statement.Statement.{Statement}
 use Rattle.chart_lines.specs.declared.charts.statement.TotalLine.{TotalLine}
 use Rattle.chart_lines.specs.declared.charts.statement.Statement.TheVariants as says
-use Rattle.wiring_table.specs.Figures.{IsAmount, on_detail, on_total, IsFigure}
-use Rattle.wiring_table.specs.Figures as figures
+use Rattle.wiring_lines.specs.Below.wiring_table.Figures.{IsAmount, on_detail, on_total, IsFigure}
+use Rattle.wiring_lines.specs.Below.wiring_table.Figures as figures
 use Rattle.wiring_lines.specs.LineWires.HelperItems.{HasFigureWheels, DetailRanges, IsGoodDetail}
 use Rattle.wiring_totals.specs.HelperTotals.{IsGoodTotal}
 use Rattle.wire_gen.specs.HelperKnown.{IsGood, IsNamed}
-use Rattle.chart_rules.specs.Below.line_rules.FieldRules.Fields.{fields_of}
-use Rattle.chart_rules.specs.Below.line_rules.declared.print_rules.items.Figure.{Figure}
-use Rattle.chart_rules.specs.Below.line_rules.declared.print_rules.items.Item.{Item}
+use Rattle.chart_rules.specs.Below.chart_line_rules.FieldRules.Fields.{fields_of}
+use Rattle.chart_rules.specs.Below.chart_line_rules.declared.print_rules.items.Figure.{Figure}
+use Rattle.chart_rules.specs.Below.chart_line_rules.declared.print_rules.items.Item.{Item}
 use Rattle.wiring_lines.specs.JacksAndTape.HelperJacks.{FiguresAre, IsGoodFigure, ItemWith}
 use Rattle.wire_gen.proofs.Fields.{named-field, named-has}
 

@@ -5,7 +5,7 @@ use Rattle.chart_plans.specs.PlansWords.Counters.{single_group}
 use Rattle.chart_plans.specs.PlansWords.Plans.{Lists}
 use Rattle.chart_plans.specs.declared.plans.counter.TotalCounter.{TotalCounter}
 use Rattle.chart_plans.specs.declared.plans.counter.TotalCounter.TheVariants as of
-use Rattle.chart_rules.specs.Below.line_rules.FieldRules.Fields.{field_named}
+use Rattle.chart_rules.specs.Below.chart_line_rules.FieldRules.Fields.{field_named}
 use Rattle.chart_lines.specs.ChartsWords.Field.{decimals_of}
 use Rattle.chart_lines.specs.ChartsWords.Levels.{level_number}
 use Rattle.chart_lines.specs.declared.charts.chart.Line.{Line}
@@ -18,8 +18,8 @@ use Rattle.hubs.specs.declared.hub.Group.{Group}
 use Rattle.hubs.specs.declared.hub.Hub.{Hub}
 use Rattle.hubs.specs.declared.hub.Hub.TheVariants.{BAN, BAT, CC, MI, PL, PX, RO}
 use Rattle.wiring_lines.specs.LineWires.HelperRows.{Wires}
-use Rattle.wiring_table.specs.Figures.{IsAmount, IsSigned, on_total, IsFigure, rule_of, mark_wheel, total_emitter}
-use Rattle.wiring_table.specs.Figures as figures
+use Rattle.wiring_lines.specs.Below.wiring_table.Figures.{IsAmount, IsSigned, on_total, IsFigure, rule_of, mark_wheel, total_emitter}
+use Rattle.wiring_lines.specs.Below.wiring_table.Figures as figures
 use Rattle.wiring_lines.specs.LineWires.HelperAdds.{first, second, below, some, given, punched}
 use Rattle.wiring_totals.specs.HelperTotals.{IsGoodTotal, TotalWires}
 use Rattle.wire_gen.specs.HelperKnown.{IsNamed}
@@ -27,9 +27,9 @@ use Rattle.wiring_totals.specs.HelperCounters.{CarryUpWires, IsCounterOnPanel, R
 use Rattle.wiring_totals.specs.HelperLevels.{HasCounterFor, next}
 use Rattle.wire_gen.specs.HelperLines.{StatementWires}
 use Rattle.wiring_totals.specs.HelperTotalRows.{EntrySense, FeedbackWires, SignedTotal, TotalMark, TransferSense}
-use Rattle.wiring_table.specs.Parts.{HasPanelGroup, IsLowest, IsNextHigher, ServesPosition, counter_for, negative_side, panel_group, positive_side, top_group}
-use Rattle.wiring_table.specs.Wires.{LineWire}
-use Rattle.wiring_table.specs.Wires as table
+use Rattle.wiring_lines.specs.Below.wiring_table.Parts.{HasPanelGroup, IsLowest, IsNextHigher, ServesPosition, counter_for, negative_side, panel_group, positive_side, top_group}
+use Rattle.wiring_lines.specs.Below.wiring_table.Wires.{LineWire}
+use Rattle.wiring_lines.specs.Below.wiring_table.Wires as table
 use Rattle.wire_gen.proofs.CounterWires.{controls-there, each-there, position-there, serves-there, top-there}
 use Rattle.wire_gen.proofs.Fields.{mark-punch, named-field, named-has}
 use Rattle.wire_gen.proofs.JoinLines.{by-one}

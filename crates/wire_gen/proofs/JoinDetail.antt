@@ -2,8 +2,8 @@
 use Rattle.std.proofs.Common.{◌≡◌, ℕ, ◌+◌, ◌-◌, ◌≤◌, true, false, List, Some, refl, sym, ap, ◌∙◌, subst, arith}
 use Rattle.std.proofs.lemmas.Option.{slice_get_within, same_Some}
 use Rattle.chart_plans.specs.PlansWords.Plans.{Lists}
-use Rattle.chart_rules.specs.Below.line_rules.FieldRules.Fields.{field_named}
-use Rattle.chart_rules.specs.Below.line_rules.PrintRules.Items.{mark_shown}
+use Rattle.chart_rules.specs.Below.chart_line_rules.FieldRules.Fields.{field_named}
+use Rattle.chart_rules.specs.Below.chart_line_rules.PrintRules.Items.{mark_shown}
 use Rattle.chart_lines.specs.ChartsWords.Field.{columns_of, decimals_of, is_amount, sign_column}
 use Rattle.chart_lines.specs.declared.charts.chart.Line.{Line}
 use Rattle.chart_lines.specs.declared.charts.statement.DetailOption.{DetailOption}
@@ -15,15 +15,15 @@ use Rattle.chart_lines.specs.declared.charts.statement.Mark.{Mark}
 use Rattle.chart_lines.specs.declared.charts.statement.SignRule.{SignRule}
 use Rattle.chart_lines.specs.declared.charts.statement.Statement.TheVariants as says
 use Rattle.hubs.specs.declared.hub.Hub.{Hub}
-use Rattle.wiring_table.specs.Figures.{IsText, IsAmount, on_detail, IsFigure, rule_of, digit_wheel, mark_wheel, mark_text, detail_emitter}
-use Rattle.wiring_table.specs.Figures as figures
+use Rattle.wiring_lines.specs.Below.wiring_table.Figures.{IsText, IsAmount, on_detail, IsFigure, rule_of, digit_wheel, mark_wheel, mark_text, detail_emitter}
+use Rattle.wiring_lines.specs.Below.wiring_table.Figures as figures
 use Rattle.wiring_lines.specs.LineWires.HelperAdds.{one, first, second, below, OfSome, some, given, punched}
 use Rattle.wiring_lines.specs.LineWires.HelperItems.{DetailAmount, DetailMarks, DetailText, DetailWires}
 use Rattle.wire_gen.specs.HelperLines.{StatementWires}
 use Rattle.wiring_lines.specs.LineWires.HelperRows.{DetailMark, DigitWires}
-use Rattle.wiring_table.specs.Parts.{pilot_for}
-use Rattle.wiring_table.specs.Wires.{LineWire}
-use Rattle.wiring_table.specs.Wires as table
+use Rattle.wiring_lines.specs.Below.wiring_table.Parts.{pilot_for}
+use Rattle.wiring_lines.specs.Below.wiring_table.Wires.{LineWire}
+use Rattle.wiring_lines.specs.Below.wiring_table.Wires as table
 use Rattle.wire_gen.proofs.Fields.{mark-punch, ruled-amount}
 use Rattle.wire_gen.proofs.JoinLines.{at-position, by-one}
 

@@ -21,12 +21,12 @@ use Rattle.chart_lines.specs.declared.charts.statement.Statement.{Statement}
 use Rattle.chart_lines.specs.declared.charts.statement.Statement.TheVariants as says
 use Rattle.hubs.specs.declared.hub.Hub.{Hub}
 use Rattle.hubs.specs.declared.hub.Hub.TheVariants.{FR, EM, PIX, W}
-use Rattle.wiring_table.specs.Figures.{IsLiteral, on_heading, on_detail, on_total, HasPunchAt, rule_of, detail_emitter, heading_emitter, total_emitter}
+use Rattle.wiring_lines.specs.Below.wiring_table.Figures.{IsLiteral, on_heading, on_detail, on_total, HasPunchAt, rule_of, detail_emitter, heading_emitter, total_emitter}
 use Rattle.wiring_lines.specs.LineWires.HelperAdds.{One, one, first, second, Upto, below, some, given, punched}
 use Rattle.wire_gen.specs.HelperLines.{StatementWires}
 use Rattle.wiring_lines.specs.LineWires.HelperRows.{AfterWires, LiteralWires, PickupWires, SpaceWires, Wires}
-use Rattle.wiring_table.specs.Wires.{LineWire}
-use Rattle.wiring_table.specs.Wires as table
+use Rattle.wiring_lines.specs.Below.wiring_table.Wires.{LineWire}
+use Rattle.wiring_lines.specs.Below.wiring_table.Wires as table
 
 -- the places of a text as positions from 1
 pub at-position : (at : ℕ → Wires) (bound position : ℕ) {exit to : Hub} → 1 ≤ position → position ≤ bound

@@ -1,7 +1,7 @@
 -- The wires that the code adds for a total are those of the table.
 use Rattle.std.proofs.Common.{ℕ, List}
 use Rattle.chart_plans.specs.PlansWords.Plans.{Lists}
-use Rattle.chart_rules.specs.Below.line_rules.FieldRules.Fields.{field_named}
+use Rattle.chart_rules.specs.Below.chart_line_rules.FieldRules.Fields.{field_named}
 use Rattle.chart_lines.specs.declared.charts.chart.Line.{Line}
 use Rattle.chart_lines.specs.declared.charts.level.Level.{Level}
 use Rattle.chart_lines.specs.declared.charts.statement.Statement.TheVariants as says
@@ -9,8 +9,8 @@ use Rattle.hubs.specs.declared.hub.Hub.{Hub}
 use Rattle.wiring_lines.specs.LineWires.HelperAdds.{one, first, second, below, some}
 use Rattle.wire_gen.specs.HelperKnown.{IsGoodTotalText, IsNamed}
 use Rattle.wire_gen.specs.HelperLines.{StatementWires}
-use Rattle.wiring_table.specs.Wires.{LineWire}
-use Rattle.wiring_table.specs.Wires as table
+use Rattle.wiring_lines.specs.Below.wiring_table.Wires.{LineWire}
+use Rattle.wiring_lines.specs.Below.wiring_table.Wires as table
 use Rattle.wire_gen.proofs.Fields.{named-field, named-has}
 use Rattle.wire_gen.proofs.JoinLines.{by-one}
 

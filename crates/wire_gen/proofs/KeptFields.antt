@@ -3,7 +3,7 @@ use Rattle.std.proofs.Common.{◌≡◌, ℕ, ◌≤◌, true, false, not, ◌&&
 use Rattle.chart_lines.specs.declared.charts.statement.Field.{Field}
 use Rattle.wire_gen.specs.HelperKnown.{IsNamed}
 use Rattle.std.proofs.lemmas.Bool.Decides.{nat_tests}
-use Rattle.chart_rules.specs.Below.line_rules.FieldRules.Columns.{has_good_sign}
+use Rattle.chart_rules.specs.Below.chart_line_rules.FieldRules.Columns.{has_good_sign}
 use Rattle.wire_gen.specs.HelperKnown.{HasGoodSign}
 
 -- a known name stands for a field

@@ -1,8 +1,8 @@
 -- What is known of each line of a lawful chart and its plan.
 use Rattle.std.proofs.Common.{◌≡◌, ℕ, zero, suc, ◌+◌, ◌<◌, ◌≤◌, ◌⊎◌, inl, inr, Bool, true, false, not, ◌&&◌, ◌==◌, cond, nat_lt, nat_le, option_map, List, [], ◌∷◌, length, Some, slice_get, refl, sym, ap, ◌∙◌, subst, arith}
 use Rattle.chart_plans.specs.PlansWords.Plans.{Lists, ServesChart}
-use Rattle.chart_rules.specs.Below.line_rules.FieldRules.Fields.{field_named}
-use Rattle.chart_rules.specs.Below.line_rules.PrintRules.Items.{mark_shown}
+use Rattle.chart_rules.specs.Below.chart_line_rules.FieldRules.Fields.{field_named}
+use Rattle.chart_rules.specs.Below.chart_line_rules.PrintRules.Items.{mark_shown}
 use Rattle.chart_lines.specs.ChartsWords.Field.{columns_of, decimals_of, is_amount, sign_column}
 use Rattle.chart_lines.specs.ChartsWords.Levels.{level_number}
 use Rattle.chart_lines.specs.declared.charts.chart.Line.{Line}
@@ -18,37 +18,37 @@ use Rattle.chart_lines.specs.declared.charts.statement.FieldKind.TheVariants as 
 use Rattle.chart_lines.specs.declared.charts.statement.Statement.{Statement}
 use Rattle.chart_lines.specs.declared.charts.statement.TotalLine.{TotalLine}
 use Rattle.chart_lines.specs.declared.charts.statement.Statement.TheVariants as says
-use Rattle.wiring_table.specs.Figures.{mark_wheel}
+use Rattle.wiring_lines.specs.Below.wiring_table.Figures.{mark_wheel}
 use Rattle.wiring_lines.specs.LineWires.HelperItems.{IsGoodDetail}
 use Rattle.wiring_totals.specs.HelperTotals.{IsGoodTotal}
 use Rattle.wire_gen.specs.HelperKnown.{IsGood, IsGoodTotalText, IsNamed}
 use Rattle.wiring_totals.specs.HelperLevels.{HasCounterFor}
-use Rattle.wiring_table.specs.Parts.{IsNextHigher}
+use Rattle.wiring_lines.specs.Below.wiring_table.Parts.{IsNextHigher}
 use Rattle.std.specs.Prelude.{map}
 use Rattle.std.specs.List.{Contains, filter}
 use Rattle.std.proofs.lemmas.Bool.{cases_lt, not-false}
 use Rattle.std.proofs.lemmas.Bool.Decides.{nat_tests}
 use Rattle.chart_plans.specs.WantedWords.Units.{is_of_kind, is_wide, is_wide_text, wide_texts_of}
-use Rattle.chart_rules.specs.Below.line_rules.FieldRules.Fields.{fields_of}
+use Rattle.chart_rules.specs.Below.chart_line_rules.FieldRules.Fields.{fields_of}
 use Rattle.chart_rules.specs.HelperOnCard.{IsOnCard}
-use Rattle.chart_rules.specs.Below.line_rules.PrintRules.Items.{item_of, mark_width, detail_item, text_item, total_item}
-use Rattle.chart_rules.specs.Below.line_rules.declared.print_rules.items.Item.{Item}
-use Rattle.chart_rules.specs.Below.line_rules.declared.print_rules.items.PrintedLine.TheVariants.{Body, Heading}
+use Rattle.chart_rules.specs.Below.chart_line_rules.PrintRules.Items.{item_of, mark_width, detail_item, text_item, total_item}
+use Rattle.chart_rules.specs.Below.chart_line_rules.declared.print_rules.items.Item.{Item}
+use Rattle.chart_rules.specs.Below.chart_line_rules.declared.print_rules.items.PrintedLine.TheVariants.{Body, Heading}
 use Rattle.chart_lines.specs.declared.charts.statement.BodyLine.TheVariants as body
-use Rattle.chart_rules.specs.Below.line_rules.FieldRules.Names.{names_amount, names_text, is_unknown}
+use Rattle.chart_rules.specs.Below.chart_line_rules.FieldRules.Names.{names_amount, names_text, is_unknown}
 use Rattle.chart_rules.specs.Rules.{breaks, IsLawful}
-use Rattle.chart_rules.specs.Below.line_rules.PrintRules.Tapes.{has_tape, is_tape_of, form_lines, rise_above, are_within}
-use Rattle.chart_rules.specs.Below.line_rules.PrintRules.Wheels.{is_off_wheels}
+use Rattle.chart_rules.specs.Below.chart_line_rules.PrintRules.Tapes.{has_tape, is_tape_of, form_lines, rise_above, are_within}
+use Rattle.chart_rules.specs.Below.chart_line_rules.PrintRules.Wheels.{is_off_wheels}
 use Rattle.chart_rules.specs.declared.rule.Rule.{Rule}
 use Rattle.chart_rules.specs.declared.rule.Rule.TheVariants as rule
 use Rattle.chart_lines.specs.ChartsWords.Chart.{Chart, NumbersRise}
 use Rattle.chart_lines.proofs.ChartsWords.Listed.{listed-cases, listed-none, listed-at, listed-given, any-passing}
 use Rattle.wiring_lines.specs.LineWires.HelperItems.{HasWheels, DetailRanges}
 use Rattle.wiring_lines.specs.LineWires.HelperRanges.{HasChannel}
-use Rattle.wiring_table.specs.Parts.{HasTotal}
+use Rattle.wiring_lines.specs.Below.wiring_table.Parts.{HasTotal}
 use Rattle.chart_rules.proofs.Laws.{kept-line, good-listed, good-field}
-use Rattle.chart_rules.specs.Below.line_rules.FieldRules.Fields.{field_of}
-use Rattle.wiring_table.proofs.Totals.{digits-grow, one-total, total-digits, total-of}
+use Rattle.chart_rules.specs.Below.chart_line_rules.FieldRules.Fields.{field_of}
+use Rattle.wiring_lines.proofs.Below.wiring_table.Totals.{digits-grow, one-total, total-digits, total-of}
 use Rattle.wire_gen.proofs.KeptFields.{known-name, named-by, good-sign, wheels-within}
 use Rattle.wire_gen.proofs.KeptTotals.{counter-for}
 

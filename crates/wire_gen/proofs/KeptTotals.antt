@@ -1,10 +1,10 @@
 -- The counters of the totals of a chart.
 use Rattle.std.proofs.Common.{◌≡◌, ℕ, ◌≤◌, inl, inr, List, Some, refl, arith}
 use Rattle.std.proofs.lemmas.Bool.Decides.{nat_tests}
-use Rattle.capacity.specs.Capacities.{HasGroup, standard}
+use Rattle.chart_plans.specs.Below.capacity.Capacities.{HasGroup, standard}
 use Rattle.chart_lines.specs.ChartsWords.Chart.{NumbersRise}
 use Rattle.chart_lines.specs.declared.charts.chart.Line.{Line}
-use Rattle.chart_rules.specs.Below.line_rules.FieldRules.Fields.{field_named}
+use Rattle.chart_rules.specs.Below.chart_line_rules.FieldRules.Fields.{field_named}
 use Rattle.hubs.specs.declared.hub.Group.{Group}
 use Rattle.chart_plans.proofs.PlansWords.CounterGroups.{width-cases}
 use Rattle.chart_plans.specs.PlansWords.Counters.{IsEnoughFor}
@@ -14,8 +14,8 @@ use Rattle.chart_plans.specs.declared.plans.counter.TotalCounter.TheVariants as 
 use Rattle.wiring_totals.specs.HelperCounters.{IsCounterOnPanel, IsOnPanel, positions_of}
 use Rattle.wiring_totals.specs.HelperLevels.{HasCounterFor}
 use Rattle.chart_plans.specs.WantedWords.ChartTotals.{need_of}
-use Rattle.wiring_table.proofs.Groups.{counter-enough, counter-given, serves-there}
-use Rattle.wiring_table.specs.Parts.{HasTotal, counter_for, panel_group}
+use Rattle.wiring_lines.proofs.Below.wiring_table.Groups.{counter-enough, counter-given, serves-there}
+use Rattle.wiring_lines.specs.Below.wiring_table.Parts.{HasTotal, counter_for, panel_group}
 
 on-panel : (group : Group) → HasGroup standard (record { width = group.width; number = group.number }) → IsOnPanel group
 on-panel group has =

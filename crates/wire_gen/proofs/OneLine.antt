@@ -9,7 +9,7 @@ use Rattle.hubs.specs.declared.jack.Jack.{Jack}
 use Rattle.wiring_lines.specs.LineWires.HelperAdds.{Adds}
 use Rattle.wiring_lines.specs.JacksAndTape.HelperJacks.{Plugs}
 use Rattle.wiring_lines.specs.JacksAndTape.OfLine.{IsTapeOfLine, LineJack}
-use Rattle.wiring_table.specs.Wires.{LineWire}
+use Rattle.wiring_lines.specs.Below.wiring_table.Wires.{LineWire}
 use Rattle.wire_gen.proofs.Whole.{all-there}
 use Rattle.wire_gen.specs.OfLine.{IsSetupOfLine}
 

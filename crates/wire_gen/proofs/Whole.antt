@@ -8,9 +8,9 @@ use Rattle.hubs.specs.declared.hub.Hub.{Hub}
 use Rattle.hubs.specs.declared.jack.Jack.{Jack}
 use Rattle.wiring_lines.specs.LineWires.HelperAdds.{Adds}
 use Rattle.wiring_lines.specs.JacksAndTape.HelperJacks.{Plugs}
-use Rattle.wiring_table.specs.Jacks.{ChartJack}
-use Rattle.wiring_table.specs.Wires.{ChartWire}
-use Rattle.wiring_table.specs.WiredFor.{IsTapeOf, WiredFor}
+use Rattle.wiring_lines.specs.Below.wiring_table.Jacks.{ChartJack}
+use Rattle.wiring_lines.specs.Below.wiring_table.Wires.{ChartWire}
+use Rattle.wiring_lines.specs.Below.wiring_table.WiredFor.{IsTapeOf, WiredFor}
 
 -- What is plugged and wired on a setup that has nothing is all that it has then.
 pub all-there : {jacks_of : Jack → Type 0} {wires_of : Hub → Hub → Type 0} {bare plugged wired : Wiring}

@@ -8,16 +8,16 @@ use Rattle.chart_lines.specs.declared.charts.chart.Line.{Line}
 use Rattle.chart_lines.specs.declared.charts.statement.Statement.{Statement}
 use Rattle.chart_lines.specs.declared.charts.statement.Statement.TheVariants as says
 use Rattle.hubs.specs.declared.hub.Hub.{Hub}
-use Rattle.wiring_table.specs.Figures.{IsLiteral, on_heading, on_detail, on_total, detail_emitter, heading_emitter, total_emitter}
-use Rattle.wiring_table.specs.Figures as figures
+use Rattle.wiring_lines.specs.Below.wiring_table.Figures.{IsLiteral, on_heading, on_detail, on_total, detail_emitter, heading_emitter, total_emitter}
+use Rattle.wiring_lines.specs.Below.wiring_table.Figures as figures
 use Rattle.wiring_lines.specs.LineWires.HelperAdds.{below, some}
 use Rattle.wire_gen.specs.HelperKnown.{IsGood}
 use Rattle.wire_gen.specs.HelperLines.{StatementWires, WiresBefore}
-use Rattle.wiring_table.specs.Wires.{LineWire}
-use Rattle.wiring_table.specs.Wires as table
+use Rattle.wiring_lines.specs.Below.wiring_table.Wires.{LineWire}
+use Rattle.wiring_lines.specs.Below.wiring_table.Wires as table
 use Rattle.hubs.specs.SetupsWords.Wiring.{Wiring}
 use Rattle.wiring_lines.specs.LineWires.HelperAdds.{Adds}
-use Rattle.wiring_table.specs.Wires.{ChartWire}
+use Rattle.wiring_lines.specs.Below.wiring_table.Wires.{ChartWire}
 use Rattle.wire_gen.proofs.AmountBack.{total-back}
 use Rattle.wire_gen.proofs.JoinAmount.{total-there}
 use Rattle.wire_gen.proofs.JoinDetail.{detail-there, detail-back}

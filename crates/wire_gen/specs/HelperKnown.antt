@@ -1,7 +1,7 @@
 -- A helper of the code: what is known of each line of a lawful chart and its plan.
 use Rattle.std.specs.Prelude.{◌≡◌, ℕ, ◌≤◌, List, Option, Some, None, length, false}
 use Rattle.chart_plans.specs.PlansWords.Plans.{Lists}
-use Rattle.chart_rules.specs.Below.line_rules.FieldRules.Fields.{field_named}
+use Rattle.chart_rules.specs.Below.chart_line_rules.FieldRules.Fields.{field_named}
 use Rattle.chart_rules.specs.HelperOnCard.{IsOnCard}
 use Rattle.chart_lines.specs.ChartsWords.Field.{columns_of, is_amount, sign_column}
 use Rattle.chart_lines.specs.declared.charts.chart.Line.{Line}

@@ -1,20 +1,20 @@
 -- A helper of the code: the wires of a line of the chart as the code adds them.
 use Rattle.std.specs.Prelude.{ℕ, List, slice_get}
 use Rattle.chart_plans.specs.PlansWords.Plans.{Lists}
-use Rattle.chart_rules.specs.Below.line_rules.FieldRules.Fields.{field_named}
+use Rattle.chart_rules.specs.Below.chart_line_rules.FieldRules.Fields.{field_named}
 use Rattle.chart_lines.specs.ChartsWords.Headings.{heading_number}
 use Rattle.chart_lines.specs.ChartsWords.Levels.{level_number}
 use Rattle.chart_lines.specs.declared.charts.chart.Line.{Line}
 use Rattle.chart_lines.specs.declared.charts.statement.Statement.{Statement}
 use Rattle.chart_lines.specs.declared.charts.statement.Statement.TheVariants as says
-use Rattle.wiring_table.specs.Figures.{detail_emitter, heading_emitter, total_emitter}
+use Rattle.wiring_lines.specs.Below.wiring_table.Figures.{detail_emitter, heading_emitter, total_emitter}
 use Rattle.wiring_lines.specs.LineWires.HelperAdds.{OfSome, Upto}
 use Rattle.wiring_lines.specs.LineWires.HelperItems.{DetailWires, NoWires}
 use Rattle.wiring_totals.specs.HelperTotals.{TotalWires}
 use Rattle.wiring_lines.specs.LineWires.HelperRows.{AfterWires, ComparedWires, LiteralWires, PickupWires, SpaceWires, Wires}
 use Rattle.wiring_totals.specs.HelperTotalRows.{TotalTextWires}
-use Rattle.wiring_table.specs.Parts.{counter_for, unit_for}
-use Rattle.wiring_table.specs.Wires.{LineWire}
+use Rattle.wiring_lines.specs.Below.wiring_table.Parts.{counter_for, unit_for}
+use Rattle.wiring_lines.specs.Below.wiring_table.Wires.{LineWire}
 
 -- the wires that a line of the chart gives, by its number and what it says
 abbrev pub StatementWires : List Line → Lists → ℕ → Statement → Wires

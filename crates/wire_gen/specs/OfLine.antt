@@ -6,7 +6,7 @@ use Rattle.hubs.specs.declared.jack.Jack.{Jack}
 use Rattle.wiring_lines.specs.JacksAndTape.OfLine.{IsTapeOfLine, LineJack}
 use Rattle.chart_plans.specs.PlansWords.Plans.{Lists}
 use Rattle.hubs.specs.SetupsWords.Wiring.{Wiring, HasJack, HasWire}
-use Rattle.wiring_table.specs.Wires.{LineWire}
+use Rattle.wiring_lines.specs.Below.wiring_table.Wires.{LineWire}
 
 -- exactly the wires, the jacks and the stops of a line of the chart, on the chart's form
 pub record IsSetupOfLine (lines : List Line) (plan : Lists) (line : Line) (setup : Wiring) : Type 0 where

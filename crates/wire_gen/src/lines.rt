@@ -1,7 +1,7 @@
 //! The lines of a chart, one by one.
 
 ghost use Rattle.std.specs.Prelude.{◌≡◌, ℕ, OnOk, Some, slice_get, length};
-ghost use Rattle.chart_rules.specs.Below.line_rules.FieldRules.Fields.{field_named};
+ghost use Rattle.chart_rules.specs.Below.chart_line_rules.FieldRules.Fields.{field_named};
 ghost use Rattle.chart_rules.specs.HelperOnCard.{IsOnCard};
 ghost use Rattle.chart_lines.specs.declared.charts.chart.Line.{Line};
 ghost use Rattle.wiring_lines.specs.LineWires.HelperAdds.{Adds, OfSome};
@@ -11,8 +11,8 @@ ghost use Rattle.wire_gen.specs.HelperKnown.{IsGood, IsGoodTotalText, IsNamed};
 ghost use Rattle.wire_gen.specs.HelperLines.{StatementWires, WiresBefore};
 ghost use Rattle.wiring_lines.specs.LineWires.HelperRows.{ComparedWires};
 ghost use Rattle.wiring_totals.specs.HelperTotalRows.{TotalTextWires};
-ghost use Rattle.wiring_table.specs.Parts.{counter_for, unit_for};
-ghost use Rattle.wiring_table.specs.Wires.{LineWire};
+ghost use Rattle.wiring_lines.specs.Below.wiring_table.Parts.{counter_for, unit_for};
+ghost use Rattle.wiring_lines.specs.Below.wiring_table.Wires.{LineWire};
 
 use chart_lines::charts::{ControlLevel, DetailOption, Level, Line, Name, Statement, TotalLine};
 use chart_plans::plans::Plan;

@@ -2,7 +2,7 @@
 
 ghost use Rattle.std.specs.Prelude.{IfOk};
 ghost use Rattle.chart_plans.specs.PlansWords.Plans.{ServesChart};
-ghost use Rattle.wiring_table.specs.WiredFor.{WiredFor};
+ghost use Rattle.wiring_lines.specs.Below.wiring_table.WiredFor.{WiredFor};
 
 use crate::lines::wire_lines;
 use chart_plans::plans::Plan;

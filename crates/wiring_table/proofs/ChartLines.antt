@@ -1,18 +1,18 @@
 -- A FIELD line of a lawful chart is what its name stands for.
 use Rattle.std.proofs.Common.{◌≡◌, ◌∙◌, refl, sym, ap, Bool, true, false, List, [], ◌∷◌, ◌++◌, Contains, Option, Some, None, is_some, if◌then◌else◌}
 use Rattle.std.specs.List.{cons_option}
-use Rattle.chart_rules.proofs.Laws.{breaks-lawful}
-use Rattle.report_definition.proofs.Below.line_rules.FieldRules.Places.{is_same_name-own}
-use Rattle.chart_lines.proofs.ChartsWords.Listed.{listed-place}
-use Rattle.report_definition.specs.Below.line_rules.FieldRules.Fields.{field_of, fields_of, first_named, field_named}
-use Rattle.report_definition.specs.Below.line_rules.FieldRules.Names.{breaks_name_twice}
-use Rattle.chart_rules.specs.Rules.{IsLawful}
-use Rattle.chart_rules.specs.declared.rule.Rule.TheVariants as rule
-use Rattle.chart_lines.specs.ChartsWords.Chart.{Chart}
-use Rattle.chart_lines.specs.ChartsWords.Name.{is_same_name}
-use Rattle.chart_lines.specs.declared.charts.chart.Line.{Line}
-use Rattle.chart_lines.specs.declared.charts.statement.Field.{Field}
-use Rattle.chart_lines.specs.declared.charts.statement.Statement.TheVariants as says
+use Rattle.chart_plans.proofs.Below.chart_rules.Laws.{breaks-lawful}
+use Rattle.report_definition.proofs.Below.chart_line_rules.FieldRules.Places.{is_same_name-own}
+use Rattle.chart_plans.proofs.Below.chart_lines.ChartsWords.Listed.{listed-place}
+use Rattle.report_definition.specs.Below.chart_line_rules.FieldRules.Fields.{field_of, fields_of, first_named, field_named}
+use Rattle.report_definition.specs.Below.chart_line_rules.FieldRules.Names.{breaks_name_twice}
+use Rattle.chart_plans.specs.Below.chart_rules.Rules.{IsLawful}
+use Rattle.chart_plans.specs.Below.chart_rules.declared.rule.Rule.TheVariants as rule
+use Rattle.chart_plans.specs.Below.chart_lines.ChartsWords.Chart.{Chart}
+use Rattle.chart_plans.specs.Below.chart_lines.ChartsWords.Name.{is_same_name}
+use Rattle.chart_plans.specs.Below.chart_lines.declared.charts.chart.Line.{Line}
+use Rattle.chart_plans.specs.Below.chart_lines.declared.charts.statement.Field.{Field}
+use Rattle.chart_plans.specs.Below.chart_lines.declared.charts.statement.Statement.TheVariants as says
 
 -- the first field with a name, after lines that have none with it
 after-none : (earlier : List Line) (line : Line) (later : List Line) (field : Field) → line.statement ≡ says.Field field

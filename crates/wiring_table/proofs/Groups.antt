@@ -2,16 +2,16 @@
 use Rattle.std.proofs.Common.{◌≡◌, ◌∙◌, refl, sym, ap, subst, ℕ, ◌-◌, ◌<◌, ◌≤◌, ◌==◌, nat_le, Bool, true, false, List, Option, Some, None, option_map, option_and_then, position, slice_get, get_or, inl, inr, arith}
 use Rattle.std.proofs.lemmas.Bool.Decides.{nat_tests}
 use Rattle.std.proofs.lemmas.Option.{slice_get_within, slice_get-get_or, same_Some}
-use Rattle.capacity.specs.Capacities.{HasGroup, standard}
-use Rattle.capacity.specs.declared.group.CounterGroup.{CounterGroup}
-use Rattle.chart_lines.specs.ChartsWords.Chart.{NumbersRise}
-use Rattle.chart_lines.specs.declared.charts.chart.Line.{Line}
-use Rattle.chart_lines.specs.declared.charts.statement.Statement.{Statement}
-use Rattle.chart_lines.specs.declared.charts.statement.Statement.TheVariants as says
-use Rattle.chart_lines.proofs.ChartsWords.Listed.{given-by, listed-at, listed-given, position-passing, position-stands}
-use Rattle.chart_lines.proofs.ChartsWords.Rising.{one-line}
-use Rattle.report_definition.proofs.Below.line_rules.FieldRules.Places.{is_same_name-equal}
-use Rattle.report_definition.specs.Below.line_rules.FieldRules.Fields.{field_named}
+use Rattle.chart_plans.specs.Below.capacity.Capacities.{HasGroup, standard}
+use Rattle.chart_plans.specs.Below.capacity.declared.group.CounterGroup.{CounterGroup}
+use Rattle.chart_plans.specs.Below.chart_lines.ChartsWords.Chart.{NumbersRise}
+use Rattle.chart_plans.specs.Below.chart_lines.declared.charts.chart.Line.{Line}
+use Rattle.chart_plans.specs.Below.chart_lines.declared.charts.statement.Statement.{Statement}
+use Rattle.chart_plans.specs.Below.chart_lines.declared.charts.statement.Statement.TheVariants as says
+use Rattle.chart_plans.proofs.Below.chart_lines.ChartsWords.Listed.{given-by, listed-at, listed-given, position-passing, position-stands}
+use Rattle.chart_plans.proofs.Below.chart_lines.ChartsWords.Rising.{one-line}
+use Rattle.report_definition.proofs.Below.chart_line_rules.FieldRules.Places.{is_same_name-equal}
+use Rattle.report_definition.specs.Below.chart_line_rules.FieldRules.Fields.{field_named}
 use Rattle.hubs.specs.declared.hub.Group.{Group}
 use Rattle.chart_plans.specs.PlansWords.Counters.{HasCounter, IsEnoughFor, IsGroupOf, SharesGroup, single_group}
 use Rattle.chart_plans.specs.PlansWords.Plans.{Lists, ServesChart}

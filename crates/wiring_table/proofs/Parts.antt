@@ -3,21 +3,21 @@ use Rattle.std.proofs.Common.{◌≡◌, ◌∙◌, refl, sym, ap, subst, ℕ, �
 use Rattle.std.specs.List.{Contains, flat_map, range_with_len}
 use Rattle.std.proofs.lemmas.Bool.{and_parts}
 use Rattle.std.proofs.lemmas.Bool.Decides.{nat_tests}
-use Rattle.chart_lines.specs.ChartsWords.Field.{columns_of, sign_column}
-use Rattle.chart_lines.specs.ChartsWords.Levels.{control_number}
-use Rattle.chart_lines.specs.ChartsWords.Name.{is_same_name}
-use Rattle.chart_lines.specs.declared.charts.chart.Line.{Line}
-use Rattle.chart_lines.specs.declared.charts.level.ControlLevel.{ControlLevel}
-use Rattle.chart_lines.specs.declared.charts.level.ControlLevel.TheVariants as control
-use Rattle.chart_lines.specs.declared.charts.level.Level.{Level}
-use Rattle.chart_lines.specs.declared.charts.statement.DetailOption.{DetailOption}
-use Rattle.chart_lines.specs.declared.charts.statement.DetailOption.TheVariants as shown
-use Rattle.chart_lines.specs.declared.charts.statement.Field.{Field}
-use Rattle.chart_lines.specs.declared.charts.statement.Statement.TheVariants as says
-use Rattle.chart_lines.proofs.ChartsWords.Listed.{any-listed, listed-filter, listed-map, listed-parts, listed-range}
-use Rattle.chart_rules.proofs.Laws.{field-line}
-use Rattle.report_definition.proofs.Below.line_rules.FieldRules.Places.{is_same_name-equal, is_same_name-own}
-use Rattle.report_definition.specs.Below.line_rules.FieldRules.Fields.{field_named, fields_of}
+use Rattle.chart_plans.specs.Below.chart_lines.ChartsWords.Field.{columns_of, sign_column}
+use Rattle.chart_plans.specs.Below.chart_lines.ChartsWords.Levels.{control_number}
+use Rattle.chart_plans.specs.Below.chart_lines.ChartsWords.Name.{is_same_name}
+use Rattle.chart_plans.specs.Below.chart_lines.declared.charts.chart.Line.{Line}
+use Rattle.chart_plans.specs.Below.chart_lines.declared.charts.level.ControlLevel.{ControlLevel}
+use Rattle.chart_plans.specs.Below.chart_lines.declared.charts.level.ControlLevel.TheVariants as control
+use Rattle.chart_plans.specs.Below.chart_lines.declared.charts.level.Level.{Level}
+use Rattle.chart_plans.specs.Below.chart_lines.declared.charts.statement.DetailOption.{DetailOption}
+use Rattle.chart_plans.specs.Below.chart_lines.declared.charts.statement.DetailOption.TheVariants as shown
+use Rattle.chart_plans.specs.Below.chart_lines.declared.charts.statement.Field.{Field}
+use Rattle.chart_plans.specs.Below.chart_lines.declared.charts.statement.Statement.TheVariants as says
+use Rattle.chart_plans.proofs.Below.chart_lines.ChartsWords.Listed.{any-listed, listed-filter, listed-map, listed-parts, listed-range}
+use Rattle.chart_plans.proofs.Below.chart_rules.Laws.{field-line}
+use Rattle.report_definition.proofs.Below.chart_line_rules.FieldRules.Places.{is_same_name-equal, is_same_name-own}
+use Rattle.report_definition.specs.Below.chart_line_rules.FieldRules.Fields.{field_named, fields_of}
 use Rattle.chart_plans.proofs.PlansWords.Numbers.{HasNumber, both-stand, number-given, number-there}
 use Rattle.chart_plans.specs.PlansWords.PartNumbers.{AreNumbers, number_for, numbers_of}
 use Rattle.chart_plans.specs.declared.plans.part_numbers.PartKind.TheVariants as kind

@@ -2,24 +2,24 @@
 use Rattle.std.proofs.Common.{◌≡◌, ◌∙◌, refl, sym, ap, ℕ, ◌<◌, ◌≤◌, ◌==◌, nat_lt, Bool, true, false, List, Some, arith}
 use Rattle.std.proofs.lemmas.Bool.{both_ways}
 use Rattle.std.proofs.lemmas.Bool.Decides.{nat_tests}
-use Rattle.chart_lines.specs.ChartsWords.Chart.{Chart}
-use Rattle.chart_lines.specs.ChartsWords.Levels.{level_number}
-use Rattle.chart_lines.specs.ChartsWords.Name.{is_same_name}
-use Rattle.chart_lines.specs.declared.charts.chart.Line.{Line}
-use Rattle.chart_lines.specs.declared.charts.statement.Field.{Field}
-use Rattle.chart_lines.specs.declared.charts.statement.Statement.TheVariants as says
-use Rattle.chart_lines.specs.declared.charts.statement.TotalLine.{TotalLine}
+use Rattle.chart_plans.specs.Below.chart_lines.ChartsWords.Chart.{Chart}
+use Rattle.chart_plans.specs.Below.chart_lines.ChartsWords.Levels.{level_number}
+use Rattle.chart_plans.specs.Below.chart_lines.ChartsWords.Name.{is_same_name}
+use Rattle.chart_plans.specs.Below.chart_lines.declared.charts.chart.Line.{Line}
+use Rattle.chart_plans.specs.Below.chart_lines.declared.charts.statement.Field.{Field}
+use Rattle.chart_plans.specs.Below.chart_lines.declared.charts.statement.Statement.TheVariants as says
+use Rattle.chart_plans.specs.Below.chart_lines.declared.charts.statement.TotalLine.{TotalLine}
 use Rattle.std.specs.List.{Contains}
-use Rattle.chart_lines.proofs.ChartsWords.Listed.{none-any}
-use Rattle.report_definition.proofs.Below.line_rules.FieldRules.DigitsKept.{AreGoodDigits, digits-kept}
-use Rattle.report_definition.proofs.Below.line_rules.FieldRules.Places.{is_same_name-equal, is_same_name-own}
-use Rattle.report_definition.specs.Below.line_rules.FieldRules.Digits.{is_out_of_digits}
-use Rattle.report_definition.specs.Below.line_rules.FieldRules.Fields.{field_named}
-use Rattle.report_definition.specs.Below.line_rules.FieldRules.Repeats.{repeats}
-use Rattle.report_definition.specs.Below.line_rules.FieldRules.Shrink.{is_wider_below}
-use Rattle.chart_rules.proofs.Laws.{kept-line, said-once}
-use Rattle.chart_rules.specs.Rules.{IsLawful, breaks}
-use Rattle.chart_rules.specs.declared.rule.Rule.TheVariants as rule
+use Rattle.chart_plans.proofs.Below.chart_lines.ChartsWords.Listed.{none-any}
+use Rattle.report_definition.proofs.Below.chart_line_rules.FieldRules.DigitsKept.{AreGoodDigits, digits-kept}
+use Rattle.report_definition.proofs.Below.chart_line_rules.FieldRules.Places.{is_same_name-equal, is_same_name-own}
+use Rattle.report_definition.specs.Below.chart_line_rules.FieldRules.Digits.{is_out_of_digits}
+use Rattle.report_definition.specs.Below.chart_line_rules.FieldRules.Fields.{field_named}
+use Rattle.report_definition.specs.Below.chart_line_rules.FieldRules.Repeats.{repeats}
+use Rattle.report_definition.specs.Below.chart_line_rules.FieldRules.Shrink.{is_wider_below}
+use Rattle.chart_plans.proofs.Below.chart_rules.Laws.{kept-line, said-once}
+use Rattle.chart_plans.specs.Below.chart_rules.Rules.{IsLawful, breaks}
+use Rattle.chart_plans.specs.Below.chart_rules.declared.rule.Rule.TheVariants as rule
 use Rattle.wiring_table.specs.Parts.{HasTotal}
 
 -- the total on a line

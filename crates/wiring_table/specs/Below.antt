@@ -1,8 +1,7 @@
-pub use Rattle.capacity.specs
-pub use Rattle.chart_rules.specs
-pub use Rattle.chart_lines.specs.ChartsWords
-pub use Rattle.report_definition.specs.Below.line_rules
-pub use Rattle.chart_plans.specs.PlansWords as plans
-pub use Rattle.report_definition.specs as report
-pub use Rattle.hubs.specs.SetupsWords as setups
-pub use Rattle.chart_plans.specs.WantedWords
+pub use Rattle.chart_plans.specs as chart_plans
+pub use Rattle.chart_plans.specs.Below.capacity
+pub use Rattle.chart_plans.specs.Below.chart_lines
+pub use Rattle.chart_plans.specs.Below.chart_rules
+pub use Rattle.hubs.specs as hubs
+pub use Rattle.report_definition.specs as report_definition
+pub use Rattle.report_definition.specs.Below.chart_line_rules

@@ -2,20 +2,20 @@
 -- mark. Position 1 of an amount is the units; the point stands left of the decimals, and the mark after the units.
 use Rattle.std.specs.Prelude.{◌≡◌, ℕ, ◌+◌, ◌-◌, nat_lt, true, false, List, Option, Some, None, slice_get, if◌then◌else◌}
 use Rattle.report_definition.specs.Below.card_code.CardCode.{has_row, rows_of}
-use Rattle.report_definition.specs.Below.line_rules.FieldRules.Fields.{field_named}
-use Rattle.report_definition.specs.Below.line_rules.PrintRules.Items.{mark_shown}
-use Rattle.report_definition.specs.Below.line_rules.declared.print_rules.items.Figure.{Figure}
-use Rattle.chart_lines.specs.ChartsWords.Field.{columns_of, decimals_of, is_amount}
-use Rattle.chart_lines.specs.ChartsWords.Headings.{heading_number}
-use Rattle.chart_lines.specs.ChartsWords.Levels.{level_number}
-use Rattle.chart_lines.specs.declared.charts.chart.Line.{Line}
-use Rattle.chart_lines.specs.declared.charts.statement.Field.{Field}
-use Rattle.chart_lines.specs.declared.charts.statement.FieldKind.{FieldKind}
-use Rattle.chart_lines.specs.declared.charts.statement.FieldKind.TheVariants as holds
-use Rattle.chart_lines.specs.declared.charts.statement.SignRule.{SignRule}
-use Rattle.chart_lines.specs.declared.charts.statement.Statement.{Statement}
-use Rattle.chart_lines.specs.declared.charts.statement.Statement.TheVariants as says
-use Rattle.chart_lines.specs.declared.charts.statement.TotalLine.{TotalLine}
+use Rattle.report_definition.specs.Below.chart_line_rules.FieldRules.Fields.{field_named}
+use Rattle.report_definition.specs.Below.chart_line_rules.PrintRules.Items.{mark_shown}
+use Rattle.report_definition.specs.Below.chart_line_rules.declared.print_rules.items.Figure.{Figure}
+use Rattle.chart_plans.specs.Below.chart_lines.ChartsWords.Field.{columns_of, decimals_of, is_amount}
+use Rattle.chart_plans.specs.Below.chart_lines.ChartsWords.Headings.{heading_number}
+use Rattle.chart_plans.specs.Below.chart_lines.ChartsWords.Levels.{level_number}
+use Rattle.chart_plans.specs.Below.chart_lines.declared.charts.chart.Line.{Line}
+use Rattle.chart_plans.specs.Below.chart_lines.declared.charts.statement.Field.{Field}
+use Rattle.chart_plans.specs.Below.chart_lines.declared.charts.statement.FieldKind.{FieldKind}
+use Rattle.chart_plans.specs.Below.chart_lines.declared.charts.statement.FieldKind.TheVariants as holds
+use Rattle.chart_plans.specs.Below.chart_lines.declared.charts.statement.SignRule.{SignRule}
+use Rattle.chart_plans.specs.Below.chart_lines.declared.charts.statement.Statement.{Statement}
+use Rattle.chart_plans.specs.Below.chart_lines.declared.charts.statement.Statement.TheVariants as says
+use Rattle.chart_plans.specs.Below.chart_lines.declared.charts.statement.TotalLine.{TotalLine}
 pub use Rattle.report_definition.specs.Edits.{free_digits, mark_text}
 
 -- The emitter of a printed line: that of its number for a heading line, 4 for the line of a card, 4 more than its level for a total

@@ -1,8 +1,8 @@
 -- The jacks of a chart: which cycles print, and zero control on the wheels of amounts.
 use Rattle.std.specs.Prelude.{◌≡◌, ℕ, ◌+◌, ◌<◌, ◌≤◌, List, Contains, true}
-use Rattle.report_definition.specs.Below.line_rules.PrintRules.Items.{figure_width}
-use Rattle.report_definition.specs.Below.line_rules.declared.print_rules.items.Figure.{Figure}
-use Rattle.chart_lines.specs.declared.charts.chart.Line.{Line}
+use Rattle.report_definition.specs.Below.chart_line_rules.PrintRules.Items.{figure_width}
+use Rattle.report_definition.specs.Below.chart_line_rules.declared.print_rules.items.Figure.{Figure}
+use Rattle.chart_plans.specs.Below.chart_lines.declared.charts.chart.Line.{Line}
 use Rattle.hubs.specs.declared.jack.Jack.{Jack}
 use Rattle.hubs.specs.declared.jack.Jack.TheVariants as jack
 use Rattle.report_definition.specs.ChartForm.{heading_count, prints_details, prints_totals}

@@ -10,18 +10,18 @@ use Rattle.chart_plans.specs.declared.plans.counter.TotalCounter.TheVariants as 
 use Rattle.chart_plans.specs.WantedWords.Positions.{is_same_position}
 use Rattle.chart_plans.specs.WantedWords.Wanted.{indicate_at}
 use Rattle.chart_plans.specs.declared.wanted.position.Position.{Position}
-use Rattle.capacity.specs.declared.group.CounterGroup.{CounterGroup}
-use Rattle.chart_lines.specs.ChartsWords.Levels.{level_number}
-use Rattle.chart_lines.specs.ChartsWords.Name.{is_same_name}
-use Rattle.chart_lines.specs.declared.charts.chart.Line.{Line}
-use Rattle.chart_lines.specs.declared.charts.level.ControlLevel.{ControlLevel}
-use Rattle.chart_lines.specs.declared.charts.statement.BodyLine.{BodyLine}
-use Rattle.chart_lines.specs.declared.charts.statement.BodyLine.TheVariants as body
-use Rattle.chart_lines.specs.declared.charts.statement.SignRule.{SignRule}
-use Rattle.chart_lines.specs.declared.charts.statement.SignRule.TheVariants as sign
-use Rattle.chart_lines.specs.declared.charts.statement.Statement.{Statement}
-use Rattle.chart_lines.specs.declared.charts.statement.Statement.TheVariants as says
-use Rattle.chart_lines.specs.declared.charts.statement.TotalLine.{TotalLine}
+use Rattle.chart_plans.specs.Below.capacity.declared.group.CounterGroup.{CounterGroup}
+use Rattle.chart_plans.specs.Below.chart_lines.ChartsWords.Levels.{level_number}
+use Rattle.chart_plans.specs.Below.chart_lines.ChartsWords.Name.{is_same_name}
+use Rattle.chart_plans.specs.Below.chart_lines.declared.charts.chart.Line.{Line}
+use Rattle.chart_plans.specs.Below.chart_lines.declared.charts.level.ControlLevel.{ControlLevel}
+use Rattle.chart_plans.specs.Below.chart_lines.declared.charts.statement.BodyLine.{BodyLine}
+use Rattle.chart_plans.specs.Below.chart_lines.declared.charts.statement.BodyLine.TheVariants as body
+use Rattle.chart_plans.specs.Below.chart_lines.declared.charts.statement.SignRule.{SignRule}
+use Rattle.chart_plans.specs.Below.chart_lines.declared.charts.statement.SignRule.TheVariants as sign
+use Rattle.chart_plans.specs.Below.chart_lines.declared.charts.statement.Statement.{Statement}
+use Rattle.chart_plans.specs.Below.chart_lines.declared.charts.statement.Statement.TheVariants as says
+use Rattle.chart_plans.specs.Below.chart_lines.declared.charts.statement.TotalLine.{TotalLine}
 use Rattle.hubs.specs.declared.hub.Group.{Group}
 use Rattle.hubs.specs.declared.hub.Hub.{Hub}
 use Rattle.hubs.specs.declared.hub.Hub.TheVariants.{CC, PIN, PIT, PX}

@@ -1,7 +1,7 @@
 -- Wired for a chart and its plan: a setup of the panel has the wires, the jacks and the tape that they ask for, and no others.
 use Rattle.std.specs.Prelude.{◌≡◌, ◌↔◌, ℕ, List, Contains, true}
 use Rattle.chart_plans.specs.PlansWords.Plans.{Lists}
-use Rattle.chart_lines.specs.declared.charts.chart.Line.{Line}
+use Rattle.chart_plans.specs.Below.chart_lines.declared.charts.chart.Line.{Line}
 use Rattle.hubs.specs.SetupsWords.Tapes.{CarriageTape, has_stop}
 use Rattle.hubs.specs.SetupsWords.Wiring.{Wiring, HasWire, HasJack}
 use Rattle.hubs.specs.declared.hub.Hub.{Hub}

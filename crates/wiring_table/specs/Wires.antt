@@ -1,26 +1,26 @@
 -- The wires of a chart, by its plan: for each line of the chart the wires that it gives, and no others.
 use Rattle.std.specs.Prelude.{◌≡◌, ◌≢◌, ℕ, ◌+◌, ◌-◌, ◌<◌, ◌≤◌, List, Contains, Some}
-use Rattle.capacity.specs.declared.group.CounterGroup.{CounterGroup}
+use Rattle.chart_plans.specs.Below.capacity.declared.group.CounterGroup.{CounterGroup}
 use Rattle.chart_plans.specs.PlansWords.Plans.{Lists}
 use Rattle.chart_plans.specs.declared.plans.counter.TotalCounter.TheVariants as of
-use Rattle.report_definition.specs.Below.line_rules.FieldRules.Fields.{field_named}
-use Rattle.report_definition.specs.Below.line_rules.declared.print_rules.items.Figure.{Figure}
-use Rattle.chart_lines.specs.ChartsWords.Field.{columns_of, decimals_of, column_of_rule, sign_column}
-use Rattle.chart_lines.specs.ChartsWords.Levels.{control_number, level_number}
-use Rattle.chart_lines.specs.declared.charts.chart.Line.{Line}
-use Rattle.chart_lines.specs.declared.charts.level.ControlLevel.{ControlLevel}
-use Rattle.chart_lines.specs.declared.charts.level.Level.{Level}
-use Rattle.chart_lines.specs.declared.charts.spacing.Spacing.TheVariants as spacing
-use Rattle.chart_lines.specs.declared.charts.statement.After.TheVariants as action
-use Rattle.chart_lines.specs.declared.charts.statement.BodyLine.{BodyLine}
-use Rattle.chart_lines.specs.declared.charts.statement.DetailOption.{DetailOption}
-use Rattle.chart_lines.specs.declared.charts.statement.DetailOption.TheVariants as shown
-use Rattle.chart_lines.specs.declared.charts.statement.Field.{Field}
-use Rattle.chart_lines.specs.declared.charts.statement.Mark.{Mark}
-use Rattle.chart_lines.specs.declared.charts.statement.SignRule.{SignRule}
-use Rattle.chart_lines.specs.declared.charts.statement.Statement.{Statement}
-use Rattle.chart_lines.specs.declared.charts.statement.TotalLine.{TotalLine}
-use Rattle.chart_lines.specs.declared.charts.statement.Statement.TheVariants as says
+use Rattle.report_definition.specs.Below.chart_line_rules.FieldRules.Fields.{field_named}
+use Rattle.report_definition.specs.Below.chart_line_rules.declared.print_rules.items.Figure.{Figure}
+use Rattle.chart_plans.specs.Below.chart_lines.ChartsWords.Field.{columns_of, decimals_of, column_of_rule, sign_column}
+use Rattle.chart_plans.specs.Below.chart_lines.ChartsWords.Levels.{control_number, level_number}
+use Rattle.chart_plans.specs.Below.chart_lines.declared.charts.chart.Line.{Line}
+use Rattle.chart_plans.specs.Below.chart_lines.declared.charts.level.ControlLevel.{ControlLevel}
+use Rattle.chart_plans.specs.Below.chart_lines.declared.charts.level.Level.{Level}
+use Rattle.chart_plans.specs.Below.chart_lines.declared.charts.spacing.Spacing.TheVariants as spacing
+use Rattle.chart_plans.specs.Below.chart_lines.declared.charts.statement.After.TheVariants as action
+use Rattle.chart_plans.specs.Below.chart_lines.declared.charts.statement.BodyLine.{BodyLine}
+use Rattle.chart_plans.specs.Below.chart_lines.declared.charts.statement.DetailOption.{DetailOption}
+use Rattle.chart_plans.specs.Below.chart_lines.declared.charts.statement.DetailOption.TheVariants as shown
+use Rattle.chart_plans.specs.Below.chart_lines.declared.charts.statement.Field.{Field}
+use Rattle.chart_plans.specs.Below.chart_lines.declared.charts.statement.Mark.{Mark}
+use Rattle.chart_plans.specs.Below.chart_lines.declared.charts.statement.SignRule.{SignRule}
+use Rattle.chart_plans.specs.Below.chart_lines.declared.charts.statement.Statement.{Statement}
+use Rattle.chart_plans.specs.Below.chart_lines.declared.charts.statement.TotalLine.{TotalLine}
+use Rattle.chart_plans.specs.Below.chart_lines.declared.charts.statement.Statement.TheVariants as says
 use Rattle.hubs.specs.declared.hub.Group.{Group}
 use Rattle.hubs.specs.declared.hub.Hub.{Hub}
 use Rattle.hubs.specs.declared.hub.Hub.TheVariants.{FR, SR, CX, GX, CO, BAN, BAT, SX, IX, CSD, EM, CC, PX, CA, CB, GE, PL, MI, RO, BT, CI, BAC, PIC, PIX, SE, SI, SO, IE, CSE, W, ST, SP, SK, RS}

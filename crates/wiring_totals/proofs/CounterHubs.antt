@@ -10,7 +10,7 @@ use Rattle.chart_plans.specs.declared.plans.counter.TotalCounter.{TotalCounter}
 use Rattle.chart_plans.specs.declared.plans.counter.TotalCounter.TheVariants as of
 use Rattle.hubs.specs.SetupsWords.Wiring.{Wiring}
 use Rattle.wiring_totals.specs.HelperCounters.{EachGroup, entry_of, exit_of}
-use Rattle.wiring_table.specs.Parts.{panel_group}
+use Rattle.wiring_lines.specs.Below.wiring_table.Parts.{panel_group}
 
 pub same-exit : {at other : Group × ℕ} → at ≡ other → GX at.0 at.1 ≡ exit_of other
 same-exit e = ap exit_of e

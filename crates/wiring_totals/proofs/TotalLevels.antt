@@ -16,7 +16,7 @@ use Rattle.wiring_lines.proofs.LineWires.Steps.{adds-as, adds-none}
 use Rattle.chart_lines.proofs.ChartsWords.Listed.{found-listed, none-found}
 use Rattle.wiring_lines.specs.LineWires.HelperAdds.{Adds}
 use Rattle.wiring_totals.specs.HelperLevels.{OfNext, next, total_at}
-use Rattle.wiring_table.specs.Parts.{HasTotal, IsLowest, IsNextHigher, is_total_at}
+use Rattle.wiring_lines.specs.Below.wiring_table.Parts.{HasTotal, IsLowest, IsNextHigher, is_total_at}
 
 -- a line that passes the test is such a total
 pub total-passes : (lines : List Line) (name : List ℕ) (level : ℕ) (line : Line) → Contains lines line

@@ -3,14 +3,14 @@ use Rattle.std.specs.Prelude.{◌≡◌, ℕ, ◌+◌, ◌-◌, ◌≤◌, nat_l
 use Rattle.capacity.specs.declared.group.CounterGroup.{CounterGroup}
 use Rattle.chart_plans.specs.declared.plans.counter.TotalCounter.{TotalCounter}
 use Rattle.chart_plans.specs.declared.plans.counter.TotalCounter.TheVariants as of
-use Rattle.hubs.specs.Below.hub_table.Places.{is_width}
+use Rattle.hubs.specs.HubTable.Places.{is_width}
 use Rattle.hubs.specs.declared.hub.Group.{Group}
 use Rattle.hubs.specs.declared.hub.Hub.{Hub}
 use Rattle.hubs.specs.declared.hub.Hub.TheVariants.{GX, CO, GE, CI}
 use Rattle.wiring_lines.specs.LineWires.HelperAdds.{One, Both}
 use Rattle.wiring_lines.specs.LineWires.HelperItems.{NoWires}
 use Rattle.wiring_lines.specs.LineWires.HelperRows.{Wires}
-use Rattle.wiring_table.specs.Parts.{panel_group}
+use Rattle.wiring_lines.specs.Below.wiring_table.Parts.{panel_group}
 
 -- the panel has a counter group
 pub record IsOnPanel (group : Group) : Type 0 where

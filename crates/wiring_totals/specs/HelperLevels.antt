@@ -11,7 +11,7 @@ use Rattle.wiring_lines.specs.LineWires.HelperAdds.{OfSome}
 use Rattle.wiring_totals.specs.HelperCounters.{IsCounterOnPanel, positions_of}
 use Rattle.wiring_totals.specs.HelperTotalRows.{TransferWires}
 use Rattle.wiring_lines.specs.LineWires.HelperRows.{Wires}
-use Rattle.wiring_table.specs.Parts.{IsNextHigher, counter_for, total_line}
+use Rattle.wiring_lines.specs.Below.wiring_table.Parts.{IsNextHigher, counter_for, total_line}
 
 -- the number of the first line with a total of the amount of a name, at a level
 abbrev pub total_at : List Line → List ℕ → ℕ → Option ℕ

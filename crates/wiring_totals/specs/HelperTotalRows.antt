@@ -11,10 +11,10 @@ use Rattle.chart_lines.specs.declared.charts.statement.SignRule.{SignRule}
 use Rattle.chart_lines.specs.declared.charts.statement.TotalLine.{TotalLine}
 use Rattle.hubs.specs.declared.hub.Group.{Group}
 use Rattle.hubs.specs.declared.hub.Hub.TheVariants.{SR, GX, BAN, BAT, SX, CC, PX, GE, PL, MI, RO, BT, BAC, PIC, SE, SI, SO, W}
-use Rattle.wiring_table.specs.Figures.{rule_of, digit_wheel, mark_text, mark_wheel, total_emitter}
+use Rattle.wiring_lines.specs.Below.wiring_table.Figures.{rule_of, digit_wheel, mark_text, mark_wheel, total_emitter}
 use Rattle.wiring_lines.specs.LineWires.HelperAdds.{One, Both, Upto, OfSome}
 use Rattle.wiring_totals.specs.HelperCounters.{ControlWires, EachGroup, RingWires, entry_of, exit_of, place_of}
-use Rattle.wiring_table.specs.Parts.{pilot_for, negative_side, positive_side, top_group}
+use Rattle.wiring_lines.specs.Below.wiring_table.Parts.{pilot_for, negative_side, positive_side, top_group}
 use Rattle.wiring_lines.specs.LineWires.HelperRows.{MarkWires, Wires}
 
 -- the columns of an amount to the positions of a counter

@@ -8,13 +8,13 @@ use Rattle.chart_lines.specs.ChartsWords.Levels.{level_number}
 use Rattle.chart_lines.specs.declared.charts.chart.Line.{Line}
 use Rattle.chart_lines.specs.declared.charts.statement.Field.{Field}
 use Rattle.chart_lines.specs.declared.charts.statement.TotalLine.{TotalLine}
-use Rattle.wiring_table.specs.Figures.{rule_of, total_emitter}
+use Rattle.wiring_lines.specs.Below.wiring_table.Figures.{rule_of, total_emitter}
 use Rattle.wiring_lines.specs.LineWires.HelperAdds.{Both, OfSome, Where}
 use Rattle.wiring_totals.specs.HelperCounters.{CarryUpWires}
 use Rattle.wiring_totals.specs.HelperLevels.{HasCounterFor, NextWires}
 use Rattle.wiring_lines.specs.LineWires.HelperRows.{Wires, PointWires}
 use Rattle.wiring_totals.specs.HelperTotalRows.{EntryWires, ReadOutWires, SignedTotal}
-use Rattle.wiring_table.specs.Parts.{IsLowest, IsNextHigher}
+use Rattle.wiring_lines.specs.Below.wiring_table.Parts.{IsLowest, IsNextHigher}
 use Rattle.wiring_lines.specs.LineWires.HelperItems.{HasFigureWheels}
 
 -- the wires of a total

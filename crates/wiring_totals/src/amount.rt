@@ -9,7 +9,7 @@ ghost use Rattle.wiring_lines.specs.LineWires.HelperItems.{HasFigureWheels};
 ghost use Rattle.wiring_totals.specs.HelperCounters.{IsCounterOnPanel, positions_of};
 ghost use Rattle.wiring_totals.specs.HelperTotalRows.{EntryWires, SignedTotal};
 ghost use Rattle.wiring_totals.specs.HelperTotals.{IsGoodTotal, TotalWires};
-ghost use Rattle.wiring_table.specs.Parts.{IsLowest, counter_for};
+ghost use Rattle.wiring_lines.specs.Below.wiring_table.Parts.{IsLowest, counter_for};
 
 use crate::counter::wire_carry_up;
 use crate::entry::wire_entry;

@@ -5,7 +5,7 @@ ghost use Rattle.hubs.specs.Hubs.{carry_out_of, is_exit_hub};
 ghost use Rattle.wiring_lines.specs.LineWires.HelperAdds.{Adds, One};
 ghost use Rattle.wiring_totals.specs.HelperControls.{control_entry};
 ghost use Rattle.wiring_totals.specs.HelperCounters.{CarryUpWires, ControlWires, IsCounterOnPanel, IsOnPanel, RingWires, place_of, positions_of};
-ghost use Rattle.wiring_table.specs.Parts.{panel_group, top_group};
+ghost use Rattle.wiring_lines.specs.Below.wiring_table.Parts.{panel_group, top_group};
 
 use capacity::CounterGroup;
 use chart_plans::plans::TotalCounter;

@@ -1,7 +1,7 @@
 //! Totals: their read-out and the sign conversion.
 
 ghost use Rattle.std.specs.Prelude.{◌≡◌, ◌+◌, ◌≤◌, OnOk, length};
-ghost use Rattle.wiring_table.specs.Figures.{mark_text, mark_wheel};
+ghost use Rattle.wiring_lines.specs.Below.wiring_table.Figures.{mark_text, mark_wheel};
 ghost use Rattle.wiring_lines.specs.LineWires.HelperAdds.{Adds};
 ghost use Rattle.wiring_lines.specs.LineWires.HelperItems.{HasFigureWheels};
 ghost use Rattle.wiring_totals.specs.HelperCounters.{EachGroup, IsCounterOnPanel, IsOnPanel, positions_of};

@@ -5,7 +5,7 @@ ghost use Rattle.chart_rules.specs.HelperOnCard.{IsOnCard};
 ghost use Rattle.chart_lines.specs.ChartsWords.Field.{columns_of};
 ghost use Rattle.wiring_lines.specs.LineWires.HelperAdds.{Adds, OfSome};
 ghost use Rattle.wiring_totals.specs.HelperTotalRows.{StoredColumns, TotalTextWires};
-ghost use Rattle.wiring_table.specs.Parts.{unit_for};
+ghost use Rattle.wiring_lines.specs.Below.wiring_table.Parts.{unit_for};
 
 use chart_lines::charts::{Field, Level};
 use chart_plans::plans::Plan;

@@ -6,7 +6,7 @@ ghost use Rattle.wiring_lines.specs.LineWires.HelperAdds.{Adds};
 ghost use Rattle.wiring_totals.specs.HelperCounters.{IsCounterOnPanel, positions_of};
 ghost use Rattle.wiring_totals.specs.HelperLevels.{HasCounterFor, NextWires, total_at};
 ghost use Rattle.wiring_totals.specs.HelperTotalRows.{SignedTransfer, TransferDigits, TransferSense};
-ghost use Rattle.wiring_table.specs.Parts.{IsLowest, IsNextHigher, is_total_at};
+ghost use Rattle.wiring_lines.specs.Below.wiring_table.Parts.{IsLowest, IsNextHigher, is_total_at};
 
 use crate::counter::{Control, place_of, top_group, wire_controls};
 use chart_lines::charts::{Level, Name, SignRule, Statement, TotalLine};

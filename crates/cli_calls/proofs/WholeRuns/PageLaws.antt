@@ -3,8 +3,8 @@ use Rattle.std.proofs.Common.{◌≡◌, ◌∙◌, refl, sym, ap, subst, arith,
 use Rattle.std.proofs.lemmas.Bool.Decides.{nat_tests}
 use Rattle.std.proofs.lemmas.List.Folds.{list_any-append}
 use Rattle.std.specs.List.{flat_map, list_any, range_with_len}
-use Rattle.report_runs.specs.Below.page_text.Pages.{Pages, last_page, line_bytes, onto_cut, page_bytes, text_at, without_trailing_blanks}
-use Rattle.report_runs.specs.Below.page_text.declared.placed_lines.placed_line.PlacedLine.{PlacedLine}
+use Rattle.page_text.specs.Pages.{Pages, last_page, line_bytes, onto_cut, page_bytes, text_at, without_trailing_blanks}
+use Rattle.page_text.specs.declared.placed_lines.placed_line.PlacedLine.{PlacedLine}
 use Rattle.cli_calls.specs.WholeRuns.PageLaws.{AllPagesAreTheText, PagesAreThere, PagesAreTheirBytes, HaveNoFormFeed, has_form_feed}
 use Rattle.cli_calls.specs.WholeRuns.Pages.{first_pages, has_page, pages_behind}
 

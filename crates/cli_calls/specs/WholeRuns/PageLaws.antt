@@ -1,8 +1,8 @@
 -- Laws of the pages of lines.
 use Rattle.std.specs.Prelude.{◌≡◌, ℕ, ◌-◌, ◌≤◌, ◌==◌, ◌↔◌, Bool, false, true, List}
 use Rattle.std.specs.List.{flat_map, list_any, range_with_len}
-use Rattle.report_runs.specs.Below.page_text.Pages.{Pages, last_page, page_bytes}
-use Rattle.report_runs.specs.Below.page_text.declared.placed_lines.placed_line.PlacedLine.{PlacedLine}
+use Rattle.page_text.specs.Pages.{Pages, last_page, page_bytes}
+use Rattle.page_text.specs.declared.placed_lines.placed_line.PlacedLine.{PlacedLine}
 use Rattle.cli_calls.specs.WholeRuns.Pages.{chosen_pages, has_page}
 
 -- whether a form feed is among some characters

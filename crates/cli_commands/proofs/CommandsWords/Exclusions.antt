@@ -1,11 +1,11 @@
 -- What a command answers it doesn't refuse.
 use Rattle.std.proofs.Common.{◌≡◌, ℕ, List, subst}
 use Rattle.card_code.proofs.Faults.{Deck-no_fault, Deck-same}
-use Rattle.chart_rules.specs.Below.charts.Chart.{Chart}
-use Rattle.chart_text.proofs.ChartGrammar.{one_chart}
+use Rattle.chart_lines.specs.ChartsWords.Chart.{Chart}
+use Rattle.fault_lines.proofs.Below.chart_text.ChartGrammar.{one_chart}
 use Rattle.compile407.proofs.Exclusions.{compiled_texts_have_no_fault, runnable_decks_have_no_fault}
 use Rattle.compile407.specs.RunFaults.{HasRunFault}
-use Rattle.wire_chart.proofs.Below.wiring_text.WiringReader.Answered.{no_fault}
+use Rattle.wiring_text.proofs.WiringReader.Answered.{no_fault}
 use Rattle.cli_commands.specs.CommandsWords.Answers.{ArePagesOf, AreReplayedPages, Compiles}
 use Rattle.cli_commands.specs.CommandsWords.Laws.{AnsweredTextsAreNotRefused}
 use Rattle.cli_commands.specs.CommandsWords.Refusals.{RefusesChart, RefusesReplay, RefusesRun, cards, chart, punches, wires}

@@ -2,9 +2,9 @@
 use Rattle.std.proofs.Common.{◌≡◌, ◌≢◌, ◌∙◌, ◌⊎◌, inl, inr, ap, sym, subst, refl, ℕ, List, [], Option, Result, Ok, Err, unwrap_or, IfSome}
 use Rattle.std.specs.Prelude.{IfErr, OnOk, codes}
 use Rattle.std.specs.Io.KnownBytes.{Appends}
-use Rattle.wire_chart.specs.Below.wiring_text.WiringFaults as wiring_faults
-use Rattle.wire_chart.specs.Below.wiring_text.declared.fault.WiringFault.{WiringFault}
-use Rattle.wire_chart.specs.Below.wiring_text.declared.fault.WiringFault.TheVariants as wiring
+use Rattle.wiring_text.specs.WiringFaults as wiring_faults
+use Rattle.wiring_text.specs.declared.fault.WiringFault.{WiringFault}
+use Rattle.wiring_text.specs.declared.fault.WiringFault.TheVariants as wiring
 use Rattle.cli_commands.proofs.CommandsWords.Refusing.{wiring_refused}
 use Rattle.fault_lines.proofs.ProgramIo.Refusing.{is_known, read_is_known, refusal_is_not_memory}
 use Rattle.fault_lines.specs.ProgramIo.Commands.{word_of}

@@ -12,7 +12,7 @@ use Rattle.cli_commands.specs.CommandsWords.DeckReplays.Replays.{GainsFront, Gai
 use Rattle.fault_lines.proofs.ProgramIo.Fronting.{front_of_all, front_of_first}
 use Rattle.fault_lines.specs.ProgramIo.Fronts.{WritesFront}
 use Rattle.hubs.specs.SetupsWords.Wiring.{Wiring}
-use Rattle.wire_chart.specs.Below.wiring_text.WiringText.{ReadsAs}
+use Rattle.wiring_text.specs.WiringText.{ReadsAs}
 
 module _ (text deck : List ℕ) (wiring : Wiring) (reads : ReadsAs text wiring) where
   replayed_pages : (cards : List (List ℕ)) → Deck deck cards → (lines : List PlacedLine) → MachineLines wiring cards lines

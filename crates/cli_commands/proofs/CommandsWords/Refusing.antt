@@ -9,11 +9,11 @@ use Rattle.fault_lines.specs.declared.faults.chart.ChartFault.{ChartFault}
 use Rattle.fault_lines.specs.declared.faults.chart.ChartFault.TheVariants as chart
 use Rattle.fault_lines.specs.declared.faults.deck.RunFault.{RunFault}
 use Rattle.fault_lines.specs.declared.faults.deck.RunFault.TheVariants as run
-use Rattle.wire_chart.specs.Below.wiring_text.WiringFaults as wiring_faults
-use Rattle.wire_chart.specs.Below.wiring_text.declared.fault.WiringFault.{WiringFault}
-use Rattle.wire_chart.specs.Below.wiring_text.declared.fault.WiringFault.TheVariants as wiring
+use Rattle.wiring_text.specs.WiringFaults as wiring_faults
+use Rattle.wiring_text.specs.declared.fault.WiringFault.{WiringFault}
+use Rattle.wiring_text.specs.declared.fault.WiringFault.TheVariants as wiring
 use Rattle.hubs.specs.SetupsWords.Wiring.{Wiring}
-use Rattle.wire_chart.specs.Below.wiring_text.WiringText.{ReadsAs}
+use Rattle.wiring_text.specs.WiringText.{ReadsAs}
 use Rattle.wire_chart.specs.WrittenText.{IsWritten}
 use Rattle.cli_commands.specs.CommandsWords.Answers.{ArePagesOf, ArePagesOn, AreReplayedPages, CompilesAs, IsWiringChartOf}
 use Rattle.cli_commands.specs.CommandsWords.Refusals.{RefusesChart, RefusesReplay, RefusesRun, cards, punches, wires}

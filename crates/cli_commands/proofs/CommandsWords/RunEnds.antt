@@ -13,8 +13,8 @@ use Rattle.fault_lines.specs.declared.faults.deck.RunFault.TheVariants as deck
 use Rattle.fault_lines.specs.declared.faults.fault.Fault.{Fault}
 use Rattle.fault_lines.specs.declared.faults.fault.Fault.TheVariants as fault
 use Rattle.fault_lines.proofs.ProgramIo.Stopping.{named_status}
-use Rattle.compile407.specs.Below.streamed_runs.declared.fault.StreamCause.{StreamCause}
-use Rattle.compile407.specs.Below.streamed_runs.declared.fault.StreamCause.TheVariants as cause
+use Rattle.report_runs.specs.declared.fault.StreamCause.{StreamCause}
+use Rattle.report_runs.specs.declared.fault.StreamCause.TheVariants as cause
 
 -- what can be told of a run
 data Tells (told : Fault) : Type 0 where

@@ -20,9 +20,9 @@ use Rattle.fault_lines.specs.FaultsWords.Status.{status_of}
 use Rattle.fault_lines.specs.declared.faults.deck.RunFault.TheVariants as deck
 use Rattle.fault_lines.specs.declared.faults.fault.Fault.{Fault}
 use Rattle.fault_lines.specs.declared.faults.fault.Fault.TheVariants as fault
-use Rattle.compile407.specs.Below.streamed_runs.Runs.{HasRun, HasStopped, RunsToEnd, StopsShort}
-use Rattle.compile407.specs.Below.streamed_runs.declared.fault.StreamCause.TheVariants as cause
-use Rattle.compile407.specs.Below.streamed_runs.declared.fault.StreamFault.{StreamFault}
+use Rattle.report_runs.specs.Runs.{HasRun, HasStopped, RunsToEnd, StopsShort}
+use Rattle.report_runs.specs.declared.fault.StreamCause.TheVariants as cause
+use Rattle.report_runs.specs.declared.fault.StreamFault.{StreamFault}
 
 -- the report of all bytes of the reader
 pub run_whole : (compiled : Compilation) (text : List ℕ) → CompilesAs text compiled → (reader old new : Option (List ℕ)) (count : ℕ)

@@ -4,14 +4,14 @@ use Rattle.std.specs.Prelude.{IfErr}
 use Rattle.hubs.specs.SetupsWords.Tapes.{has_stop}
 use Rattle.hubs.specs.SetupsWords.Wiring.{Wiring, is_plugged}
 use Rattle.wire_chart.specs.WrittenText.{IsWrittenIn}
-use Rattle.wire_chart.proofs.Below.wiring_text.WiringReader.Answered.{one_setup}
-use Rattle.wire_chart.specs.Below.wiring_text.WiringFaults as wiring_faults
-use Rattle.wire_chart.specs.Below.wiring_text.WiringText.{IsSameSetup, IsSetupOf, ReadsAs}
-use Rattle.wire_chart.specs.Below.wiring_text.declared.fault.WiringFault.{WiringFault}
-use Rattle.wire_chart.specs.Below.wiring_text.declared.fault.WiringFault.TheVariants as wiring
-use Rattle.wire_chart.specs.Below.wiring_text.declared.statement.FormNumbers.{FormNumbers}
-use Rattle.wire_chart.specs.Below.wiring_text.declared.statement.Statement.{Statement}
-use Rattle.wire_chart.specs.Below.wiring_text.declared.statement.Version.TheVariants.{Second}
+use Rattle.wiring_text.proofs.WiringReader.Answered.{one_setup}
+use Rattle.wiring_text.specs.WiringFaults as wiring_faults
+use Rattle.wiring_text.specs.WiringText.{IsSameSetup, IsSetupOf, ReadsAs}
+use Rattle.wiring_text.specs.declared.fault.WiringFault.{WiringFault}
+use Rattle.wiring_text.specs.declared.fault.WiringFault.TheVariants as wiring
+use Rattle.wiring_text.specs.declared.statement.FormNumbers.{FormNumbers}
+use Rattle.wiring_text.specs.declared.statement.Statement.{Statement}
+use Rattle.wiring_text.specs.declared.statement.Version.TheVariants.{Second}
 use Rattle.cli_commands.specs.CommandsWords.Answers.{AreReplayedPages, IsUpgradeOf, PrintAlike}
 use Rattle.fault_lines.specs.ProgramIo.Refusals.{RefusesWiring}
 use Rattle.fault_lines.specs.FaultsWords.ToldFaults.{wiring_told}

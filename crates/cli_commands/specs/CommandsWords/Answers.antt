@@ -1,17 +1,17 @@
 -- What each command answers, from the bytes of its texts to the bytes that it prints.
 use Rattle.std.specs.Prelude.{◌≡◌, ◌↔◌, ℕ, List, codes}
 use Rattle.card_code.specs.Deck.{Deck}
-use Rattle.chart_text.specs.ChartText.{Reads}
+use Rattle.fault_lines.specs.Below.chart_text.ChartText.{Reads}
 use Rattle.compile407.specs.Compilation.{Compilation, IsCompiled}
 use Rattle.compile407.specs.Runnable.{IsRunnable}
 use Rattle.machine.specs.Runs.{MachineLines}
 use Rattle.page_text.specs.Pages.{Pages}
 use Rattle.page_text.specs.declared.placed_lines.placed_line.PlacedLine.{PlacedLine}
-use Rattle.compile407.specs.Below.report.Report.{Report}
+use Rattle.report_definition.specs.Report.{Report}
 use Rattle.hubs.specs.SetupsWords.Wiring.{Wiring}
 use Rattle.wire_chart.specs.WrittenText.{IsWritten, IsWrittenIn}
-use Rattle.wire_chart.specs.Below.wiring_text.WiringText.{ReadsAs}
-use Rattle.wire_chart.specs.Below.wiring_text.declared.statement.Version.TheVariants.{Second}
+use Rattle.wiring_text.specs.WiringText.{ReadsAs}
+use Rattle.wiring_text.specs.declared.statement.Version.TheVariants.{Second}
 use Rattle.fault_lines.specs.declared.program_io.command.Command.{Command}
 use Rattle.fault_lines.specs.declared.program_io.command.Command.TheVariants as command
 

@@ -8,9 +8,9 @@ use Rattle.compile407.specs.RunFaults.{HasRunFault}
 use Rattle.fault_lines.specs.declared.faults.chart.ChartFault.{ChartFault}
 use Rattle.fault_lines.specs.declared.faults.deck.RunFault.{RunFault}
 use Rattle.hubs.specs.SetupsWords.Wiring.{Wiring}
-use Rattle.wire_chart.specs.Below.wiring_text.WiringFaults as wiring_faults
-use Rattle.wire_chart.specs.Below.wiring_text.WiringText.{ReadsAs}
-use Rattle.wire_chart.specs.Below.wiring_text.declared.fault.WiringFault.{WiringFault}
+use Rattle.wiring_text.specs.WiringFaults as wiring_faults
+use Rattle.wiring_text.specs.WiringText.{ReadsAs}
+use Rattle.wiring_text.specs.declared.fault.WiringFault.{WiringFault}
 use Rattle.cli_commands.specs.CommandsWords.Answers.{CompilesAs}
 use Rattle.fault_lines.specs.FaultsWords.ToldFaults.{chart_told, run_told, wiring_told}
 use Rattle.fault_lines.specs.declared.program_io.command.Command.{Command}

@@ -14,10 +14,10 @@ use Rattle.fault_lines.specs.FaultsWords.ToldFaults.{deck_told, of_card, run_tol
 use Rattle.fault_lines.specs.declared.faults.deck.RunFault.TheVariants as deck
 use Rattle.fault_lines.specs.declared.faults.fault.Fault.{Fault}
 use Rattle.fault_lines.specs.declared.faults.fault.Fault.TheVariants as fault
-use Rattle.compile407.specs.Below.streamed_runs.Runs.{StopsShort}
-use Rattle.compile407.specs.Below.streamed_runs.declared.fault.StreamCause.{StreamCause}
-use Rattle.compile407.specs.Below.streamed_runs.declared.fault.StreamCause.TheVariants as cause
-use Rattle.compile407.specs.Below.streamed_runs.declared.fault.StreamFault.{StreamFault}
+use Rattle.report_runs.specs.Runs.{StopsShort}
+use Rattle.report_runs.specs.declared.fault.StreamCause.{StreamCause}
+use Rattle.report_runs.specs.declared.fault.StreamCause.TheVariants as cause
+use Rattle.report_runs.specs.declared.fault.StreamFault.{StreamFault}
 
 -- what is told of a card that was not read: its line's fault, or that the reader failed at it
 abbrev pub read_told : ReadFault → Fault

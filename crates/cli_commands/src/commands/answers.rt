@@ -2,8 +2,8 @@
 
 ghost use Rattle.std.specs.Prelude.{◌≡◌, ◌≢◌, ℕ, List, IfOk, IfErr, OnOk, string_bytes};
 ghost use Rattle.wire_chart.specs.WrittenText.{IsWritten, IsWrittenIn};
-ghost use Rattle.wire_chart.specs.Below.wiring_text.WiringText.{ReadsAs};
-ghost use Rattle.wire_chart.specs.Below.wiring_text.declared.statement.Version.TheVariants.{Second};
+ghost use Rattle.wiring_text.specs.WiringText.{ReadsAs};
+ghost use Rattle.wiring_text.specs.declared.statement.Version.TheVariants.{Second};
 ghost use Rattle.cli_commands.specs.CommandsWords.Answers.{ArePagesOf, ArePagesOn, AreReplayedPages, Compiles, CompilesAs, IsUpgradeOf, IsWiringChartOf, PrintAlike};
 ghost use Rattle.cli_commands.specs.CommandsWords.Refusals.{RefusesChart, RefusesReplay, RefusesRun};
 ghost use Rattle.fault_lines.specs.ProgramIo.Refusals.{RefusesDeck, RefusesWiring};

@@ -6,12 +6,12 @@ use Rattle.card_code.specs.Deck.{HasLineFault, IsCardOf, IsOddColumn}
 use Rattle.card_code.specs.declared.deck.DeckFault.{DeckFault}
 use Rattle.card_code.specs.declared.deck.DeckFault.TheVariants as text
 use Rattle.chart_rules.proofs.OneFault.{cards_have_one_fault}
-use Rattle.chart_rules.specs.Below.line_rules.FieldRules.Fields.{fields_of}
+use Rattle.chart_line_rules.specs.FieldRules.Fields.{fields_of}
 use Rattle.chart_rules.specs.ValidCard.{IsFirstInvalid}
 use Rattle.chart_rules.specs.declared.card.CardFault.{CardFault}
 use Rattle.chart_rules.specs.declared.card.CardFault.TheVariants as card
 use Rattle.compile407.proofs.Exclusions.{none_told}
-use Rattle.compile407.specs.Below.charts.Chart.{Chart}
+use Rattle.chart_lines.specs.ChartsWords.Chart.{Chart}
 use Rattle.cli_decks.specs.CheckCalls.DeckChecks.BadLines as lines
 use Rattle.cli_decks.specs.CheckCalls.DeckChecks.BadLines.{IsBadLine, IsGoodLine}
 use Rattle.fault_lines.specs.FaultsWords.ToldFaults.{deck_told, of_card, run_told}

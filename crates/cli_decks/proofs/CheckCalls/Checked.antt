@@ -5,7 +5,7 @@ use Rattle.cli_commands.specs.CommandsWords.Answers.{CompilesAs}
 use Rattle.compile407.specs.ChartFaults.{HasChartFault}
 use Rattle.compile407.specs.Compilation.{Compilation}
 use Rattle.cli_decks.specs.CheckCalls.DeckChecks.Endings.{EndsCheck, IsFine, WritesFine}
-use Rattle.compile407.specs.Below.charts.Chart.{Chart}
+use Rattle.chart_lines.specs.ChartsWords.Chart.{Chart}
 use Rattle.fault_lines.proofs.FaultsWords.Statuses.{memory_or_not}
 use Rattle.fault_lines.specs.FaultsWords.ToldFaults.{chart_told}
 use Rattle.fault_lines.specs.declared.faults.chart.ChartFault.{ChartFault}

@@ -1,8 +1,8 @@
 -- Where no group that ended before the last of some cards has a misfit, none of those that ended before an earlier card has one.
 use Rattle.std.proofs.Common.{◌≡◌, ◌∙◌, refl, sym, ap, ℕ, ◌+◌, List, [], ◌∷◌, ◌++◌, Some, length, arith, append-nil, append_assoc, length-append}
-use Rattle.compile407.specs.Below.charts.declared.chart.Line.{Line}
-use Rattle.compile407.specs.Below.report.Breaks.{cleared, ended_after, taking}
-use Rattle.compile407.specs.Below.report.Misfits.{Misfit, misfits}
+use Rattle.chart_lines.specs.declared.charts.chart.Line.{Line}
+use Rattle.report_definition.specs.Breaks.{cleared, ended_after, taking}
+use Rattle.report_definition.specs.Misfits.{Misfit, misfits}
 use Rattle.report_definition.proofs.FollowedDecks.FitSoFar.{groups-more, last-more}
 use Rattle.report_definition.proofs.FollowedDecks.Misfits.{misfits_of_cards}
 use Rattle.report_definition.specs.FollowedDecks.CardMisfits.{misfits_from, misfits_to}

@@ -16,14 +16,14 @@ use Rattle.cli_decks.proofs.CheckCalls.Fronts.{StopsAt, bad, has_front, misfit, 
 use Rattle.cli_decks.proofs.CheckCalls.Pairings.{has_last}
 use Rattle.cli_decks.specs.CheckCalls.Laws.{ChecksTellFirstWhatStopsRuns, stops_at_deck}
 use Rattle.cli_commands.specs.CommandsWords.Streamed.{IsToldOf}
-use Rattle.compile407.specs.Below.charts.Chart.{Chart}
-use Rattle.compile407.specs.Below.streamed_runs.Below.card_lines.Faults.{HasFaultNext, IsLineAtFault}
-use Rattle.compile407.specs.Below.streamed_runs.Below.card_lines.declared.fault.ReadFault.TheVariants as read
-use Rattle.compile407.specs.Below.streamed_runs.Causes.{HasCause, IsInvalidNext, IsUnreadNext}
-use Rattle.compile407.specs.Below.streamed_runs.FirstCauses.{HaveFitSoFar, IsFirstCause}
-use Rattle.compile407.specs.Below.streamed_runs.Reading.{HasRead}
-use Rattle.compile407.specs.Below.streamed_runs.declared.fault.StreamCause.{StreamCause}
-use Rattle.compile407.specs.Below.streamed_runs.declared.fault.StreamCause.TheVariants as cause
+use Rattle.chart_lines.specs.ChartsWords.Chart.{Chart}
+use Rattle.compile407.specs.Below.report_runs.Below.report_streams.CardLines.Faults.{HasFaultNext, IsLineAtFault}
+use Rattle.compile407.specs.Below.report_runs.Below.report_streams.declared.card_lines.fault.ReadFault.TheVariants as read
+use Rattle.compile407.specs.Below.report_runs.Causes.{HasCause, IsInvalidNext, IsUnreadNext}
+use Rattle.compile407.specs.Below.report_runs.FirstCauses.{HaveFitSoFar, IsFirstCause}
+use Rattle.compile407.specs.Below.report_runs.Reading.{HasRead}
+use Rattle.compile407.specs.Below.report_runs.declared.fault.StreamCause.{StreamCause}
+use Rattle.compile407.specs.Below.report_runs.declared.fault.StreamCause.TheVariants as cause
 use Rattle.cli_decks.specs.CheckCalls.DeckChecks.BadLines.{IsGoodLine}
 use Rattle.cli_decks.specs.CheckCalls.DeckChecks.Listings.{IsListing, misfit_told, totals_told}
 use Rattle.report_definition.specs.FollowedDecks.FitSoFar.{FitSoFar}

@@ -8,9 +8,9 @@ use Rattle.std.specs.List.{AllZip}
 use Rattle.cli_decks.proofs.CheckCalls.BadLines.{IsBad, is_bad, not_both, one_card, one_told}
 use Rattle.cli_decks.proofs.CheckCalls.EarlierGroups.{fits_go_back}
 use Rattle.cli_decks.proofs.CheckCalls.Pairings.{flipped, has_last}
-use Rattle.compile407.specs.Below.charts.Chart.{Chart}
-use Rattle.compile407.specs.Below.report.Misfits.{first_of}
-use Rattle.compile407.specs.Below.streamed_runs.FirstCauses.{HaveFitSoFar}
+use Rattle.chart_lines.specs.ChartsWords.Chart.{Chart}
+use Rattle.report_definition.specs.Misfits.{first_of}
+use Rattle.compile407.specs.Below.report_runs.FirstCauses.{HaveFitSoFar}
 use Rattle.cli_decks.specs.CheckCalls.DeckChecks.BadLines.{IsBadLine, IsGoodLine}
 use Rattle.cli_decks.specs.CheckCalls.DeckChecks.Listings as listings
 use Rattle.cli_decks.specs.CheckCalls.DeckChecks.Listings.{Lists, misfit_told, totals_told, with_card}

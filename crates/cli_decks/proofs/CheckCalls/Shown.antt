@@ -7,7 +7,7 @@ use Rattle.cli_decks.specs.CheckCalls.Large.{TellsLarge, WritesLarge}
 use Rattle.cli_decks.specs.CheckCalls.Showing.{ShowsOk, StopsShowing, memory_wanting, refused, shown, too_long, unread, unwritten}
 use Rattle.cli_commands.proofs.CommandsWords.Refusing.{chart_refused as refused_chart}
 use Rattle.cli_commands.specs.CommandsWords.Answers.{CompilesAs}
-use Rattle.compile407.specs.Below.charts.Chart.{Chart}
+use Rattle.chart_lines.specs.ChartsWords.Chart.{Chart}
 use Rattle.compile407.specs.ChartFaults.{HasChartFault}
 use Rattle.compile407.specs.Compilation.{Compilation}
 use Rattle.fault_lines.proofs.FaultsWords.Statuses.{memory_or_not}

@@ -1,11 +1,11 @@
 -- A law of a check and a run over one deck.
 use Rattle.std.specs.Prelude.{◌≡◌, ℕ, Bool, true, false, List, Option, Some, slice_get}
 use Rattle.cli_commands.specs.CommandsWords.Streamed.{IsToldOf}
-use Rattle.compile407.specs.Below.charts.Chart.{Chart}
-use Rattle.compile407.specs.Below.streamed_runs.Below.card_lines.declared.fault.ReadFault.TheVariants as read
-use Rattle.compile407.specs.Below.streamed_runs.Runs.{HasStopped}
-use Rattle.compile407.specs.Below.streamed_runs.declared.fault.StreamCause.{StreamCause}
-use Rattle.compile407.specs.Below.streamed_runs.declared.fault.StreamCause.TheVariants as cause
+use Rattle.chart_lines.specs.ChartsWords.Chart.{Chart}
+use Rattle.compile407.specs.Below.report_runs.Below.report_streams.declared.card_lines.fault.ReadFault.TheVariants as read
+use Rattle.compile407.specs.Below.report_runs.Runs.{HasStopped}
+use Rattle.compile407.specs.Below.report_runs.declared.fault.StreamCause.{StreamCause}
+use Rattle.compile407.specs.Below.report_runs.declared.fault.StreamCause.TheVariants as cause
 use Rattle.cli_decks.specs.CheckCalls.DeckChecks.Listings.{IsListing}
 use Rattle.fault_lines.specs.declared.faults.fault.Fault.{Fault}
 

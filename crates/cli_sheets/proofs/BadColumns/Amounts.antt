@@ -6,9 +6,9 @@ use Rattle.std.proofs.Math.Nat.{max-eq_left, max-eq_right}
 use Rattle.cli_sheets.specs.BadColumns.Columns.{amount_slip, has_column, has_digit, has_digits, is_due, padded}
 use Rattle.cli_sheets.proofs.BadColumns.Rows.{AreRowsFrom, IsDigit, begun, begun-false, begun-true, digits-false, digits-true, length-padded, rows-padded}
 use Rattle.cli_sheets.proofs.BadColumns.Slips.{IsGood, amount-none, has_digit-in, in-has_column, none-amount}
-use Rattle.chart_rules.specs.Below.card_code.Deck.{IsCardOf}
-use Rattle.chart_rules.specs.Below.charts.Field.{columns_of, decimals_of, sign_column}
-use Rattle.chart_rules.specs.Below.charts.declared.statement.Field.{Field}
+use Rattle.card_code.specs.Deck.{IsCardOf}
+use Rattle.chart_lines.specs.ChartsWords.Field.{columns_of, decimals_of, sign_column}
+use Rattle.chart_lines.specs.declared.charts.statement.Field.{Field}
 use Rattle.chart_rules.proofs.Laws.{IsGoodField}
 use Rattle.chart_rules.specs.ValidCard.{AreBlank, AreDigits, AreSingle, IsValidAmount, column_of, digit_count}
 

@@ -9,11 +9,11 @@ use Rattle.cli_sheets.proofs.BadColumns.Rows.{bad-in, begun, fine-none, length-p
 use Rattle.cli_sheets.proofs.BadColumns.Slips.{in-has_column, none-text, slip_at-in, slip_at-out, text-none}
 use Rattle.chart_lines.proofs.ChartsWords.Listed.{listed-at}
 use Rattle.chart_rules.proofs.Laws.{IsGoodField, good-listed}
-use Rattle.chart_rules.specs.Below.card_code.Deck.{IsCardOf}
-use Rattle.chart_rules.specs.Below.charts.declared.statement.Field.{Field}
-use Rattle.chart_rules.specs.Below.charts.declared.statement.FieldKind.{FieldKind}
-use Rattle.chart_rules.specs.Below.charts.declared.statement.FieldKind.TheVariants as holds
-use Rattle.chart_rules.specs.Below.line_rules.FieldRules.Fields.{fields_of}
+use Rattle.card_code.specs.Deck.{IsCardOf}
+use Rattle.chart_lines.specs.declared.charts.statement.Field.{Field}
+use Rattle.chart_lines.specs.declared.charts.statement.FieldKind.{FieldKind}
+use Rattle.chart_lines.specs.declared.charts.statement.FieldKind.TheVariants as holds
+use Rattle.chart_line_rules.specs.FieldRules.Fields.{fields_of}
 use Rattle.chart_rules.specs.ValidCard.{AreValid, IsValidField, IsValidKind, column_of}
 
 module _ (line card : List ℕ) (is : IsCardOf line card) (field : Field) (good : IsGoodField field) where

@@ -7,9 +7,9 @@ use Rattle.cli_sheets.specs.BadColumns.Laws.{IsInField}
 use Rattle.cli_sheets.specs.declared.bad_columns.column.BadColumn.{BadColumn}
 use Rattle.cli_sheets.specs.declared.bad_columns.column.ColumnSlip.{ColumnSlip}
 use Rattle.cli_sheets.proofs.BadColumns.Slips.{in-has_column, slip_at-out}
-use Rattle.chart_rules.specs.Below.card_code.CardCode.{code, rows_of}
-use Rattle.chart_rules.specs.Below.card_code.Deck.{IsCardOf}
-use Rattle.chart_rules.specs.Below.charts.declared.statement.Field.{Field}
+use Rattle.card_code.specs.CardCode.{code, rows_of}
+use Rattle.card_code.specs.Deck.{IsCardOf}
+use Rattle.chart_lines.specs.declared.charts.statement.Field.{Field}
 use Rattle.chart_rules.specs.ValidCard.{column_of}
 
 -- the rows of some bytes are those of the columns of a card from one on

@@ -4,8 +4,8 @@ use Rattle.std.proofs.lemmas.Bool.Decides.{nat_tests}
 use Rattle.cli_sheets.specs.BadColumns.Columns.{amount_slip, has_column, has_digit, kind_slip, slip_at, text_slip}
 use Rattle.cli_sheets.specs.declared.bad_columns.column.ColumnSlip.{ColumnSlip}
 use Rattle.cli_sheets.specs.declared.bad_columns.column.ColumnSlip.TheVariants as slip
-use Rattle.chart_rules.specs.Below.card_code.CardCode.{deck_character, has_row}
-use Rattle.chart_rules.specs.Below.charts.declared.statement.Field.{Field}
+use Rattle.card_code.specs.CardCode.{deck_character, has_row}
+use Rattle.chart_lines.specs.declared.charts.statement.Field.{Field}
 use Rattle.chart_rules.specs.ValidCard.{digit_count, has_good_zone, is_printed, is_sign}
 
 -- a column between the first and the last of a field is one of it

@@ -4,7 +4,7 @@ use Rattle.std.specs.List.{cons_option, filter_map}
 use Rattle.std.proofs.lemmas.Grind.{same_number_lists}
 use Rattle.std.proofs.lemmas.List.{drop_all, drop_more}
 use Rattle.std.proofs.lemmas.List.FromFn.{get_or-map-range_with_len, length-map-range_with_len}
-use Rattle.chart_rules.specs.Below.charts.declared.chart.Line.{Line}
+use Rattle.chart_lines.specs.declared.charts.chart.Line.{Line}
 use Rattle.report_definition.specs.BodyLines.{Piece, char_at, line_of, piece_at}
 use Rattle.cli_sheets.specs.SheetsWords.Helper.{over}
 

@@ -5,7 +5,7 @@ use Rattle.chart_lines.specs.ChartsWords.Field.{decimals_of, is_amount, sign_col
 use Rattle.chart_lines.specs.declared.charts.statement.Field.{Field}
 use Rattle.chart_lines.specs.declared.charts.statement.FieldKind.{FieldKind}
 use Rattle.chart_lines.specs.declared.charts.statement.FieldKind.TheVariants as holds
-use Rattle.chart_rules.specs.Below.line_rules.FieldRules.Fields.{fields_of}
+use Rattle.chart_line_rules.specs.FieldRules.Fields.{fields_of}
 use Rattle.chart_rules.specs.Rules.{IsLawful}
 use Rattle.chart_rules.proofs.Laws.{IsGoodField, good-listed}
 use Rattle.report_misfits.proofs.LawfulTotals.{good_column}

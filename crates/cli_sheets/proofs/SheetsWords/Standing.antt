@@ -4,20 +4,20 @@ use Rattle.std.specs.List.{cons_option, filter_map}
 use Rattle.std.proofs.lemmas.Bool.{eqb-true}
 use Rattle.std.proofs.lemmas.Bool.Decides.{nat_tests}
 use Rattle.std.proofs.lemmas.Grind.{get_or_default_zero}
-use Rattle.chart_rules.specs.Below.charts.Headings.{heading_number}
-use Rattle.chart_rules.specs.Below.charts.Levels.{level_number}
-use Rattle.chart_rules.specs.Below.charts.Literals.{literal_in}
-use Rattle.chart_rules.specs.Below.charts.declared.chart.Line.{Line}
-use Rattle.chart_rules.specs.Below.charts.declared.statement.BodyLine.{BodyLine}
-use Rattle.chart_rules.specs.Below.charts.declared.statement.BodyLine.TheVariants as body
-use Rattle.chart_rules.specs.Below.charts.declared.statement.Statement.{Statement}
-use Rattle.chart_rules.specs.Below.line_rules.FieldRules.Fields.{fields_of}
-use Rattle.chart_rules.specs.Below.line_rules.FieldRules.Repeats.{is_same_body}
-use Rattle.chart_rules.specs.Below.line_rules.PrintRules.Items.{is_same_line, item_of}
-use Rattle.chart_rules.specs.Below.line_rules.PrintRules.Wheels.{is_off_wheels, meet, overlap}
-use Rattle.chart_rules.specs.Below.line_rules.declared.print_rules.items.Item.{Item}
-use Rattle.chart_rules.specs.Below.line_rules.declared.print_rules.items.PrintedLine.{PrintedLine}
-use Rattle.chart_rules.specs.Below.line_rules.declared.print_rules.items.PrintedLine.TheVariants.{Heading, Body}
+use Rattle.chart_lines.specs.ChartsWords.Headings.{heading_number}
+use Rattle.chart_lines.specs.ChartsWords.Levels.{level_number}
+use Rattle.chart_lines.specs.ChartsWords.Literals.{literal_in}
+use Rattle.chart_lines.specs.declared.charts.chart.Line.{Line}
+use Rattle.chart_lines.specs.declared.charts.statement.BodyLine.{BodyLine}
+use Rattle.chart_lines.specs.declared.charts.statement.BodyLine.TheVariants as body
+use Rattle.chart_lines.specs.declared.charts.statement.Statement.{Statement}
+use Rattle.chart_line_rules.specs.FieldRules.Fields.{fields_of}
+use Rattle.chart_line_rules.specs.FieldRules.Repeats.{is_same_body}
+use Rattle.chart_line_rules.specs.PrintRules.Items.{is_same_line, item_of}
+use Rattle.chart_line_rules.specs.PrintRules.Wheels.{is_off_wheels, meet, overlap}
+use Rattle.chart_line_rules.specs.declared.print_rules.items.Item.{Item}
+use Rattle.chart_line_rules.specs.declared.print_rules.items.PrintedLine.{PrintedLine}
+use Rattle.chart_line_rules.specs.declared.print_rules.items.PrintedLine.TheVariants.{Heading, Body}
 use Rattle.chart_rules.specs.declared.rule.Rule.TheVariants as rule
 use Rattle.chart_rules.proofs.Laws.{breaks-lawful}
 use Rattle.chart_lines.proofs.ChartsWords.Listed.{Place, listed-first, listed-after, listed-place}

@@ -1,19 +1,19 @@
 -- An item is drawn with a character for each of its wheels.
 use Rattle.std.proofs.Common.{◌≡◌, ◌∙◌, sym, ap, ℕ, ◌+◌, ◌-◌, ◌≤◌, List, ◌++◌, Option, Some, None, option_map, length, length-append, replicate, true, nat_lt, if◌then◌else◌, arith}
 use Rattle.std.proofs.lemmas.List.{length-replicate}
-use Rattle.chart_rules.specs.Below.charts.Field.{columns_of}
-use Rattle.chart_rules.specs.Below.charts.Literals.{literal_in}
-use Rattle.chart_rules.specs.Below.charts.declared.statement.DetailOption.{DetailOption}
-use Rattle.chart_rules.specs.Below.charts.declared.statement.Field.{Field}
-use Rattle.chart_rules.specs.Below.charts.declared.statement.FieldKind.{FieldKind}
-use Rattle.chart_rules.specs.Below.charts.declared.statement.FieldKind.TheVariants as holds
-use Rattle.chart_rules.specs.Below.charts.declared.statement.Statement.{Statement}
-use Rattle.chart_rules.specs.Below.charts.declared.statement.Statement.TheVariants as says
-use Rattle.chart_rules.specs.Below.line_rules.FieldRules.Fields.{first_named}
-use Rattle.chart_rules.specs.Below.line_rules.PrintRules.Items.{detail_item, figure_item, figure_width, item_of, mark_width, text_item, total_item}
-use Rattle.chart_rules.specs.Below.line_rules.declared.print_rules.items.Figure.{Figure}
-use Rattle.chart_rules.specs.Below.line_rules.declared.print_rules.items.Item.{Item}
-use Rattle.chart_rules.specs.Below.line_rules.declared.print_rules.items.PrintedLine.{PrintedLine}
+use Rattle.chart_lines.specs.ChartsWords.Field.{columns_of}
+use Rattle.chart_lines.specs.ChartsWords.Literals.{literal_in}
+use Rattle.chart_lines.specs.declared.charts.statement.DetailOption.{DetailOption}
+use Rattle.chart_lines.specs.declared.charts.statement.Field.{Field}
+use Rattle.chart_lines.specs.declared.charts.statement.FieldKind.{FieldKind}
+use Rattle.chart_lines.specs.declared.charts.statement.FieldKind.TheVariants as holds
+use Rattle.chart_lines.specs.declared.charts.statement.Statement.{Statement}
+use Rattle.chart_lines.specs.declared.charts.statement.Statement.TheVariants as says
+use Rattle.chart_line_rules.specs.FieldRules.Fields.{first_named}
+use Rattle.chart_line_rules.specs.PrintRules.Items.{detail_item, figure_item, figure_width, item_of, mark_width, text_item, total_item}
+use Rattle.chart_line_rules.specs.declared.print_rules.items.Figure.{Figure}
+use Rattle.chart_line_rules.specs.declared.print_rules.items.Item.{Item}
+use Rattle.chart_line_rules.specs.declared.print_rules.items.PrintedLine.{PrintedLine}
 use Rattle.report_definition.proofs.EditLaws.{marked-length, point-length}
 use Rattle.report_definition.specs.Edits.{free_digits, marked, point}
 use Rattle.cli_sheets.specs.SheetsWords.Layout.{drawn, drawn_figure}

@@ -3,11 +3,11 @@ use Rattle.std.specs.Prelude.{ℕ, ◌+◌, ◌-◌, ◌==◌, ◌&&◌, ◌||�
 use Rattle.cli_sheets.specs.declared.bad_columns.column.BadColumn.{BadColumn}
 use Rattle.cli_sheets.specs.declared.bad_columns.column.ColumnSlip.{ColumnSlip}
 use Rattle.cli_sheets.specs.declared.bad_columns.column.ColumnSlip.TheVariants as slip
-use Rattle.chart_rules.specs.Below.card_code.CardCode.{deck_character, has_row, rows_of}
-use Rattle.chart_rules.specs.Below.charts.Field.{decimals_of, sign_column}
-use Rattle.chart_rules.specs.Below.charts.declared.statement.Field.{Field}
-use Rattle.chart_rules.specs.Below.charts.declared.statement.FieldKind.{FieldKind}
-use Rattle.chart_rules.specs.Below.charts.declared.statement.FieldKind.TheVariants as holds
+use Rattle.card_code.specs.CardCode.{deck_character, has_row, rows_of}
+use Rattle.chart_lines.specs.ChartsWords.Field.{decimals_of, sign_column}
+use Rattle.chart_lines.specs.declared.charts.statement.Field.{Field}
+use Rattle.chart_lines.specs.declared.charts.statement.FieldKind.{FieldKind}
+use Rattle.chart_lines.specs.declared.charts.statement.FieldKind.TheVariants as holds
 use Rattle.chart_rules.specs.ValidCard.{digit_count, is_printed, is_sign}
 
 -- the rows of a byte: none, if it is no character of a card

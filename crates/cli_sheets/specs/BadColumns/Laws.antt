@@ -2,10 +2,10 @@
 use Rattle.std.specs.Prelude.{◌≡◌, ◌≤◌, List, ℕ, Some}
 use Rattle.cli_sheets.specs.BadColumns.Columns.{bad_among}
 use Rattle.cli_sheets.specs.declared.bad_columns.column.BadColumn.{BadColumn}
-use Rattle.chart_rules.specs.Below.card_code.Deck.{IsCardOf}
-use Rattle.chart_rules.specs.Below.charts.Chart.{Chart}
-use Rattle.chart_rules.specs.Below.charts.declared.statement.Field.{Field}
-use Rattle.chart_rules.specs.Below.line_rules.FieldRules.Fields.{fields_of}
+use Rattle.card_code.specs.Deck.{IsCardOf}
+use Rattle.chart_lines.specs.ChartsWords.Chart.{Chart}
+use Rattle.chart_lines.specs.declared.charts.statement.Field.{Field}
+use Rattle.chart_line_rules.specs.FieldRules.Fields.{fields_of}
 use Rattle.chart_rules.specs.Rules.{IsLawful}
 use Rattle.chart_rules.specs.ValidCard.{IsFirstInvalid}
 use Rattle.chart_rules.specs.declared.card.CardFault.{CardFault}

@@ -3,7 +3,7 @@ use Rattle.std.specs.Prelude.{ℕ, List, ◌++◌, codes, decimal}
 use Rattle.cli_sheets.specs.declared.bad_columns.column.BadColumn.{BadColumn}
 use Rattle.cli_sheets.specs.declared.bad_columns.column.ColumnSlip.{ColumnSlip}
 use Rattle.cli_sheets.specs.declared.bad_columns.column.ColumnSlip.TheVariants as slip
-use Rattle.chart_rules.specs.Below.charts.Name.{name_text}
+use Rattle.chart_lines.specs.ChartsWords.Name.{name_text}
 
 -- why it is
 abbrev pub why : ColumnSlip → List ℕ

@@ -5,12 +5,12 @@ use Rattle.std.specs.Prelude.{ℤ, Some}
 use Rattle.std.specs.Int.{is_negative}
 use Rattle.std.specs.List.{flat_map}
 use Rattle.std.specs.Option.{unwrap_or}
-use Rattle.chart_rules.specs.Below.card_code.CardCode.{deck_character}
-use Rattle.chart_rules.specs.Below.charts.Field.{columns_of, column_of_rule}
-use Rattle.chart_rules.specs.Below.charts.Name.{name_text}
-use Rattle.chart_rules.specs.Below.charts.declared.statement.Field.{Field}
-use Rattle.chart_rules.specs.Below.charts.declared.statement.FieldKind.{FieldKind}
-use Rattle.chart_rules.specs.Below.charts.declared.statement.FieldKind.TheVariants as holds
+use Rattle.card_code.specs.CardCode.{deck_character}
+use Rattle.chart_lines.specs.ChartsWords.Field.{columns_of, column_of_rule}
+use Rattle.chart_lines.specs.ChartsWords.Name.{name_text}
+use Rattle.chart_lines.specs.declared.charts.statement.Field.{Field}
+use Rattle.chart_lines.specs.declared.charts.statement.FieldKind.{FieldKind}
+use Rattle.chart_lines.specs.declared.charts.statement.FieldKind.TheVariants as holds
 use Rattle.chart_rules.specs.ValidCard.{column_of}
 use Rattle.report_definition.specs.Amounts.{columns_in, value_of}
 use Rattle.report_definition.specs.Edits.{figure, last_digits}

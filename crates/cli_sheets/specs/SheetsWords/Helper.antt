@@ -1,7 +1,7 @@
 -- Helpers of the code: a character of a text that stands over another, and fields that can be read.
 use Rattle.std.specs.Prelude.{◌≡◌, ◌≤◌, true, ℕ, ◌+◌, ◌-◌, ◌&&◌, List, length, nat_le, nat_lt, slice_index_or, if◌then◌else◌}
-use Rattle.chart_rules.specs.Below.charts.Field.{decimals_of, is_amount}
-use Rattle.chart_rules.specs.Below.charts.declared.statement.Field.{Field}
+use Rattle.chart_lines.specs.ChartsWords.Field.{decimals_of, is_amount}
+use Rattle.chart_lines.specs.declared.charts.statement.Field.{Field}
 use Rattle.chart_rules.specs.HelperOnCard.{IsOnCard}
 use Rattle.report_misfits.specs.HelperAmounts.{IsGoodAmount}
 

@@ -1,10 +1,10 @@
 -- A law of layouts: each item stands on its wheels.
 use Rattle.std.specs.Prelude.{◌≡◌, ◌≤◌, ◌<◌, ◌+◌, ◌-◌, ℕ, List, Contains, Some, length, slice_index}
-use Rattle.chart_rules.specs.Below.charts.Chart.{Chart}
-use Rattle.chart_rules.specs.Below.charts.Literals.{literal_in}
-use Rattle.chart_rules.specs.Below.charts.declared.chart.Line.{Line}
-use Rattle.chart_rules.specs.Below.line_rules.declared.print_rules.items.Item.{Item}
-use Rattle.chart_rules.specs.Below.line_rules.declared.print_rules.items.PrintedLine.{PrintedLine}
+use Rattle.chart_lines.specs.ChartsWords.Chart.{Chart}
+use Rattle.chart_lines.specs.ChartsWords.Literals.{literal_in}
+use Rattle.chart_lines.specs.declared.charts.chart.Line.{Line}
+use Rattle.chart_line_rules.specs.declared.print_rules.items.Item.{Item}
+use Rattle.chart_line_rules.specs.declared.print_rules.items.PrintedLine.{PrintedLine}
 use Rattle.chart_rules.specs.Rules.{IsLawful}
 use Rattle.cli_sheets.specs.SheetsWords.Layout.{drawn, drawn_line, item_on}
 

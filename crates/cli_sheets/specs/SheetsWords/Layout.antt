@@ -4,24 +4,24 @@
 use Rattle.std.specs.Prelude.{ℕ, ◌-◌, ◌==◌, List, [], ◌∷◌, ◌++◌, Bool, Option, Some, None, is_some, codes, decimal, option_map, option_to_list, replicate, true, if◌then◌else◌}
 use Rattle.std.specs.List.{filter_map, flat_map, list_any}
 use Rattle.page_text.specs.Pages.{without_trailing_blanks}
-use Rattle.chart_rules.specs.Below.charts.Headings.{heading_number}
-use Rattle.chart_rules.specs.Below.charts.Levels.{control_number, level_number}
-use Rattle.chart_rules.specs.Below.charts.Literals.{literal_in}
-use Rattle.chart_rules.specs.Below.charts.Name.{name_text}
-use Rattle.chart_rules.specs.Below.charts.declared.chart.Line.{Line}
-use Rattle.chart_rules.specs.Below.charts.declared.heading.HeadingLine.TheVariants as heading
-use Rattle.chart_rules.specs.Below.charts.declared.level.Level.TheVariants as level
-use Rattle.chart_rules.specs.Below.charts.declared.statement.BodyLine.TheVariants as body
-use Rattle.chart_rules.specs.Below.charts.declared.statement.DetailOption.{DetailOption}
-use Rattle.chart_rules.specs.Below.charts.declared.statement.DetailOption.TheVariants as shown
-use Rattle.chart_rules.specs.Below.charts.declared.statement.Statement.{Statement}
-use Rattle.chart_rules.specs.Below.charts.declared.statement.Statement.TheVariants as says
-use Rattle.chart_rules.specs.Below.line_rules.FieldRules.Fields.{fields_of}
-use Rattle.chart_rules.specs.Below.line_rules.PrintRules.Items.{is_same_line, item_of}
-use Rattle.chart_rules.specs.Below.line_rules.declared.print_rules.items.Figure.{Figure}
-use Rattle.chart_rules.specs.Below.line_rules.declared.print_rules.items.Item.{Item}
-use Rattle.chart_rules.specs.Below.line_rules.declared.print_rules.items.PrintedLine.{PrintedLine}
-use Rattle.chart_rules.specs.Below.line_rules.declared.print_rules.items.PrintedLine.TheVariants.{Heading, Body}
+use Rattle.chart_lines.specs.ChartsWords.Headings.{heading_number}
+use Rattle.chart_lines.specs.ChartsWords.Levels.{control_number, level_number}
+use Rattle.chart_lines.specs.ChartsWords.Literals.{literal_in}
+use Rattle.chart_lines.specs.ChartsWords.Name.{name_text}
+use Rattle.chart_lines.specs.declared.charts.chart.Line.{Line}
+use Rattle.chart_lines.specs.declared.charts.heading.HeadingLine.TheVariants as heading
+use Rattle.chart_lines.specs.declared.charts.level.Level.TheVariants as level
+use Rattle.chart_lines.specs.declared.charts.statement.BodyLine.TheVariants as body
+use Rattle.chart_lines.specs.declared.charts.statement.DetailOption.{DetailOption}
+use Rattle.chart_lines.specs.declared.charts.statement.DetailOption.TheVariants as shown
+use Rattle.chart_lines.specs.declared.charts.statement.Statement.{Statement}
+use Rattle.chart_lines.specs.declared.charts.statement.Statement.TheVariants as says
+use Rattle.chart_line_rules.specs.FieldRules.Fields.{fields_of}
+use Rattle.chart_line_rules.specs.PrintRules.Items.{is_same_line, item_of}
+use Rattle.chart_line_rules.specs.declared.print_rules.items.Figure.{Figure}
+use Rattle.chart_line_rules.specs.declared.print_rules.items.Item.{Item}
+use Rattle.chart_line_rules.specs.declared.print_rules.items.PrintedLine.{PrintedLine}
+use Rattle.chart_line_rules.specs.declared.print_rules.items.PrintedLine.TheVariants.{Heading, Body}
 use Rattle.report_definition.specs.BodyLines.{Piece, line_of, piece_at}
 use Rattle.report_definition.specs.Edits.{free_digits, marked, point}
 use Rattle.cli_sheets.specs.SheetsWords.Rulers.{wheel_ruler}

@@ -1,9 +1,9 @@
 -- A line of a deck as it stands, with a mark under one of its columns.
 use Rattle.std.specs.Prelude.{ℕ, ◌-◌, ◌&&◌, ◌||◌, ◌==◌, Bool, false, Option, None, Some, List, [], ◌++◌, codes, map, nat_le, replicate, take, if◌then◌else◌}
 use Rattle.std.specs.List.{flat_map}
-use Rattle.chart_rules.specs.Below.charts.Field.{sign_column}
-use Rattle.chart_rules.specs.Below.charts.Name.{name_text}
-use Rattle.chart_rules.specs.Below.charts.declared.statement.Field.{Field}
+use Rattle.chart_lines.specs.ChartsWords.Field.{sign_column}
+use Rattle.chart_lines.specs.ChartsWords.Name.{name_text}
+use Rattle.chart_lines.specs.declared.charts.statement.Field.{Field}
 use Rattle.fault_lines.specs.ProgramIo.Printable.{printable}
 
 -- the front of a line, as much of it as a card has columns

@@ -1,8 +1,8 @@
 //! The first column of a field that is at fault on a card.
 
 ghost use Rattle.std.specs.Prelude.{◌≡◌, ◌≤◌, ◌-◌, ◌++◌, false, length, replicate, take};
-ghost use Rattle.chart_rules.specs.Below.card_code.CardCode.{deck_character};
-ghost use Rattle.chart_rules.specs.Below.line_rules.FieldRules.Fields.{fields_of};
+ghost use Rattle.card_code.specs.CardCode.{deck_character};
+ghost use Rattle.chart_line_rules.specs.FieldRules.Fields.{fields_of};
 ghost use Rattle.chart_rules.specs.ValidCard as valid;
 ghost use Rattle.cli_sheets.specs.BadColumns.Columns as law;
 

@@ -2,7 +2,7 @@
 
 ghost use Rattle.std.specs.Prelude.{◌≡◌, ◌++◌, ◌-◌, ◌<◌, ◌≤◌, ◌/◌, ◌%◌, ◌^◌, OnOk, map};
 ghost use Rattle.chart_rules.specs.HelperOnCard.{IsOnCard};
-ghost use Rattle.chart_rules.specs.Below.line_rules.FieldRules.Fields.{fields_of};
+ghost use Rattle.chart_line_rules.specs.FieldRules.Fields.{fields_of};
 ghost use Rattle.report_definition.specs.BodyLines.{text_on};
 ghost use Rattle.report_definition.specs.Edits.{figure, last_digits};
 ghost use Rattle.cli_sheets.specs.SheetsWords.Fields as told;

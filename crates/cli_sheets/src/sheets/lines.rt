@@ -1,7 +1,7 @@
 //! A line of the report, drawn.
 
 ghost use Rattle.std.specs.Prelude.{◌≡◌, ◌++◌, ◌-◌, ℕ, IfOk, OnOk, ◌<◌, ◌+◌, slice_index, true};
-ghost use Rattle.chart_rules.specs.Below.charts.Literals.{literal_in};
+ghost use Rattle.chart_lines.specs.ChartsWords.Literals.{literal_in};
 ghost use Rattle.report_definition.specs.Edits.{marked};
 ghost use Rattle.cli_sheets.specs.SheetsWords.Helper.{over};
 ghost use Rattle.cli_sheets.specs.SheetsWords.Layout as layout;

@@ -2,7 +2,7 @@
 
 ghost use Rattle.std.specs.Prelude.{◌≡◌, ◌++◌, OnOk};
 ghost use Rattle.std.specs.List.{flat_map};
-ghost use Rattle.chart_rules.specs.Below.line_rules.FieldRules.Fields.{fields_of};
+ghost use Rattle.chart_line_rules.specs.FieldRules.Fields.{fields_of};
 ghost use Rattle.cli_sheets.specs.SheetsWords.Marks as marks;
 
 use crate::bad_columns::front_of;

@@ -8,9 +8,9 @@ use Rattle.hubs.specs.declared.hub.Group.{Group}
 use Rattle.hubs.specs.declared.hub.Hub.{Hub}
 use Rattle.hubs.specs.declared.hub.Hub.TheVariants.{FR, SR, GX, SX, EM, BAN, BAT, PIN, PIT, IX, CSD, CSZ}
 use Rattle.machine.specs.Below.counters.Counters.{Counter, counter_closes, counter_number, shows}
-use Rattle.machine.specs.Below.net.HubSets.{is_hub}
-use Rattle.machine.specs.Below.net.Panel.{unit_of}
-use Rattle.machine.specs.Below.print_unit.Emitters.{emits_row, emitter_of}
+use Rattle.net.specs.HubSets.{is_hub}
+use Rattle.net.specs.Panel.{unit_of}
+use Rattle.print_unit.specs.Emitters.{emits_row, emitter_of}
 use Rattle.machine.specs.Below.selectors.Indicate.{indicate_closes}
 use Rattle.machine.specs.Below.selectors.Pilots.{pilots_closes}
 use Rattle.machine.specs.Below.selectors.Splits.{is_digit_row, split_closes}

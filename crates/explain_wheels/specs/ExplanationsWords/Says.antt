@@ -8,8 +8,8 @@ use Rattle.hubs.specs.declared.hub.Group.{Group}
 use Rattle.hubs.specs.declared.hub.Hub.{Hub}
 use Rattle.hubs.specs.declared.hub.Hub.TheVariants.{FR, SR, GX, SX, EM, CO, BAN, BAT, PIN, PIT, IX, CSD, CSZ}
 use Rattle.machine.specs.Below.counters.Counters.{Counter, counter_number, shows}
-use Rattle.machine.specs.Below.net.Panel.{unit_of}
-use Rattle.machine.specs.Below.print_unit.Emitters.{emitter_of}
+use Rattle.net.specs.Panel.{unit_of}
+use Rattle.print_unit.specs.Emitters.{emitter_of}
 use Rattle.machine.specs.Below.selectors.Indicate.{is_latch_set}
 use Rattle.machine.specs.Below.selectors.Pilots.{is_normal, is_transferred}
 use Rattle.machine.specs.Below.selectors.Splits.{is_digit_row}

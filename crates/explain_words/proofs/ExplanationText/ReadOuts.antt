@@ -18,13 +18,13 @@ use Rattle.hubs.specs.Hubs.{number_of}
 use Rattle.hubs.specs.declared.hub.Group.{Group}
 use Rattle.hubs.specs.declared.hub.Hub.{Hub}
 use Rattle.hubs.specs.declared.hub.Hub.TheVariants.{EM, GX, RO}
-use Rattle.machine.specs.Below.counters.Counters.{Counter, counter_emits, counter_number, counter_sensed, shows}
-use Rattle.machine.specs.Below.counters.Laws.{IsCounter, IsDigit}
-use Rattle.machine.specs.Below.net.Panel.{unit_of}
-use Rattle.machine.specs.Below.print_unit.Emitters.{emits_row, emitter_of}
+use Rattle.counters.specs.Counters.{Counter, counter_emits, counter_number, counter_sensed, shows}
+use Rattle.counters.specs.Laws.{IsCounter, IsDigit}
+use Rattle.net.specs.Panel.{unit_of}
+use Rattle.print_unit.specs.Emitters.{emits_row, emitter_of}
 use Rattle.machine.specs.Below.stations.Comparing.{Compared, comparing_emits}
 use Rattle.machine.specs.Below.stations.Stations.{StationCards, stations_emits}
-use Rattle.machine.specs.Below.storage_units.Storage.{StorageState, storage_emits}
+use Rattle.storage_units.specs.Storage.{StorageState, storage_emits}
 use Rattle.machine.specs.Cycles.{PointStep, Reached, point_at}
 use Rattle.machine.specs.Kept.{IsKept, KeepsPoints, kept_at}
 use Rattle.machine.specs.Machine.{MachineState, closes, emits, group_units}

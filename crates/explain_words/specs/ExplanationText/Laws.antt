@@ -8,7 +8,7 @@ use Rattle.explain_wheels.specs.declared.explanations.explanation.Explanation.{E
 use Rattle.hubs.specs.declared.hub.Group.{Group}
 use Rattle.hubs.specs.declared.hub.Hub.{Hub}
 use Rattle.hubs.specs.declared.hub.Hub.TheVariants.{GX, RO}
-use Rattle.machine.specs.Below.counters.Counters.{Counter}
+use Rattle.counters.specs.Counters.{Counter}
 use Rattle.machine.specs.Kept.{kept_at}
 use Rattle.machine.specs.Machine.{MachineState, closes, emits}
 use Rattle.machine.specs.declared.kept.KeptPoint.{KeptPoint}

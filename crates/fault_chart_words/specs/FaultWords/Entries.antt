@@ -2,7 +2,7 @@
 -- it stands; a mark under a word of it; what is wrong; and what helps. All but the first line are indented.
 use Rattle.std.specs.Prelude.{ℕ, ◌==◌, List, [], ◌∷◌, ◌++◌, codes, if◌then◌else◌}
 use Rattle.std.specs.List.{flat_map}
-use Rattle.card_code.specs.Deck.{line_at}
+use Rattle.fault_slips.specs.Below.card_code.Deck.{line_at}
 use Rattle.chart_lines.specs.ChartsWords.Chart.{Chart}
 use Rattle.chart_lines.specs.declared.charts.chart.Line.{Line}
 use Rattle.chart_lines.specs.declared.charts.statement.Field.{Field}

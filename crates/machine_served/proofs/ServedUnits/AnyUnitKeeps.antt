@@ -1,17 +1,17 @@
 -- The units of the machine, as one kind, keep to their own hubs.
 use Rattle.std.proofs.Common.{◌≡◌, ap, Bool, true}
-use Rattle.machine.specs.Below.hubs.declared.hub.Hub.{Hub}
-use Rattle.machine.specs.Below.net.Panel.{owner_of}
-use Rattle.machine.specs.Below.net.declared.cycle.Cycle.{Cycle}
-use Rattle.machine.specs.Below.net.declared.cycle.Point.{Point}
-use Rattle.machine.specs.Below.net.Units.{AgreeOnEntries, KeepsToItsOwn}
-use Rattle.machine.specs.Below.carriage.OwnHubs.{carriage_keeps}
-use Rattle.machine.specs.Below.counters.OwnHubs.{counters_keep}
-use Rattle.machine.specs.Below.print_unit.OwnHubs.{emitters_keep, wheels_keep}
-use Rattle.machine.specs.Below.program_unit.OwnHubs.{program_keeps}
-use Rattle.machine.specs.Below.selectors.OwnHubs.{indicate_keeps, pilots_keep, splits_keep}
-use Rattle.machine.specs.Below.stations.OwnHubs.{comparing_keeps, stations_keep}
-use Rattle.machine.specs.Below.storage_units.OwnHubs.{storage_keeps}
+use Rattle.hubs.specs.declared.hub.Hub.{Hub}
+use Rattle.net.specs.Panel.{owner_of}
+use Rattle.net.specs.declared.cycle.Cycle.{Cycle}
+use Rattle.net.specs.declared.cycle.Point.{Point}
+use Rattle.net.specs.Units.{AgreeOnEntries, KeepsToItsOwn}
+use Rattle.carriage.specs.OwnHubs.{carriage_keeps}
+use Rattle.counters.specs.OwnHubs.{counters_keep}
+use Rattle.print_unit.specs.OwnHubs.{emitters_keep, wheels_keep}
+use Rattle.program_unit.specs.OwnHubs.{program_keeps}
+use Rattle.selectors.specs.OwnHubs.{indicate_keeps, pilots_keep, splits_keep}
+use Rattle.stations.specs.OwnHubs.{comparing_keeps, stations_keep}
+use Rattle.storage_units.specs.OwnHubs.{storage_keeps}
 use Rattle.machine_served.specs.ServedUnits.AnyUnit.{AnyUnit, any_closes, any_emits, any_ended, any_kind, any_number, any_sensed}
 use Rattle.machine_served.specs.ServedUnits.AnyUnit.AnyUnit.{CarriageUnit, ComparingUnit, EmittersUnit, GroupUnit, IndicationUnit, PilotsUnit, ProgramUnit, SplitsUnit, StationsUnit, StorageUnit, WheelsUnit}
 

@@ -5,19 +5,19 @@ use Rattle.std.proofs.lemmas.Bool.{false≢true, or_cases}
 use Rattle.std.proofs.lemmas.List.{ext_get_or, get_or-map, length-map}
 use Rattle.std.proofs.lemmas.List.Folds.{list_any_at}
 use Rattle.std.proofs.lemmas.List.FromFn.{get_or-map-range_with_len, get_or-range_with_len, length-map-range_with_len, length-range_with_len}
-use Rattle.machine.specs.Below.counters.Counters.{Counter, counter_ended, counter_number, counter_sensed}
-use Rattle.machine.specs.Below.hubs.declared.hub.Hub.{Hub}
+use Rattle.counters.specs.Counters.{Counter, counter_ended, counter_number, counter_sensed}
+use Rattle.hubs.specs.declared.hub.Hub.{Hub}
 use Rattle.machine.proofs.UnitOrder.{numbers-kept}
 use Rattle.machine.specs.Fields.{IsInUnitOrder}
 use Rattle.machine.specs.Machine.{MachineState, closes, emits, ended, group_units, sensed}
-use Rattle.machine.specs.Below.net.declared.cycle.Cycle.{Cycle}
-use Rattle.machine.specs.Below.net.declared.cycle.Point.{Point}
+use Rattle.net.specs.declared.cycle.Cycle.{Cycle}
+use Rattle.net.specs.declared.cycle.Point.{Point}
 use Rattle.machine_served.proofs.ServedWords.SomeUnit.{some_unit-found, some_unit-holds}
 use Rattle.machine_served.specs.ServedWords.Units.{IsUnit, all_close, all_emit, some_unit}
 use Rattle.machine_served.proofs.ServedUnits.AnyUnitKeeps.{any-ends_with_number, any-keeps_number}
 use Rattle.machine_served.specs.ServedUnits.AnyUnit.{AnyUnit, AreInOrder, any_closes, any_emits, any_ended, any_kind, any_number, any_sensed, last_units, unit_at, unit_numbers, units_of}
 use Rattle.machine_served.specs.ServedUnits.AnyUnit.AnyUnit.{CarriageUnit, ComparingUnit, EmittersUnit, GroupUnit, IndicationUnit, PilotsUnit, ProgramUnit, SplitsUnit, StationsUnit, StorageUnit, WheelsUnit}
-use Rattle.machine.specs.Below.storage_units.Storage.{StorageState, storage_ended, storage_number, storage_sensed}
+use Rattle.storage_units.specs.Storage.{StorageState, storage_ended, storage_number, storage_sensed}
 
 -- what changes units of one type changes them in a list
 changed-map : {A : Type 0} (made : A → AnyUnit) (one : A → A) (change : AnyUnit → AnyUnit) → ((a : A) → change (made a) ≡ made (one a))

@@ -1,10 +1,10 @@
 -- Machines with the same units are the same.
 use Rattle.std.proofs.Common.{◌≡◌, ◌∙◌, ap, sym, refl, List, [], ◌∷◌, ◌++◌, map}
-use Rattle.machine.specs.Below.counters.Counters.{Counter}
+use Rattle.counters.specs.Counters.{Counter}
 use Rattle.machine.specs.Machine.{MachineState}
 use Rattle.machine_served.specs.ServedUnits.AnyUnit.{AnyUnit, last_units, units_of}
 use Rattle.machine_served.specs.ServedUnits.AnyUnit.AnyUnit.{CarriageUnit, ComparingUnit, EmittersUnit, GroupUnit, IndicationUnit, PilotsUnit, ProgramUnit, SplitsUnit, StationsUnit, StorageUnit, WheelsUnit}
-use Rattle.machine.specs.Below.storage_units.Storage.{StorageState}
+use Rattle.storage_units.specs.Storage.{StorageState}
 
 -- the counter groups among units, the storage units among them, and the others
 groups_in : List AnyUnit → List Counter

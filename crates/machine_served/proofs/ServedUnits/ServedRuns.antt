@@ -2,16 +2,16 @@
 use Rattle.std.proofs.Common.{◌≡◌, ◌∙◌, ap, sym, refl, ℕ, zero, suc, ◌+◌, Bool, List, [], ◌∷◌, map, subst}
 use Rattle.std.proofs.Math.Numerals.{add-one}
 use Rattle.std.proofs.lemmas.Simd.{map-map}
-use Rattle.machine.specs.Below.hubs.declared.hub.Hub.{Hub}
+use Rattle.hubs.specs.declared.hub.Hub.{Hub}
 use Rattle.machine.proofs.OneOutcome.{CycleRun-one}
 use Rattle.machine.specs.Cycles.{CycleRun, Reached, point_at}
 use Rattle.machine.specs.Machine.{MachineState, closes, emits, ended, machine_at_start, sensed}
 use Rattle.machine.specs.Runs.{InRun, RunsBy, cards_moved, made_ready, run_at_start}
-use Rattle.machine.proofs.Below.net.EachPicture.{each_picture}
-use Rattle.machine.specs.Below.net.Impulsed.{IsPicture}
-use Rattle.machine.specs.Below.net.declared.cycle.Cycle.{Cycle}
-use Rattle.machine.specs.Below.net.declared.cycle.Cycle.TheVariants.{RunIn, Card, Prog, Head}
-use Rattle.machine.specs.Below.page_text.declared.placed_lines.placed_line.PlacedLine.{PlacedLine}
+use Rattle.net.proofs.EachPicture.{each_picture}
+use Rattle.net.specs.Impulsed.{IsPicture}
+use Rattle.net.specs.declared.cycle.Cycle.{Cycle}
+use Rattle.net.specs.declared.cycle.Cycle.TheVariants.{RunIn, Card, Prog, Head}
+use Rattle.page_text.specs.declared.placed_lines.placed_line.PlacedLine.{PlacedLine}
 use Rattle.machine_served.proofs.ServedWords.FirstPass.{impulsed_grows}
 use Rattle.machine_served.proofs.ServedWords.Kept.{schedules_end}
 use Rattle.machine_served.proofs.ServedWords.SomeSteps.{units_go}
@@ -25,7 +25,7 @@ use Rattle.machine_served.proofs.ServedUnits.SameUnits.{same_units}
 use Rattle.machine_served.specs.ServedUnits.AnyUnit.{AnyUnit, AreInOrder, any_ended, any_kind, unit_at, unit_numbers, units_of}
 use Rattle.machine_served.specs.ServedUnits.Laws.{ServedCyclesAreCycles, ServedRunsPrintTheSame}
 use Rattle.machine_served.specs.ServedUnits.Runs.{ServedCycle}
-use Rattle.machine.specs.Below.setups.Wiring.{Wiring}
+use Rattle.hubs.specs.SetupsWords.Wiring.{Wiring}
 
 -- the picture of the same exits and contacts is the same
 same_picture : (wiring : Wiring) (exits closed others also picture : Hub → Bool) → ((hub : Hub) → others hub ≡ exits hub)

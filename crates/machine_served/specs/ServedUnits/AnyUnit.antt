@@ -1,30 +1,30 @@
 -- The machine's 45 units as units of one kind: a unit in its state, of whichever type it is.
 use Rattle.std.specs.Prelude.{◌≡◌, ℕ, ◌-◌, Bool, List, [], ◌∷◌, ◌++◌, map, slice_index_or}
 use Rattle.std.specs.List.{range_with_len}
-use Rattle.machine.specs.Below.carriage.Carriage.{CarriageState}
-use Rattle.machine.specs.Below.counters.Counters.{Counter}
-use Rattle.machine.specs.Below.hubs.declared.hub.Hub.{Hub}
+use Rattle.carriage.specs.Carriage.{CarriageState}
+use Rattle.counters.specs.Counters.{Counter}
+use Rattle.hubs.specs.declared.hub.Hub.{Hub}
 use Rattle.machine.specs.Machine.{MachineState}
-use Rattle.machine.specs.Below.net.declared.cycle.Cycle.{Cycle}
-use Rattle.machine.specs.Below.net.declared.cycle.Point.{Point}
-use Rattle.machine.specs.Below.print_unit.Wheels.{WheelsState}
-use Rattle.machine.specs.Below.print_unit.declared.emitters.Emitters.{Emitters}
-use Rattle.machine.specs.Below.program_unit.Program.{ProgramState}
-use Rattle.machine.specs.Below.selectors.Indicate.{Latches}
-use Rattle.machine.specs.Below.selectors.Pilots.{PilotStates}
-use Rattle.machine.specs.Below.selectors.declared.splits.Splits.{Splits}
+use Rattle.net.specs.declared.cycle.Cycle.{Cycle}
+use Rattle.net.specs.declared.cycle.Point.{Point}
+use Rattle.print_unit.specs.Wheels.{WheelsState}
+use Rattle.print_unit.specs.declared.emitters.Emitters.{Emitters}
+use Rattle.program_unit.specs.Program.{ProgramState}
+use Rattle.selectors.specs.Indicate.{Latches}
+use Rattle.selectors.specs.Pilots.{PilotStates}
+use Rattle.selectors.specs.declared.splits.Splits.{Splits}
 use Rattle.machine_served.specs.ServedWords.Orders.{unit_count}
-use Rattle.machine.specs.Below.net.Units.{Kind}
-use Rattle.machine.specs.Below.carriage.Kinds.{carriage_kind}
-use Rattle.machine.specs.Below.counters.Kinds.{counter_kind}
-use Rattle.machine.specs.Below.print_unit.Kinds.{emitters_kind, wheels_kind}
-use Rattle.machine.specs.Below.program_unit.Kinds.{program_kind}
-use Rattle.machine.specs.Below.selectors.Kinds.{indicate_kind, pilots_kind, splits_kind}
-use Rattle.machine.specs.Below.stations.Kinds.{comparing_kind, stations_kind}
-use Rattle.machine.specs.Below.storage_units.Kinds.{storage_kind}
-use Rattle.machine.specs.Below.stations.Comparing.{Compared}
-use Rattle.machine.specs.Below.stations.Stations.{StationCards}
-use Rattle.machine.specs.Below.storage_units.Storage.{StorageState}
+use Rattle.net.specs.Units.{Kind}
+use Rattle.carriage.specs.Kinds.{carriage_kind}
+use Rattle.counters.specs.Kinds.{counter_kind}
+use Rattle.print_unit.specs.Kinds.{emitters_kind, wheels_kind}
+use Rattle.program_unit.specs.Kinds.{program_kind}
+use Rattle.selectors.specs.Kinds.{indicate_kind, pilots_kind, splits_kind}
+use Rattle.stations.specs.Kinds.{comparing_kind, stations_kind}
+use Rattle.storage_units.specs.Kinds.{storage_kind}
+use Rattle.stations.specs.Comparing.{Compared}
+use Rattle.stations.specs.Stations.{StationCards}
+use Rattle.storage_units.specs.Storage.{StorageState}
 
 -- a unit of the machine in its state
 pub data AnyUnit : Type 0 where

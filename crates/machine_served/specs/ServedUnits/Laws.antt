@@ -3,11 +3,11 @@ use Rattle.std.specs.Prelude.{◌↔◌, ℕ, List}
 use Rattle.machine.specs.Cycles.{CycleRun}
 use Rattle.machine.specs.Machine.{MachineState}
 use Rattle.machine.specs.Runs.{MachineLines}
-use Rattle.machine.specs.Below.net.declared.cycle.Cycle.{Cycle}
-use Rattle.machine.specs.Below.page_text.declared.placed_lines.placed_line.PlacedLine.{PlacedLine}
+use Rattle.net.specs.declared.cycle.Cycle.{Cycle}
+use Rattle.page_text.specs.declared.placed_lines.placed_line.PlacedLine.{PlacedLine}
 use Rattle.machine_served.specs.ServedUnits.AnyUnit.{AreInOrder}
 use Rattle.machine_served.specs.ServedUnits.Runs.{ServedCycle, ServedLines}
-use Rattle.machine.specs.Below.setups.Wiring.{Wiring}
+use Rattle.hubs.specs.SetupsWords.Wiring.{Wiring}
 
 -- The cycles by schedules are the cycles of the machine in which all units act at once.
 abbrev pub ServedCyclesAreCycles : Type 0

@@ -2,12 +2,12 @@
 use Rattle.std.specs.Prelude.{◌≡◌, ℕ, List, map}
 use Rattle.machine.specs.Machine.{MachineState}
 use Rattle.machine.specs.Runs.{RunsBy, run_at_start}
-use Rattle.machine.specs.Below.net.declared.cycle.Cycle.{Cycle}
-use Rattle.machine.specs.Below.page_text.declared.placed_lines.placed_line.PlacedLine.{PlacedLine}
+use Rattle.net.specs.declared.cycle.Cycle.{Cycle}
+use Rattle.page_text.specs.declared.placed_lines.placed_line.PlacedLine.{PlacedLine}
 use Rattle.machine_served.specs.ServedWords.Laws.{GoesBySteps}
 use Rattle.machine_served.specs.ServedWords.Orders.{unit_count}
 use Rattle.machine_served.specs.ServedUnits.AnyUnit.{any_ended, any_kind, unit_at, unit_numbers, units_of}
-use Rattle.machine.specs.Below.setups.Wiring.{Wiring}
+use Rattle.hubs.specs.SetupsWords.Wiring.{Wiring}
 
 -- A cycle by a schedule: its steps are taken one after another until all units have sensed at the closing point, and then each unit
 -- ends the cycle.

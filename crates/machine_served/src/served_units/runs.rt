@@ -1,6 +1,6 @@
 //! Runs in which the units run ahead of one another. Each function does nothing: its contract is the law.
 
-ghost use Rattle.machine.specs.Below.net.Units.{KeepsToItsOwn};
+ghost use Rattle.net.specs.Units.{KeepsToItsOwn};
 ghost use Rattle.machine_served.specs.ServedUnits.AnyUnit.{any_kind};
 ghost use Rattle.machine_served.specs.ServedUnits.Laws.{ServedCyclesAreCycles, ServedRunsPrintTheSame};
 

@@ -2,21 +2,21 @@
 use Rattle.std.proofs.Common.{◌≡◌, ◌∙◌, ◌==◌, refl, sym, ap, inl, inr, ◌&&◌, ◌||◌, not, Bool, true, false, Some}
 use Rattle.std.specs.List.{list_any}
 use Rattle.std.proofs.lemmas.Bool.{and_from, and_parts, and_right, false≢true, or_cases, or_left}
-use Rattle.machine.proofs.Below.counters.Rings.{groups-round, pairs-coupled}
-use Rattle.machine.specs.Below.counters.Counters.{Counter, counter_closes, counter_emits, counter_number, wheels_in}
-use Rattle.machine.specs.Below.counters.Wheels.{all_nines, carries_out}
-use Rattle.machine.specs.Below.setups.Wiring.{HasWire}
-use Rattle.machine.specs.Below.hubs.declared.hub.Group.{Group}
-use Rattle.machine.specs.Below.hubs.declared.hub.Hub.{Hub}
-use Rattle.machine.specs.Below.hubs.declared.hub.Hub.TheVariants.{BAN, BAT, CI, CO}
-use Rattle.machine.proofs.Below.net.ImpulsedLaws.{impulsed_more}
-use Rattle.machine.specs.Below.net.HubSets.{is_hub}
-use Rattle.machine.specs.Below.net.Impulsed.{IsImpulsed}
-use Rattle.machine.specs.Below.net.Impulsed.IsImpulsed.{emitting, led_on}
-use Rattle.machine.specs.Below.net.Panel.{contact_of, unit_of}
-use Rattle.machine.specs.Below.net.declared.cycle.Cycle.{Cycle}
-use Rattle.machine.specs.Below.net.declared.cycle.Point.{Point}
-use Rattle.machine.specs.Below.net.declared.cycle.Point.TheVariants.{K}
+use Rattle.counters.proofs.Rings.{groups-round, pairs-coupled}
+use Rattle.counters.specs.Counters.{Counter, counter_closes, counter_emits, counter_number, wheels_in}
+use Rattle.counters.specs.Wheels.{all_nines, carries_out}
+use Rattle.hubs.specs.SetupsWords.Wiring.{HasWire}
+use Rattle.hubs.specs.declared.hub.Group.{Group}
+use Rattle.hubs.specs.declared.hub.Hub.{Hub}
+use Rattle.hubs.specs.declared.hub.Hub.TheVariants.{BAN, BAT, CI, CO}
+use Rattle.net.proofs.ImpulsedLaws.{impulsed_more}
+use Rattle.net.specs.HubSets.{is_hub}
+use Rattle.net.specs.Impulsed.{IsImpulsed}
+use Rattle.net.specs.Impulsed.IsImpulsed.{emitting, led_on}
+use Rattle.net.specs.Panel.{contact_of, unit_of}
+use Rattle.net.specs.declared.cycle.Cycle.{Cycle}
+use Rattle.net.specs.declared.cycle.Point.{Point}
+use Rattle.net.specs.declared.cycle.Point.TheVariants.{K}
 use Rattle.machine.specs.Below.selectors.Indicate.{indicate_closes}
 use Rattle.machine.specs.Below.selectors.Pilots.{pilots_closes}
 use Rattle.machine.specs.Below.selectors.Splits.{splits_closes}

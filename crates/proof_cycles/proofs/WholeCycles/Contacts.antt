@@ -1,14 +1,14 @@
 -- The ways of an impulse where no wire leads from one contact to the next.
 use Rattle.std.proofs.Common.{◌≡◌, ◌∙◌, sym, ap, refl, inl, inr, Bool, true, false, Some, is_some}
 use Rattle.std.proofs.lemmas.Bool.{false≢true}
-use Rattle.machine.specs.Below.hubs.Hubs.{is_hub_in_range}
-use Rattle.machine.specs.Below.setups.Wiring.{HasWire, Wiring}
-use Rattle.machine.specs.Below.hubs.declared.hub.Hub.{Hub}
-use Rattle.machine.specs.Below.hubs.declared.hub.Hub.TheVariants.{BAN, BAC, CO, PIC, IE, CSE}
-use Rattle.machine.specs.Below.net.Impulsed.{IsImpulsed}
-use Rattle.machine.specs.Below.net.Impulsed.IsImpulsed.{emitting, led_on}
-use Rattle.machine.specs.Below.net.Panel.{contact_of}
-use Rattle.machine.proofs.Below.net.ImpulsedLaws.{no_exit_is_entry}
+use Rattle.hubs.specs.Hubs.{is_hub_in_range}
+use Rattle.hubs.specs.SetupsWords.Wiring.{HasWire, Wiring}
+use Rattle.hubs.specs.declared.hub.Hub.{Hub}
+use Rattle.hubs.specs.declared.hub.Hub.TheVariants.{BAN, BAC, CO, PIC, IE, CSE}
+use Rattle.net.specs.Impulsed.{IsImpulsed}
+use Rattle.net.specs.Impulsed.IsImpulsed.{emitting, led_on}
+use Rattle.net.specs.Panel.{contact_of}
+use Rattle.net.proofs.ImpulsedLaws.{no_exit_is_entry}
 use Rattle.proof_cycles.specs.WholeCycles.Laws.{ContactsAreOneDeep}
 use Rattle.proof_cycles.specs.WholeCycles.OneContactDeep.{is_common, AreCarriesOpen, IsOneContactDeep, IsWithinOneContact, NoCommonEmits}
 use Rattle.proof_cycles.specs.WholeCycles.OneContactDeep.IsWithinOneContact.{emits, wired, through, after}

@@ -1,9 +1,9 @@
 -- The machine after some points, unit by unit.
 use Rattle.std.proofs.Common.{◌≡◌, ◌∙◌, sym, ap, refl, Bool, List, [], ◌∷◌, map}
-use Rattle.machine.specs.Below.counters.Counters.{Counter, counter_sensed}
-use Rattle.machine.specs.Below.hubs.declared.hub.Hub.{Hub}
-use Rattle.machine.specs.Below.net.declared.cycle.Cycle.{Cycle}
-use Rattle.machine.specs.Below.net.declared.cycle.Point.{Point}
+use Rattle.counters.specs.Counters.{Counter, counter_sensed}
+use Rattle.hubs.specs.declared.hub.Hub.{Hub}
+use Rattle.net.specs.declared.cycle.Cycle.{Cycle}
+use Rattle.net.specs.declared.cycle.Point.{Point}
 use Rattle.machine.specs.Below.carriage.Carriage.{CarriageState, carriage_sensed}
 use Rattle.machine.specs.Below.print_unit.Wheels.{WheelsState, wheels_sensed}
 use Rattle.machine.specs.Below.program_unit.Program.{ProgramState, program_sensed}

@@ -4,12 +4,12 @@ use Rattle.std.specs.List.{list_any}
 use Rattle.std.proofs.lemmas.Bool.Decides.{nat_tests}
 use Rattle.std.proofs.lemmas.List.{get_or-map, length-map}
 use Rattle.std.proofs.Math.Bool.{or-false}
-use Rattle.machine.proofs.Below.hubs.HubLemmas.{number_of-injective}
-use Rattle.machine.specs.Below.hub_table.Places.{group_place, is_width}
-use Rattle.machine.specs.Below.hub_table.Ranges.{is_within}
-use Rattle.machine.specs.Below.hubs.declared.hub.Group.{Group}
-use Rattle.machine.specs.Below.hubs.declared.hub.Hub.TheVariants.{PL}
-use Rattle.machine.specs.Below.net.Panel.{unit_after, unit_of}
+use Rattle.hubs.proofs.HubLemmas.{number_of-injective}
+use Rattle.hubs.specs.HubTable.Places.{group_place, is_width}
+use Rattle.hubs.specs.HubTable.Ranges.{is_within}
+use Rattle.hubs.specs.declared.hub.Group.{Group}
+use Rattle.hubs.specs.declared.hub.Hub.TheVariants.{PL}
+use Rattle.net.specs.Panel.{unit_after, unit_of}
 use Rattle.proof_cycles.specs.WholeCycles.Units.{IsGroup}
 
 -- where a test holds of no other place, it is told by one

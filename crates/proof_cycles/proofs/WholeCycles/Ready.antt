@@ -3,11 +3,11 @@ use Rattle.std.proofs.Common.{◌≡◌, ◌∙◌, sym, ap, refl, ℕ, Bool, tr
 use Rattle.std.specs.List.{range_with_len}
 use Rattle.machine.specs.Below.carriage.Carriage.{CarriageState}
 use Rattle.machine.specs.Below.page_text.declared.placed_lines.placed_line.PlacedLine.{PlacedLine}
-use Rattle.machine.specs.Below.setups.Wiring.{Wiring}
-use Rattle.machine.specs.Below.hubs.declared.hub.Hub.{Hub}
-use Rattle.machine.specs.Below.net.declared.cycle.Cycle.{Cycle}
-use Rattle.machine.specs.Below.net.declared.cycle.Cycle.TheVariants.{RunIn, Card, Prog, Head}
-use Rattle.machine.specs.Below.net.declared.cycle.Point.TheVariants.{K}
+use Rattle.hubs.specs.SetupsWords.Wiring.{Wiring}
+use Rattle.hubs.specs.declared.hub.Hub.{Hub}
+use Rattle.net.specs.declared.cycle.Cycle.{Cycle}
+use Rattle.net.specs.declared.cycle.Cycle.TheVariants.{RunIn, Card, Prog, Head}
+use Rattle.net.specs.declared.cycle.Point.TheVariants.{K}
 use Rattle.machine.specs.Below.print_unit.Wheels.{emptied, wheel_at_start}
 use Rattle.machine.specs.Below.program_unit.CycleOrder.{is_fresh}
 use Rattle.machine.specs.Below.program_unit.Program.{ProgramState, program_ended, program_sensed}

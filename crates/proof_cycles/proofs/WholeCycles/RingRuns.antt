@@ -2,22 +2,22 @@
 use Rattle.std.proofs.Common.{◌≡◌, ◌∙◌, refl, sym, ap, subst, ℕ, ◌↔◌, ◌&&◌, ◌||◌, ◌==◌, not, Bool, true, false, List, [], ◌∷◌, Option, Some, None, inl, inr, map, if◌then◌else◌}
 use Rattle.std.specs.List.{list_any}
 use Rattle.std.proofs.lemmas.Bool.{and_parts, false≢true}
-use Rattle.machine.specs.Below.card_code.Rows.{rows, row_number}
-use Rattle.machine.specs.Below.card_code.declared.row.Row.{Row as CardRow}
+use Rattle.card_code.specs.Rows.{rows, row_number}
+use Rattle.card_code.specs.declared.row.Row.{Row as CardRow}
 use Rattle.machine.specs.Below.carriage.Carriage.{carriage_sensed, carriage_ended}
-use Rattle.machine.specs.Below.counters.Counters.{Counter, shows}
-use Rattle.machine.specs.Below.hub_table.Ranges.{is_within}
+use Rattle.counters.specs.Counters.{Counter, shows}
+use Rattle.hubs.specs.HubTable.Ranges.{is_within}
 use Rattle.machine.specs.Below.page_text.declared.placed_lines.placed_line.PlacedLine.{PlacedLine}
-use Rattle.machine.specs.Below.setups.Wiring.{HasWire, LeadsToEntries, Wiring, is_wired}
-use Rattle.machine.specs.Below.hubs.Hubs.{carry_into, carry_out_of, is_entry_hub}
-use Rattle.machine.specs.Below.hubs.declared.hub.Hub.{Hub}
-use Rattle.machine.specs.Below.hubs.declared.hub.Hub.TheVariants.{CA, CB, CI, CO, CX, RO, SO, SX}
-use Rattle.machine.specs.Below.net.Impulsed.{IsImpulsed, IsPicture}
-use Rattle.machine.specs.Below.net.Impulsed.IsImpulsed.{emitting, led_on}
-use Rattle.machine.specs.Below.net.declared.cycle.Cycle.{Cycle}
-use Rattle.machine.specs.Below.net.declared.cycle.Cycle.TheVariants.{RunIn, Card, Prog, Head}
-use Rattle.machine.specs.Below.net.declared.cycle.Point.{Point}
-use Rattle.machine.specs.Below.net.declared.cycle.Point.TheVariants.{C, Row, K}
+use Rattle.hubs.specs.SetupsWords.Wiring.{HasWire, LeadsToEntries, Wiring, is_wired}
+use Rattle.hubs.specs.Hubs.{carry_into, carry_out_of, is_entry_hub}
+use Rattle.hubs.specs.declared.hub.Hub.{Hub}
+use Rattle.hubs.specs.declared.hub.Hub.TheVariants.{CA, CB, CI, CO, CX, RO, SO, SX}
+use Rattle.net.specs.Impulsed.{IsImpulsed, IsPicture}
+use Rattle.net.specs.Impulsed.IsImpulsed.{emitting, led_on}
+use Rattle.net.specs.declared.cycle.Cycle.{Cycle}
+use Rattle.net.specs.declared.cycle.Cycle.TheVariants.{RunIn, Card, Prog, Head}
+use Rattle.net.specs.declared.cycle.Point.{Point}
+use Rattle.net.specs.declared.cycle.Point.TheVariants.{C, Row, K}
 use Rattle.machine.specs.Below.print_unit.ZeroControl.{printed_line, has_zero_control}
 use Rattle.machine.specs.Below.program_unit.Program.{ProgramState, program_sensed, program_ended}
 use Rattle.machine.specs.Below.selectors.Pilots.{PilotStates}

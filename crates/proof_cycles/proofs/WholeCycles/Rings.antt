@@ -3,19 +3,19 @@ use Rattle.std.proofs.Common.{◌≡◌, ◌∙◌, refl, sym, ap, subst, ℕ, z
 use Rattle.std.proofs.lemmas.Bool.{and_parts, false≢true}
 use Rattle.std.proofs.lemmas.Bool.Decides.{nat_tests}
 use Rattle.std.proofs.lemmas.List.FromFn.{get_or-range_with_len}
-use Rattle.machine.specs.Below.counters.Counters.{Counter, counter_number, counter_of, counter_ended, top_is_nine, wheels_in}
-use Rattle.machine.specs.Below.counters.Rings.{IsFedAlone}
-use Rattle.machine.specs.Below.counters.Wheels.{carries_in, turned}
-use Rattle.machine.specs.Below.counters.WholeCycles as counters
-use Rattle.machine.specs.Below.counters.WholeCycles.{ComesRound}
-use Rattle.machine.specs.Below.setups.Wiring.{LeadsToEntries, Wiring, is_wired}
-use Rattle.machine.specs.Below.hubs.Hubs.{carry_into, carry_out_of, is_exit_hub}
-use Rattle.machine.specs.Below.hubs.declared.hub.Group.{Group}
-use Rattle.machine.specs.Below.hubs.declared.hub.Hub.{Hub}
-use Rattle.machine.specs.Below.hubs.declared.hub.Hub.TheVariants.{CI, CO}
-use Rattle.machine.specs.Below.net.Panel.{unit_of}
-use Rattle.machine.specs.Below.net.declared.cycle.Cycle.{Cycle}
-use Rattle.machine.specs.Below.net.declared.cycle.Point.TheVariants.{K}
+use Rattle.counters.specs.Counters.{Counter, counter_number, counter_of, counter_ended, top_is_nine, wheels_in}
+use Rattle.counters.specs.Rings.{IsFedAlone}
+use Rattle.counters.specs.Wheels.{carries_in, turned}
+use Rattle.counters.specs.WholeCycles as counters
+use Rattle.counters.specs.WholeCycles.{ComesRound}
+use Rattle.hubs.specs.SetupsWords.Wiring.{LeadsToEntries, Wiring, is_wired}
+use Rattle.hubs.specs.Hubs.{carry_into, carry_out_of, is_exit_hub}
+use Rattle.hubs.specs.declared.hub.Group.{Group}
+use Rattle.hubs.specs.declared.hub.Hub.{Hub}
+use Rattle.hubs.specs.declared.hub.Hub.TheVariants.{CI, CO}
+use Rattle.net.specs.Panel.{unit_of}
+use Rattle.net.specs.declared.cycle.Cycle.{Cycle}
+use Rattle.net.specs.declared.cycle.Point.TheVariants.{K}
 use Rattle.machine.specs.Machine.{MachineState, group_units}
 use Rattle.proof_cycles.specs.WholeCycles.Between.{IsBetween, IsIdle}
 use Rattle.proof_cycles.specs.WholeCycles.Carries.{CarriesLeadToCarries, is_carry}

@@ -4,21 +4,21 @@ use Rattle.std.specs.List.{All, range_with_len}
 use Rattle.std.proofs.lemmas.List.{length-map, length-set}
 use Rattle.std.proofs.lemmas.List.Elements.{All-from_get_or, All-map, All-same}
 use Rattle.std.proofs.lemmas.List.FromFn.{get_or-range_with_len, length-map-range_with_len}
-use Rattle.machine.specs.Below.card_code.Rows.{passing_place}
-use Rattle.machine.specs.Below.card_code.declared.row.Row.TheVariants.{Eleven}
-use Rattle.machine.proofs.Below.counters.EarliestRows.{points-stay}
-use Rattle.machine.proofs.Below.counters.Staying.{counters-stay}
-use Rattle.machine.specs.Below.counters.Counters.{Counter, counter_at_start, counter_number, counter_sensed}
-use Rattle.machine.specs.Below.counters.WholeCycles as counters
-use Rattle.machine.specs.Below.setups.Wiring.{Wiring}
-use Rattle.machine.specs.Below.hubs.declared.hub.Hub.{Hub}
-use Rattle.machine.specs.Below.hubs.declared.hub.Hub.TheVariants.{PIX}
-use Rattle.machine.specs.Below.net.Cycles.{points}
-use Rattle.machine.specs.Below.net.WholeCycles.{after_points}
-use Rattle.machine.specs.Below.net.declared.cycle.Cycle.{Cycle}
-use Rattle.machine.specs.Below.net.declared.cycle.Cycle.TheVariants.{RunIn, Card, Prog, Head}
-use Rattle.machine.specs.Below.net.declared.cycle.Point.{Point}
-use Rattle.machine.specs.Below.net.declared.cycle.Point.TheVariants.{C, Row, K}
+use Rattle.card_code.specs.Rows.{passing_place}
+use Rattle.card_code.specs.declared.row.Row.TheVariants.{Eleven}
+use Rattle.counters.proofs.EarliestRows.{points-stay}
+use Rattle.counters.proofs.Staying.{counters-stay}
+use Rattle.counters.specs.Counters.{Counter, counter_at_start, counter_number, counter_sensed}
+use Rattle.counters.specs.WholeCycles as counters
+use Rattle.hubs.specs.SetupsWords.Wiring.{Wiring}
+use Rattle.hubs.specs.declared.hub.Hub.{Hub}
+use Rattle.hubs.specs.declared.hub.Hub.TheVariants.{PIX}
+use Rattle.net.specs.Cycles.{points}
+use Rattle.net.specs.WholeCycles.{after_points}
+use Rattle.net.specs.declared.cycle.Cycle.{Cycle}
+use Rattle.net.specs.declared.cycle.Cycle.TheVariants.{RunIn, Card, Prog, Head}
+use Rattle.net.specs.declared.cycle.Point.{Point}
+use Rattle.net.specs.declared.cycle.Point.TheVariants.{C, Row, K}
 use Rattle.machine.specs.Below.print_unit.Wheels.{emptied, wheel_at_start}
 use Rattle.machine.specs.Below.print_unit.ZeroControl.{Wheel}
 use Rattle.machine.specs.Below.selectors.Numbered.{tests_to}

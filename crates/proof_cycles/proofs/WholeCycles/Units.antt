@@ -4,24 +4,24 @@ use Rattle.std.proofs.lemmas.Bool.{and_right}
 use Rattle.std.proofs.lemmas.Bool.Decides.{nat_tests}
 use Rattle.std.proofs.lemmas.List.{get_or-map}
 use Rattle.std.proofs.lemmas.List.FromFn.{get_or-range_with_len}
-use Rattle.machine.specs.Below.card_code.Rows.{row_number}
-use Rattle.machine.specs.Below.card_code.declared.row.Row.{Row as CardRow}
-use Rattle.machine.specs.Below.counters.Counters.{Counter, counter_at_start, counter_closes, counter_emits, counter_number, counter_of, group_of_unit, shows, wheels_in}
-use Rattle.machine.specs.Below.counters.Wheels.{all_nines, carries_out}
-use Rattle.machine.specs.Below.counters.WholeCycles as counters
-use Rattle.machine.specs.Below.hub_table.Ranges.{is_within}
-use Rattle.machine.specs.Below.hubs.Hubs.{is_hub_in_range, number_of}
-use Rattle.machine.specs.Below.hub_table.Places.{group_place}
-use Rattle.machine.specs.Below.setups.Wiring.{Wiring}
-use Rattle.machine.specs.Below.hubs.declared.hub.Group.{Group}
-use Rattle.machine.specs.Below.hubs.declared.hub.Hub.{Hub}
-use Rattle.machine.specs.Below.hubs.declared.hub.Hub.TheVariants.{CX, GX, CO, CI, BAN, BAT, SX, RO, SO}
-use Rattle.machine.specs.Below.net.HubSets.{is_hub, is_same_number}
-use Rattle.machine.specs.Below.net.Panel.{unit_of}
-use Rattle.machine.specs.Below.net.declared.cycle.Cycle.{Cycle}
-use Rattle.machine.specs.Below.net.declared.cycle.Cycle.TheVariants.{Card}
-use Rattle.machine.specs.Below.net.declared.cycle.Point.{Point}
-use Rattle.machine.specs.Below.net.declared.cycle.Point.TheVariants.{C, K}
+use Rattle.card_code.specs.Rows.{row_number}
+use Rattle.card_code.specs.declared.row.Row.{Row as CardRow}
+use Rattle.counters.specs.Counters.{Counter, counter_at_start, counter_closes, counter_emits, counter_number, counter_of, group_of_unit, shows, wheels_in}
+use Rattle.counters.specs.Wheels.{all_nines, carries_out}
+use Rattle.counters.specs.WholeCycles as counters
+use Rattle.hubs.specs.HubTable.Ranges.{is_within}
+use Rattle.hubs.specs.Hubs.{is_hub_in_range, number_of}
+use Rattle.hubs.specs.HubTable.Places.{group_place}
+use Rattle.hubs.specs.SetupsWords.Wiring.{Wiring}
+use Rattle.hubs.specs.declared.hub.Group.{Group}
+use Rattle.hubs.specs.declared.hub.Hub.{Hub}
+use Rattle.hubs.specs.declared.hub.Hub.TheVariants.{CX, GX, CO, CI, BAN, BAT, SX, RO, SO}
+use Rattle.net.specs.HubSets.{is_hub, is_same_number}
+use Rattle.net.specs.Panel.{unit_of}
+use Rattle.net.specs.declared.cycle.Cycle.{Cycle}
+use Rattle.net.specs.declared.cycle.Cycle.TheVariants.{Card}
+use Rattle.net.specs.declared.cycle.Point.{Point}
+use Rattle.net.specs.declared.cycle.Point.TheVariants.{C, K}
 use Rattle.machine.specs.Below.storage_units.Storage.{StorageState, holds, storage_at_start, storage_number}
 use Rattle.machine.specs.Below.storage_units.WholeCycles as columns
 use Rattle.machine.specs.Machine.{MachineState, group_units, machine_at_start, storage_units}

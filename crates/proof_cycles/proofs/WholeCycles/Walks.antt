@@ -3,13 +3,13 @@ use Rattle.std.proofs.Common.{◌≡◌, ◌∙◌, sym, ap, subst, ℕ, zero, s
 use Rattle.std.proofs.Math.ListN.{get_or-map}
 use Rattle.std.proofs.lemmas.Bool.Decides.{nat_tests}
 use Rattle.std.proofs.lemmas.List.FromFn.{get_or-range_with_len}
-use Rattle.machine.specs.Below.card_code.Rows.{rows, passing_place}
-use Rattle.machine.specs.Below.card_code.declared.row.Row.{Row as CardRow}
-use Rattle.machine.specs.Below.card_code.declared.row.Row.TheVariants.{Zero, One, Two, Three, Four, Five, Six, Seven, Eight, Nine, Eleven, Twelve}
-use Rattle.machine.specs.Below.hubs.declared.hub.Hub.{Hub}
-use Rattle.machine.specs.Below.net.Cycles.{points}
-use Rattle.machine.specs.Below.net.declared.cycle.Point.{Point}
-use Rattle.machine.specs.Below.net.declared.cycle.Point.TheVariants.{C, Row, K}
+use Rattle.card_code.specs.Rows.{rows, passing_place}
+use Rattle.card_code.specs.declared.row.Row.{Row as CardRow}
+use Rattle.card_code.specs.declared.row.Row.TheVariants.{Zero, One, Two, Three, Four, Five, Six, Seven, Eight, Nine, Eleven, Twelve}
+use Rattle.hubs.specs.declared.hub.Hub.{Hub}
+use Rattle.net.specs.Cycles.{points}
+use Rattle.net.specs.declared.cycle.Point.{Point}
+use Rattle.net.specs.declared.cycle.Point.TheVariants.{C, Row, K}
 use Rattle.machine.specs.Cycles.{point_at}
 
 -- what a state becomes by the pictures of some points, one after another

@@ -1,17 +1,17 @@
 -- A cycle, point by point, is a whole cycle.
 use Rattle.std.proofs.Common.{◌≡◌, ◌∙◌, ap, refl, sym, subst, ℕ, zero, suc, Bool, ◌∷◌, map}
-use Rattle.machine.specs.Below.card_code.Rows.{rows}
+use Rattle.card_code.specs.Rows.{rows}
 use Rattle.machine.specs.Below.carriage.Carriage.{CarriageState, carriage_ended}
-use Rattle.machine.specs.Below.counters.Counters.{counter_ended}
-use Rattle.machine.specs.Below.counters.WholeCycles.{after_its_points}
-use Rattle.machine.specs.Below.setups.Wiring.{Wiring}
-use Rattle.machine.specs.Below.hubs.declared.hub.Hub.{Hub}
-use Rattle.machine.specs.Below.net.Cycles.{points}
-use Rattle.machine.specs.Below.net.Impulsed.{IsPicture}
-use Rattle.machine.specs.Below.net.declared.cycle.Cycle.{Cycle}
-use Rattle.machine.specs.Below.net.declared.cycle.Cycle.TheVariants.{RunIn}
-use Rattle.machine.specs.Below.net.declared.cycle.Point.{Point}
-use Rattle.machine.specs.Below.net.declared.cycle.Point.TheVariants.{C, Row, K}
+use Rattle.counters.specs.Counters.{counter_ended}
+use Rattle.counters.specs.WholeCycles.{after_its_points}
+use Rattle.hubs.specs.SetupsWords.Wiring.{Wiring}
+use Rattle.hubs.specs.declared.hub.Hub.{Hub}
+use Rattle.net.specs.Cycles.{points}
+use Rattle.net.specs.Impulsed.{IsPicture}
+use Rattle.net.specs.declared.cycle.Cycle.{Cycle}
+use Rattle.net.specs.declared.cycle.Cycle.TheVariants.{RunIn}
+use Rattle.net.specs.declared.cycle.Point.{Point}
+use Rattle.net.specs.declared.cycle.Point.TheVariants.{C, Row, K}
 use Rattle.machine.specs.Below.print_unit.Wheels.{WheelsState, emptied}
 use Rattle.machine.specs.Below.print_unit.ZeroControl.{printed_line, has_zero_control}
 use Rattle.machine.specs.Below.program_unit.Program.{ProgramState, program_sensed, program_ended}

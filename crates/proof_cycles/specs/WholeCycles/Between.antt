@@ -3,10 +3,10 @@
 -- called until a card cycle replaces it.
 use Rattle.std.specs.Prelude.{◌≡◌, false, All, length, replicate, map}
 use Rattle.std.specs.List.{range_with_len}
-use Rattle.machine.specs.Below.counters.Counters.{Counter, no_controls}
-use Rattle.machine.specs.Below.counters.Laws.{IsCounter}
-use Rattle.machine.specs.Below.setups.Wiring.{Wiring}
-use Rattle.machine.specs.Below.net.Printing.{printing_of}
+use Rattle.counters.specs.Counters.{Counter, no_controls}
+use Rattle.counters.specs.Laws.{IsCounter}
+use Rattle.hubs.specs.SetupsWords.Wiring.{Wiring}
+use Rattle.net.specs.Printing.{printing_of}
 use Rattle.machine.specs.Below.print_unit.Wheels.{wheel_at_start}
 use Rattle.machine.specs.Below.print_unit.ZeroControl.{Wheel}
 use Rattle.machine.specs.Below.selectors.Pilots.{no_pilots}

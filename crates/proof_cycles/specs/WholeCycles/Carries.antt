@@ -1,17 +1,17 @@
 -- The carries of a whole cycle: they pass at its closing point, and keep apart from all other impulses.
 use Rattle.std.specs.Prelude.{◌≡◌, ◌↔◌, ◌&&◌, not, Bool, true, false}
-use Rattle.machine.specs.Below.counters.Counters.{wheels_in}
-use Rattle.machine.specs.Below.counters.Rings.{CarryThrough, IsFedAlone}
-use Rattle.machine.specs.Below.counters.WholeCycles.{ComesRound}
-use Rattle.machine.specs.Below.setups.Wiring.{HasWire, LeadsToEntries, Wiring, is_wired}
-use Rattle.machine.specs.Below.hubs.declared.hub.Group.{Group}
-use Rattle.machine.specs.Below.hubs.declared.hub.Hub.{Hub}
-use Rattle.machine.specs.Below.hubs.declared.hub.Hub.TheVariants.{CI, CO}
-use Rattle.machine.specs.Below.net.Cycles.{is_closing}
-use Rattle.machine.specs.Below.net.Impulsed.{IsImpulsed}
-use Rattle.machine.specs.Below.net.declared.cycle.Cycle.{Cycle}
-use Rattle.machine.specs.Below.net.declared.cycle.Point.{Point}
-use Rattle.machine.specs.Below.net.declared.cycle.Point.TheVariants.{K}
+use Rattle.counters.specs.Counters.{wheels_in}
+use Rattle.counters.specs.Rings.{CarryThrough, IsFedAlone}
+use Rattle.counters.specs.WholeCycles.{ComesRound}
+use Rattle.hubs.specs.SetupsWords.Wiring.{HasWire, LeadsToEntries, Wiring, is_wired}
+use Rattle.hubs.specs.declared.hub.Group.{Group}
+use Rattle.hubs.specs.declared.hub.Hub.{Hub}
+use Rattle.hubs.specs.declared.hub.Hub.TheVariants.{CI, CO}
+use Rattle.net.specs.Cycles.{is_closing}
+use Rattle.net.specs.Impulsed.{IsImpulsed}
+use Rattle.net.specs.declared.cycle.Cycle.{Cycle}
+use Rattle.net.specs.declared.cycle.Point.{Point}
+use Rattle.net.specs.declared.cycle.Point.TheVariants.{K}
 use Rattle.machine.specs.Machine.{MachineState, closes}
 use Rattle.proof_cycles.specs.WholeCycles.Between.{IsBetween}
 use Rattle.proof_cycles.specs.WholeCycles.OneContactDeep.{AreCarriesOpen}

@@ -1,14 +1,14 @@
 -- Laws of cycles as a whole, for every setup of the panel.
 use Rattle.std.specs.Prelude.{◌≡◌, ◌↔◌, ℕ, ◌≤◌, Bool, List, Option, map}
 use Rattle.std.specs.List.{range_with_len}
-use Rattle.machine.specs.Below.card_code.declared.row.Row.{Row as CardRow}
+use Rattle.card_code.specs.declared.row.Row.{Row as CardRow}
 use Rattle.machine.specs.Below.page_text.declared.placed_lines.placed_line.PlacedLine.{PlacedLine}
-use Rattle.machine.specs.Below.setups.Wiring.{Wiring}
-use Rattle.machine.specs.Below.hubs.declared.hub.Group.{Group}
-use Rattle.machine.specs.Below.hubs.declared.hub.Hub.{Hub}
-use Rattle.machine.specs.Below.net.Impulsed.{IsImpulsed}
-use Rattle.machine.specs.Below.net.declared.cycle.Cycle.{Cycle}
-use Rattle.machine.specs.Below.net.declared.cycle.Point.{Point}
+use Rattle.hubs.specs.SetupsWords.Wiring.{Wiring}
+use Rattle.hubs.specs.declared.hub.Group.{Group}
+use Rattle.hubs.specs.declared.hub.Hub.{Hub}
+use Rattle.net.specs.Impulsed.{IsImpulsed}
+use Rattle.net.specs.declared.cycle.Cycle.{Cycle}
+use Rattle.net.specs.declared.cycle.Point.{Point}
 use Rattle.machine.specs.Cycles.{CycleRun}
 use Rattle.machine.specs.Feeds.{Feeds}
 use Rattle.machine.specs.Machine.{MachineState, machine_at_start}

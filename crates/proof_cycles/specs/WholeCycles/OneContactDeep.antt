@@ -1,12 +1,12 @@
 -- Setups in which no impulse passes two contacts: no wire leads from a contact's exit to the common hub of a contact. There
 -- every way of an impulse is one of four, at the points at which no carry passes.
 use Rattle.std.specs.Prelude.{◌≡◌, Bool, true, false, Some, is_some}
-use Rattle.machine.specs.Below.hubs.Hubs.{is_hub_in_range}
-use Rattle.machine.specs.Below.setups.Wiring.{Wiring, HasWire, LeadsToEntries}
-use Rattle.machine.specs.Below.hubs.declared.hub.Group.{Group}
-use Rattle.machine.specs.Below.hubs.declared.hub.Hub.{Hub}
-use Rattle.machine.specs.Below.hubs.declared.hub.Hub.TheVariants.{CO, FR, SR, CX, GX, SX, EM, CC, PX, HX, BAC, PIC, IE, CSE}
-use Rattle.machine.specs.Below.net.Panel.{contact_of}
+use Rattle.hubs.specs.Hubs.{is_hub_in_range}
+use Rattle.hubs.specs.SetupsWords.Wiring.{Wiring, HasWire, LeadsToEntries}
+use Rattle.hubs.specs.declared.hub.Group.{Group}
+use Rattle.hubs.specs.declared.hub.Hub.{Hub}
+use Rattle.hubs.specs.declared.hub.Hub.TheVariants.{CO, FR, SR, CX, GX, SX, EM, CC, PX, HX, BAC, PIC, IE, CSE}
+use Rattle.net.specs.Panel.{contact_of}
 
 -- whether a hub is the common hub of contacts, but for those of carries
 abbrev pub is_common : Hub → Bool

@@ -1,16 +1,16 @@
 -- Runs in which carries are no impulses: in each cycle every counter group turns by itself, as a ring where it is wired to itself, and
 -- no carry is seen at any hub. Setups in which no two groups are joined run so.
 use Rattle.std.specs.Prelude.{◌≡◌, ◌↔◌, ℕ, Bool, List, map}
-use Rattle.machine.specs.Below.card_code.declared.row.Row.{Row as CardRow}
+use Rattle.card_code.specs.declared.row.Row.{Row as CardRow}
 use Rattle.machine.specs.Below.carriage.Carriage.{carriage_sensed, carriage_ended}
 use Rattle.machine.specs.Below.page_text.declared.placed_lines.placed_line.PlacedLine.{PlacedLine}
-use Rattle.machine.specs.Below.setups.Wiring.{LeadsToEntries, Wiring, is_wired}
-use Rattle.machine.specs.Below.hubs.declared.hub.Hub.{Hub}
-use Rattle.machine.specs.Below.hubs.declared.hub.Hub.TheVariants.{CI, CO}
-use Rattle.machine.specs.Below.net.Impulsed.{IsPicture}
-use Rattle.machine.specs.Below.net.declared.cycle.Cycle.{Cycle}
-use Rattle.machine.specs.Below.net.declared.cycle.Point.{Point}
-use Rattle.machine.specs.Below.net.declared.cycle.Point.TheVariants.{C, Row, K}
+use Rattle.hubs.specs.SetupsWords.Wiring.{LeadsToEntries, Wiring, is_wired}
+use Rattle.hubs.specs.declared.hub.Hub.{Hub}
+use Rattle.hubs.specs.declared.hub.Hub.TheVariants.{CI, CO}
+use Rattle.net.specs.Impulsed.{IsPicture}
+use Rattle.net.specs.declared.cycle.Cycle.{Cycle}
+use Rattle.net.specs.declared.cycle.Point.{Point}
+use Rattle.net.specs.declared.cycle.Point.TheVariants.{C, Row, K}
 use Rattle.machine.specs.Below.print_unit.Wheels.{emptied}
 use Rattle.machine.specs.Below.print_unit.ZeroControl.{printed_line, has_zero_control}
 use Rattle.machine.specs.Below.program_unit.Program.{program_sensed, program_ended}

@@ -1,18 +1,18 @@
 -- Setups in which carries go round single groups alone. There each group that is wired to itself turns as a ring by itself, every
 -- other one on the line, and no carry is seen anywhere else.
 use Rattle.std.specs.Prelude.{◌≡◌, ◌↔◌, Bool, true, false, Option, Some, None, map, if◌then◌else◌}
-use Rattle.machine.specs.Below.counters.Counters.{Counter, counter_ended, top_is_nine, wheels_in}
-use Rattle.machine.specs.Below.counters.Wheels.{turned_round}
-use Rattle.machine.specs.Below.setups.Wiring.{HasWire, LeadsToEntries, Wiring, is_wired}
-use Rattle.machine.specs.Below.hubs.Carries.{is_one_group}
-use Rattle.machine.specs.Below.hubs.Hubs.{carry_into, carry_out_of}
-use Rattle.machine.specs.Below.hubs.declared.hub.Group.{Group}
-use Rattle.machine.specs.Below.hubs.declared.hub.Hub.{Hub}
-use Rattle.machine.specs.Below.hubs.declared.hub.Hub.TheVariants.{CI, CO}
-use Rattle.machine.specs.Below.net.Impulsed.{IsImpulsed}
-use Rattle.machine.specs.Below.net.declared.cycle.Cycle.{Cycle}
-use Rattle.machine.specs.Below.net.declared.cycle.Point.{Point}
-use Rattle.machine.specs.Below.net.declared.cycle.Point.TheVariants.{K}
+use Rattle.counters.specs.Counters.{Counter, counter_ended, top_is_nine, wheels_in}
+use Rattle.counters.specs.Wheels.{turned_round}
+use Rattle.hubs.specs.SetupsWords.Wiring.{HasWire, LeadsToEntries, Wiring, is_wired}
+use Rattle.hubs.specs.Carries.{is_one_group}
+use Rattle.hubs.specs.Hubs.{carry_into, carry_out_of}
+use Rattle.hubs.specs.declared.hub.Group.{Group}
+use Rattle.hubs.specs.declared.hub.Hub.{Hub}
+use Rattle.hubs.specs.declared.hub.Hub.TheVariants.{CI, CO}
+use Rattle.net.specs.Impulsed.{IsImpulsed}
+use Rattle.net.specs.declared.cycle.Cycle.{Cycle}
+use Rattle.net.specs.declared.cycle.Point.{Point}
+use Rattle.net.specs.declared.cycle.Point.TheVariants.{K}
 use Rattle.machine.specs.Machine.{MachineState, closes}
 use Rattle.proof_cycles.specs.WholeCycles.Between.{IsBetween}
 use Rattle.proof_cycles.specs.WholeCycles.Carries.{but_carries, is_carry}

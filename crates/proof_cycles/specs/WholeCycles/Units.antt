@@ -1,21 +1,21 @@
 -- Units by the names of their hubs: a counter group by its width and number, a storage unit by its number. Each exit is emitted, and
 -- each contact closed, by the unit of its name alone.
 use Rattle.std.specs.Prelude.{◌≡◌, ℕ, ◌+◌, ◌-◌, ◌≤◌, ◌&&◌, not, Bool, true, slice_index_or}
-use Rattle.machine.specs.Below.card_code.Rows.{row_number}
-use Rattle.machine.specs.Below.card_code.declared.row.Row.{Row as CardRow}
-use Rattle.machine.specs.Below.counters.Counters.{Counter, counter_of, shows, wheels_in}
-use Rattle.machine.specs.Below.counters.Rings.{CarriesBy}
-use Rattle.machine.specs.Below.counters.WholeCycles as counters
-use Rattle.machine.specs.Below.hub_table.Places.{is_width}
-use Rattle.machine.specs.Below.hub_table.Ranges.{is_within}
-use Rattle.machine.specs.Below.setups.Wiring.{Wiring}
-use Rattle.machine.specs.Below.hubs.declared.hub.Group.{Group}
-use Rattle.machine.specs.Below.hubs.declared.hub.Hub.{Hub}
-use Rattle.machine.specs.Below.hubs.declared.hub.Hub.TheVariants.{FR, SR, GX, BAN, BAT, PIN, PIT, SX, IX, CSD, CSZ, EM, RO, SO}
-use Rattle.machine.specs.Below.net.Panel.{unit_of}
-use Rattle.machine.specs.Below.net.declared.cycle.Cycle.{Cycle}
-use Rattle.machine.specs.Below.net.declared.cycle.Point.{Point}
-use Rattle.machine.specs.Below.net.declared.cycle.Point.TheVariants.{C, Row}
+use Rattle.card_code.specs.Rows.{row_number}
+use Rattle.card_code.specs.declared.row.Row.{Row as CardRow}
+use Rattle.counters.specs.Counters.{Counter, counter_of, shows, wheels_in}
+use Rattle.counters.specs.Rings.{CarriesBy}
+use Rattle.counters.specs.WholeCycles as counters
+use Rattle.hubs.specs.HubTable.Places.{is_width}
+use Rattle.hubs.specs.HubTable.Ranges.{is_within}
+use Rattle.hubs.specs.SetupsWords.Wiring.{Wiring}
+use Rattle.hubs.specs.declared.hub.Group.{Group}
+use Rattle.hubs.specs.declared.hub.Hub.{Hub}
+use Rattle.hubs.specs.declared.hub.Hub.TheVariants.{FR, SR, GX, BAN, BAT, PIN, PIT, SX, IX, CSD, CSZ, EM, RO, SO}
+use Rattle.net.specs.Panel.{unit_of}
+use Rattle.net.specs.declared.cycle.Cycle.{Cycle}
+use Rattle.net.specs.declared.cycle.Point.{Point}
+use Rattle.net.specs.declared.cycle.Point.TheVariants.{C, Row}
 use Rattle.machine.specs.Below.print_unit.Emitters.{emitter_of, emits_row}
 use Rattle.machine.specs.Below.selectors.Indicate.{indicate_closes}
 use Rattle.machine.specs.Below.selectors.Pilots.{pilots_closes}

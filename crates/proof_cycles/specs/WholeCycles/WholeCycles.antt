@@ -4,21 +4,21 @@
 -- rows. So a cycle is its control point, its twelve rows side by side, and its closing point.
 use Rattle.std.specs.Prelude.{◌≡◌, ℕ, ◌-◌, ◌==◌, ◌&&◌, ◌||◌, Bool, false, List, ◌∷◌, map}
 use Rattle.std.specs.List.{list_any, range_with_len}
-use Rattle.machine.specs.Below.card_code.Rows.{rows, row_number}
-use Rattle.machine.specs.Below.card_code.declared.row.Row.{Row as CardRow}
+use Rattle.card_code.specs.Rows.{rows, row_number}
+use Rattle.card_code.specs.declared.row.Row.{Row as CardRow}
 use Rattle.machine.specs.Below.carriage.Carriage.{carriage_sensed, carriage_ended}
-use Rattle.machine.specs.Below.counters.Counters.{Counter, counter_emits, counter_sensed, shows}
-use Rattle.machine.specs.Below.counters.WholeCycles as counters
-use Rattle.machine.specs.Below.hub_table.Ranges.{is_within}
-use Rattle.machine.specs.Below.setups.Wiring.{Wiring}
-use Rattle.machine.specs.Below.hubs.declared.hub.Hub.{Hub}
-use Rattle.machine.specs.Below.hubs.declared.hub.Hub.TheVariants.{CX, SX, CA, CB, RO, SO, W}
-use Rattle.machine.specs.Below.net.Impulsed.{IsPicture}
-use Rattle.machine.specs.Below.net.WholeCycles.{after_points}
-use Rattle.machine.specs.Below.net.declared.cycle.Cycle.{Cycle}
-use Rattle.machine.specs.Below.net.declared.cycle.Cycle.TheVariants.{Card}
-use Rattle.machine.specs.Below.net.declared.cycle.Point.{Point}
-use Rattle.machine.specs.Below.net.declared.cycle.Point.TheVariants.{C, Row, K}
+use Rattle.counters.specs.Counters.{Counter, counter_emits, counter_sensed, shows}
+use Rattle.counters.specs.WholeCycles as counters
+use Rattle.hubs.specs.HubTable.Ranges.{is_within}
+use Rattle.hubs.specs.SetupsWords.Wiring.{Wiring}
+use Rattle.hubs.specs.declared.hub.Hub.{Hub}
+use Rattle.hubs.specs.declared.hub.Hub.TheVariants.{CX, SX, CA, CB, RO, SO, W}
+use Rattle.net.specs.Impulsed.{IsPicture}
+use Rattle.net.specs.WholeCycles.{after_points}
+use Rattle.net.specs.declared.cycle.Cycle.{Cycle}
+use Rattle.net.specs.declared.cycle.Cycle.TheVariants.{Card}
+use Rattle.net.specs.declared.cycle.Point.{Point}
+use Rattle.net.specs.declared.cycle.Point.TheVariants.{C, Row, K}
 use Rattle.machine.specs.Below.print_unit.Emitters.{emitters_emit}
 use Rattle.machine.specs.Below.print_unit.Laws.{wheel_at_place}
 use Rattle.machine.specs.Below.print_unit.Wheels.{emptied, wheel_at_start}

@@ -13,7 +13,7 @@ use Rattle.hubs.specs.Hubs.{is_entry_hub, number_of}
 use Rattle.hubs.specs.declared.hub.Group.{Group}
 use Rattle.hubs.specs.declared.hub.Hub.{Hub}
 use Rattle.hubs.specs.declared.hub.Hub.TheVariants.{CA, CB, EM, FR, GX, SR}
-use Rattle.machine.specs.Below.counters.Counters.{Counter, counter_emits, shows}
+use Rattle.counters.specs.Counters.{Counter, counter_emits, shows}
 use Rattle.machine.specs.Below.print_unit.Emitters.{emits_row}
 use Rattle.machine.specs.Below.storage_units.Storage.{StorageState, storage_emits}
 use Rattle.machine.specs.Machine.{MachineState, closes, emits}

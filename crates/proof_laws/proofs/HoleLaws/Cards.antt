@@ -3,10 +3,10 @@ use Rattle.std.proofs.Common.{◌≡◌, ◌∙◌, sym, ap, refl, ℕ, zero, su
 use Rattle.std.proofs.lemmas.Bool.{false≢true}
 use Rattle.hubs.specs.declared.hub.Hub.{Hub}
 use Rattle.explain_ledgers.specs.LedgersWords.Ledgers.{Along, ComesTo, Goes, at_start, on, ready}
-use Rattle.machine.specs.Below.program_unit.CycleOrder.{cycle_after}
-use Rattle.machine.specs.Below.program_unit.Program.{ProgramState, program_sensed, waiting}
-use Rattle.machine.specs.Below.program_unit.declared.stage.Stage.{Stage}
-use Rattle.machine.specs.Below.program_unit.declared.stage.Stage.TheVariants.{Fresh, RanIn, RanCard, RanProg, BeforeCard, BeforeTotal}
+use Rattle.program_unit.specs.CycleOrder.{cycle_after}
+use Rattle.program_unit.specs.Program.{ProgramState, program_sensed, waiting}
+use Rattle.program_unit.specs.declared.stage.Stage.{Stage}
+use Rattle.program_unit.specs.declared.stage.Stage.TheVariants.{Fresh, RanIn, RanCard, RanProg, BeforeCard, BeforeTotal}
 use Rattle.machine.specs.Cycles.{PointStep, Reached, point_at}
 use Rattle.machine.specs.Machine.{MachineState}
 use Rattle.machine.specs.Runs.{cycle_due, has_more}

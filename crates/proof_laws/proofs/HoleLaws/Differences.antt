@@ -11,8 +11,8 @@ use Rattle.hubs.specs.declared.hub.Hub.TheVariants.{CA, CB, CO, CX}
 use Rattle.explain_ledgers.specs.LedgersWords.Ledgers.{Along, ComesTo, at_start, on, ready}
 use Rattle.explain_ledgers.specs.LedgersWords.Running.{HasCycle}
 use Rattle.machine.proofs.OneOutcome.{Reached-one}
-use Rattle.machine.specs.Below.counters.Counters.{Counter, counter_emits, wheels_in}
-use Rattle.machine.specs.Below.counters.Wheels.{carries_out}
+use Rattle.counters.specs.Counters.{Counter, counter_emits, wheels_in}
+use Rattle.counters.specs.Wheels.{carries_out}
 use Rattle.machine.specs.Below.storage_units.Storage.{StorageState, storage_emits}
 use Rattle.machine.specs.Cycles.{Reached}
 use Rattle.machine.specs.Machine.{MachineState, closes, emits}

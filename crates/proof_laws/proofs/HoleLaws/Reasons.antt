@@ -9,9 +9,9 @@ use Rattle.hubs.proofs.HubLemmas.{in_range}
 use Rattle.hubs.specs.Hubs.{is_within, number_of}
 use Rattle.hubs.specs.declared.hub.Hub.{Hub}
 use Rattle.hubs.specs.declared.hub.Hub.TheVariants.{CA, CB, CX, ST}
-use Rattle.machine.specs.Below.program_unit.CycleOrder.{levels_to}
-use Rattle.machine.specs.Below.program_unit.Laws.{levels, levels_with}
-use Rattle.machine.specs.Below.program_unit.Program.{called_for}
+use Rattle.program_unit.specs.CycleOrder.{levels_to}
+use Rattle.program_unit.specs.Laws.{levels, levels_with}
+use Rattle.program_unit.specs.Program.{called_for}
 use Rattle.machine.specs.Cycles.{PointStep}
 use Rattle.machine.specs.Machine.{MachineState, closes, emits}
 use Rattle.machine.specs.Runs.{has_more}

@@ -7,8 +7,8 @@ use Rattle.hubs.specs.declared.hub.Hub.{Hub}
 use Rattle.hubs.specs.declared.hub.Hub.TheVariants.{CA, CB, CX, ST}
 use Rattle.explain_ledgers.specs.LedgersWords.Ledgers.{Along, ComesTo, Goes, card_in, ready}
 use Rattle.explain_ledgers.specs.LedgersWords.Running.{HasCycle}
-use Rattle.machine.specs.Below.program_unit.CycleOrder.{levels_to}
-use Rattle.machine.specs.Below.program_unit.Laws.{levels_with}
+use Rattle.program_unit.specs.CycleOrder.{levels_to}
+use Rattle.program_unit.specs.Laws.{levels_with}
 use Rattle.machine.specs.Cycles.{PointStep, Reached}
 use Rattle.machine.specs.Machine.{MachineState, closes, emits}
 use Rattle.machine.specs.Runs.{has_more}

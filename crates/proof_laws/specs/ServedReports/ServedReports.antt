@@ -1,19 +1,19 @@
 -- The pages of served runs of a setup that is wired for a chart are the chart's reports.
 use Rattle.std.specs.Prelude.{◌≡◌, ℕ, List}
-use Rattle.compile407.specs.Below.charts.Chart.{Chart}
+use Rattle.chart_lines.specs.ChartsWords.Chart.{Chart}
 use Rattle.compile407.specs.Headline.{IsSound}
-use Rattle.compile407.specs.Below.page_text.Pages.{Pages}
+use Rattle.page_text.specs.Pages.{Pages}
 use Rattle.page_text.specs.declared.placed_lines.placed_line.PlacedLine.{PlacedLine}
-use Rattle.compile407.specs.Below.plans.Plans.{Lists, ServesChart}
-use Rattle.compile407.specs.Below.streamed_runs.PrintPromises.Promises.{IsDeck, PrintsReport}
-use Rattle.compile407.specs.Below.report.ChartForm.{form_of}
-use Rattle.compile407.specs.Below.report.Report.{Report}
-use Rattle.compile407.specs.Below.report.Totals.{Fits}
+use Rattle.chart_plans.specs.PlansWords.Plans.{Lists, ServesChart}
+use Rattle.compile407.specs.Below.report_runs.PrintPromises.Promises.{IsDeck, PrintsReport}
+use Rattle.report_definition.specs.ChartForm.{form_of}
+use Rattle.report_definition.specs.Report.{Report}
+use Rattle.report_definition.specs.Totals.{Fits}
 use Rattle.machine_served.specs.ServedRuns.Runs.{IsServedRun}
 use Rattle.machine_served.specs.declared.served_runs.counts.Counts.{Counts}
 use Rattle.machine_served.specs.ServedUnits.Runs.{ServedLines}
 use Rattle.hubs.specs.SetupsWords.Wiring.{Wiring}
-use Rattle.compile407.specs.Below.wiring_table.WiredFor.{WiredFor}
+use Rattle.wiring_table.specs.WiredFor.{WiredFor}
 
 -- Where the units run ahead of one another: for every valid deck whose totals fit there is a run by schedules, and the pages of the lines
 -- that any such run places are the report, byte by byte; so are those of any run that is served by the orders of a service.

@@ -3,17 +3,17 @@ use Rattle.std.proofs.Common.{◌≡◌, ◌∙◌, refl, sym, ap, ap₂, ℕ, z
 use Rattle.std.specs.Int.{is_negative}
 use Rattle.std.proofs.Math.Nat.{mod-lt}
 use Rattle.std.proofs.lemmas.Bool.Decides.{nat_tests}
-use Rattle.wiring_table.specs.Below.charts.Field.{columns_of, decimals_of}
-use Rattle.wiring_table.specs.Below.charts.declared.statement.Field.{Field}
-use Rattle.wiring_table.specs.Below.charts.declared.statement.Mark.{Mark}
+use Rattle.wiring_table.specs.Below.chart_lines.ChartsWords.Field.{columns_of, decimals_of}
+use Rattle.wiring_table.specs.Below.chart_lines.declared.charts.statement.Field.{Field}
+use Rattle.wiring_table.specs.Below.chart_lines.declared.charts.statement.Mark.{Mark}
 use Rattle.wiring_table.specs.Below.chart_rules.ValidCard.{IsValidAmount}
-use Rattle.wiring_table.specs.Below.report.Amounts.{number_in, digits_on, is_blank_on, is_negated, signed, value_of}
-use Rattle.wiring_table.specs.Below.report.BodyLines.{amount_on}
-use Rattle.wiring_table.specs.Below.report.Edits.{last_digits, free_digits, marked, edited, edited_blank, edited_digits}
+use Rattle.report_definition.specs.Amounts.{number_in, digits_on, is_blank_on, is_negated, signed, value_of}
+use Rattle.report_definition.specs.BodyLines.{amount_on}
+use Rattle.report_definition.specs.Edits.{last_digits, free_digits, marked, edited, edited_blank, edited_digits}
 use Rattle.print_unit.specs.ZeroControl.{printed_from}
 use Rattle.proof_reports.specs.PrintedLines.Held.{HoldsTotal}
 use Rattle.proof_reports.specs.PrintedLines.Shown.{Amount, Printed}
-use Rattle.wiring_table.proofs.Below.report.ReadBack.{not-negative, signed-size}
+use Rattle.report_definition.proofs.ReadBack.{not-negative, signed-size}
 use Rattle.proof_reports.proofs.PrintedLines.AmountText.{amount_wheels, amount-edited, amount-blank}
 use Rattle.proof_reports.proofs.PrintedLines.CardDigits.{OnCard, blank, numeral, OnCard-valid, digits-length}
 use Rattle.proof_reports.proofs.PrintedLines.ItemText.{Spells}

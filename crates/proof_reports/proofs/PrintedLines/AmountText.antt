@@ -4,11 +4,11 @@ use Rattle.std.proofs.Common.{◌≡◌, ◌∙◌, refl, sym, ap, ap₂, ℕ, z
 use Rattle.std.proofs.lemmas.List.{take-map, drop-map, map-append, length-map, length-take, length-drop, take-append-drop, replicate-append-replicate}
 use Rattle.std.proofs.lemmas.List.Folds.{list_any-append}
 use Rattle.print_unit.specs.Below.card_code.CardCode.{print_character, deck_character, code, rows_of}
-use Rattle.wiring_table.specs.Below.line_rules.PrintRules.Items.{mark_width}
-use Rattle.wiring_table.specs.Below.charts.declared.statement.Mark.{Mark}
-use Rattle.wiring_table.specs.Below.charts.declared.statement.Mark.TheVariants as mark
+use Rattle.wiring_table.specs.Below.chart_line_rules.PrintRules.Items.{mark_width}
+use Rattle.wiring_table.specs.Below.chart_lines.declared.charts.statement.Mark.{Mark}
+use Rattle.wiring_table.specs.Below.chart_lines.declared.charts.statement.Mark.TheVariants as mark
 use Rattle.print_unit.specs.ZeroControl.{Wheel, character_of, is_figure, is_zero, shown, has_significance, gives, printed_from}
-use Rattle.wiring_table.specs.Below.report.Edits.{figure, without_leading_zeros, free_digits, point, marked, edited_digits, edited_blank}
+use Rattle.report_definition.specs.Edits.{figure, without_leading_zeros, free_digits, point, marked, edited_digits, edited_blank}
 use Rattle.proof_reports.specs.PrintedLines.Shown.{digit_set, point_sets, mark_sets}
 use Rattle.proof_reports.proofs.PrintedLines.Characters.{received, IsDigitSet-digit, blank-prints}
 use Rattle.proof_reports.proofs.PrintedLines.Numbers.{value, any_above_zero, AreDigits, IsNumeral, AreBlank, IsNumeral-digits}

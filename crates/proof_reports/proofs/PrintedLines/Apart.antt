@@ -1,8 +1,8 @@
 -- On each printed line of a lawful chart the items keep apart.
 use Rattle.std.proofs.Common.{Bool, Option}
-use Rattle.wiring_table.specs.Below.charts.Chart.{Chart}
-use Rattle.wiring_table.specs.Below.charts.declared.statement.Statement.{Statement}
-use Rattle.wiring_table.specs.Below.line_rules.declared.print_rules.items.PrintedLine.{PrintedLine}
+use Rattle.wiring_table.specs.Below.chart_lines.ChartsWords.Chart.{Chart}
+use Rattle.wiring_table.specs.Below.chart_lines.declared.charts.statement.Statement.{Statement}
+use Rattle.wiring_table.specs.Below.chart_line_rules.declared.print_rules.items.PrintedLine.{PrintedLine}
 use Rattle.wiring_table.specs.Below.chart_rules.Rules.{IsLawful}
 use Rattle.proof_reports.specs.PrintedLines.Laws.{HasItemSets, LawfulItemsKeepApart}
 use Rattle.proof_reports.specs.PrintedLines.Shown.{Shown, card_sends, total_sends, heading_sends}

@@ -6,12 +6,12 @@ use Rattle.std.proofs.lemmas.List.Sums.{sum_by-cons}
 use Rattle.std.proofs.lemmas.List.FromFn.{length-map-range_with_len}
 use Rattle.std.proofs.Math.Bool.{or-true}
 use Rattle.print_unit.specs.Below.card_code.CardCode.{has_row}
-use Rattle.wiring_table.proofs.Below.charts.Listed.{found-listed, listed-within}
-use Rattle.wiring_table.specs.Below.charts.Field.{columns_of, decimals_of}
-use Rattle.wiring_table.specs.Below.charts.declared.statement.Field.{Field}
+use Rattle.wiring_table.proofs.Below.chart_lines.ChartsWords.Listed.{found-listed, listed-within}
+use Rattle.wiring_table.specs.Below.chart_lines.ChartsWords.Field.{columns_of, decimals_of}
+use Rattle.wiring_table.specs.Below.chart_lines.declared.charts.statement.Field.{Field}
 use Rattle.wiring_table.specs.Below.chart_rules.ValidCard.{column_of, digit_count, digit_rows, IsValidAmount}
-use Rattle.wiring_table.specs.Below.report.Amounts.{digit_in, digits_on, is_blank_on}
-use Rattle.wiring_table.specs.Below.report.Edits.{free_digits}
+use Rattle.report_definition.specs.Amounts.{digit_in, digits_on, is_blank_on}
+use Rattle.report_definition.specs.Edits.{free_digits}
 use Rattle.wiring_table.proofs.Below.chart_rules.Laws.{IsGoodField}
 use Rattle.proof_reports.proofs.PrintedLines.Numbers.{AreDigits, IsNumeral, AreBlank}
 

@@ -1,26 +1,26 @@
 -- The line of a card: what the chart's lines send to it comes from their items, and spells what the report puts there.
 use Rattle.std.proofs.Common.{◌≡◌, ◌∙◌, refl, ap, subst, ℕ, if◌then◌else◌, Bool, true, false, List, map, Contains, Option, Some, None, option_map, arith}
-use Rattle.wiring_table.specs.Below.charts.Chart.{Chart}
-use Rattle.wiring_table.specs.Below.charts.Field.{columns_of, decimals_of, is_amount}
-use Rattle.wiring_table.specs.Below.charts.Literals.{HaveLiteralTexts, literal_in}
-use Rattle.wiring_table.specs.Below.charts.declared.chart.Line.{Line}
-use Rattle.wiring_table.specs.Below.charts.declared.statement.BodyLine.TheVariants as body
-use Rattle.wiring_table.specs.Below.charts.declared.statement.DetailOption.{DetailOption}
-use Rattle.wiring_table.specs.Below.charts.declared.statement.Field.{Field}
-use Rattle.wiring_table.specs.Below.charts.declared.statement.FieldKind.{FieldKind}
-use Rattle.wiring_table.specs.Below.charts.declared.statement.FieldKind.TheVariants as holds
-use Rattle.wiring_table.specs.Below.charts.declared.statement.Statement.{Statement}
-use Rattle.wiring_table.specs.Below.charts.declared.statement.Statement.TheVariants as says
-use Rattle.wiring_table.specs.Below.line_rules.declared.print_rules.items.Figure.{Figure}
-use Rattle.wiring_table.specs.Below.line_rules.declared.print_rules.items.PrintedLine.{PrintedLine}
-use Rattle.wiring_table.specs.Below.line_rules.declared.print_rules.items.PrintedLine.TheVariants.{Heading, Body}
-use Rattle.wiring_table.specs.Below.line_rules.FieldRules.Fields.{field_named}
-use Rattle.wiring_table.specs.Below.line_rules.PrintRules.Items.{is_same_line, mark_shown, detail_item}
+use Rattle.wiring_table.specs.Below.chart_lines.ChartsWords.Chart.{Chart}
+use Rattle.wiring_table.specs.Below.chart_lines.ChartsWords.Field.{columns_of, decimals_of, is_amount}
+use Rattle.wiring_table.specs.Below.chart_lines.ChartsWords.Literals.{HaveLiteralTexts, literal_in}
+use Rattle.wiring_table.specs.Below.chart_lines.declared.charts.chart.Line.{Line}
+use Rattle.wiring_table.specs.Below.chart_lines.declared.charts.statement.BodyLine.TheVariants as body
+use Rattle.wiring_table.specs.Below.chart_lines.declared.charts.statement.DetailOption.{DetailOption}
+use Rattle.wiring_table.specs.Below.chart_lines.declared.charts.statement.Field.{Field}
+use Rattle.wiring_table.specs.Below.chart_lines.declared.charts.statement.FieldKind.{FieldKind}
+use Rattle.wiring_table.specs.Below.chart_lines.declared.charts.statement.FieldKind.TheVariants as holds
+use Rattle.wiring_table.specs.Below.chart_lines.declared.charts.statement.Statement.{Statement}
+use Rattle.wiring_table.specs.Below.chart_lines.declared.charts.statement.Statement.TheVariants as says
+use Rattle.wiring_table.specs.Below.chart_line_rules.declared.print_rules.items.Figure.{Figure}
+use Rattle.wiring_table.specs.Below.chart_line_rules.declared.print_rules.items.PrintedLine.{PrintedLine}
+use Rattle.wiring_table.specs.Below.chart_line_rules.declared.print_rules.items.PrintedLine.TheVariants.{Heading, Body}
+use Rattle.wiring_table.specs.Below.chart_line_rules.FieldRules.Fields.{field_named}
+use Rattle.wiring_table.specs.Below.chart_line_rules.PrintRules.Items.{is_same_line, mark_shown, detail_item}
 use Rattle.wiring_table.specs.Below.chart_rules.Rules.{IsLawful}
 use Rattle.wiring_table.specs.Below.chart_rules.ValidCard.{IsText, IsValidCard, IsValidField, IsValidKind}
-use Rattle.wiring_table.specs.Below.line_rules.PrintRules.Wheels.{is_body}
-use Rattle.wiring_table.specs.Below.report.Amounts.{digits_on, is_negated}
-use Rattle.wiring_table.specs.Below.report.BodyLines.{piece_at, card_piece, field_on, amount_on, is_shown}
+use Rattle.wiring_table.specs.Below.chart_line_rules.PrintRules.Wheels.{is_body}
+use Rattle.report_definition.specs.Amounts.{digits_on, is_negated}
+use Rattle.report_definition.specs.BodyLines.{piece_at, card_piece, field_on, amount_on, is_shown}
 use Rattle.wiring_table.specs.Figures.{IsFigure, on_detail, detail_emitter}
 use Rattle.proof_reports.specs.PrintedLines.Laws.{CardLinesPrint}
 use Rattle.proof_reports.specs.PrintedLines.Shown.{Shown, Characters, Amount, card_sends, field_sends, set_of_character}

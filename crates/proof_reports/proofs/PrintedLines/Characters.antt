@@ -6,7 +6,7 @@ use Rattle.std.proofs.lemmas.List.FromFn.{get_or-range_with_len, length-range_wi
 use Rattle.print_unit.specs.Below.card_code.CardCode.{has_row, code, deck_character, rows_of, print_character, printed_for}
 use Rattle.print_unit.specs.Below.card_code.Rows.{row_number, rows}
 use Rattle.print_unit.proofs.Below.card_code.OneToOne.{Contains-rows, Contains-character}
-use Rattle.wiring_table.specs.Below.charts.Literal.{is_printable}
+use Rattle.wiring_table.specs.Below.chart_lines.ChartsWords.Literal.{is_printable}
 use Rattle.print_unit.specs.ZeroControl.{character_of, is_figure, is_zero}
 use Rattle.proof_reports.specs.PrintedLines.Shown.{set_of_character, digit_set}
 

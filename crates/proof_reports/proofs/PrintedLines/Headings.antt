@@ -1,16 +1,16 @@
 -- A heading line: its items are literals, and print without zero control.
 use Rattle.std.proofs.Common.{◌≡◌, refl, ap, subst, ℕ, ◌==◌, if◌then◌else◌, Bool, true, false, List, map, Contains, Some, None, arith}
 use Rattle.std.proofs.lemmas.Bool.Decides.{nat_tests}
-use Rattle.wiring_table.specs.Below.charts.Chart.{Chart}
-use Rattle.wiring_table.specs.Below.charts.Headings.{heading_number}
-use Rattle.wiring_table.specs.Below.charts.Literals.{HaveLiteralTexts, literal_in}
-use Rattle.wiring_table.specs.Below.charts.declared.chart.Line.{Line}
-use Rattle.wiring_table.specs.Below.charts.declared.statement.Statement.{Statement}
-use Rattle.wiring_table.specs.Below.charts.declared.statement.Statement.TheVariants as says
-use Rattle.wiring_table.specs.Below.line_rules.declared.print_rules.items.PrintedLine.{PrintedLine}
-use Rattle.wiring_table.specs.Below.line_rules.declared.print_rules.items.PrintedLine.TheVariants.{Heading, Body}
-use Rattle.wiring_table.specs.Below.line_rules.PrintRules.Items.{is_same_line}
-use Rattle.wiring_table.specs.Below.report.BodyLines.{piece_at, heading_piece}
+use Rattle.wiring_table.specs.Below.chart_lines.ChartsWords.Chart.{Chart}
+use Rattle.wiring_table.specs.Below.chart_lines.ChartsWords.Headings.{heading_number}
+use Rattle.wiring_table.specs.Below.chart_lines.ChartsWords.Literals.{HaveLiteralTexts, literal_in}
+use Rattle.wiring_table.specs.Below.chart_lines.declared.charts.chart.Line.{Line}
+use Rattle.wiring_table.specs.Below.chart_lines.declared.charts.statement.Statement.{Statement}
+use Rattle.wiring_table.specs.Below.chart_lines.declared.charts.statement.Statement.TheVariants as says
+use Rattle.wiring_table.specs.Below.chart_line_rules.declared.print_rules.items.PrintedLine.{PrintedLine}
+use Rattle.wiring_table.specs.Below.chart_line_rules.declared.print_rules.items.PrintedLine.TheVariants.{Heading, Body}
+use Rattle.wiring_table.specs.Below.chart_line_rules.PrintRules.Items.{is_same_line}
+use Rattle.report_definition.specs.BodyLines.{piece_at, heading_piece}
 use Rattle.proof_reports.specs.PrintedLines.Laws.{HeadingLinesPrint}
 use Rattle.proof_reports.specs.PrintedLines.Shown.{Shown, Characters, heading_sends, set_of_character}
 use Rattle.proof_reports.proofs.PrintedLines.Lines.{SpellsText, text-line}

@@ -3,16 +3,16 @@ use Rattle.std.proofs.Common.{◌≡◌, ◌∙◌, refl, sym, ap, ap₂, ℕ, z
 use Rattle.std.specs.List.{range_with_len}
 use Rattle.std.proofs.lemmas.Bool.Decides.{nat_tests}
 use Rattle.std.proofs.lemmas.List.{length-map, length-append, length-take, length-drop, map-append, take-append-drop}
-use Rattle.wiring_table.specs.Below.charts.Chart.{Chart}
-use Rattle.wiring_table.specs.Below.charts.declared.chart.Line.{Line}
-use Rattle.wiring_table.specs.Below.charts.declared.statement.Mark.{Mark}
-use Rattle.wiring_table.specs.Below.charts.declared.statement.Statement.{Statement}
-use Rattle.wiring_table.specs.Below.line_rules.declared.print_rules.items.Figure.{Figure}
-use Rattle.wiring_table.specs.Below.line_rules.declared.print_rules.items.PrintedLine.{PrintedLine}
-use Rattle.wiring_table.specs.Below.line_rules.PrintRules.Items.{figure_width, mark_width}
+use Rattle.wiring_table.specs.Below.chart_lines.ChartsWords.Chart.{Chart}
+use Rattle.wiring_table.specs.Below.chart_lines.declared.charts.chart.Line.{Line}
+use Rattle.wiring_table.specs.Below.chart_lines.declared.charts.statement.Mark.{Mark}
+use Rattle.wiring_table.specs.Below.chart_lines.declared.charts.statement.Statement.{Statement}
+use Rattle.wiring_table.specs.Below.chart_line_rules.declared.print_rules.items.Figure.{Figure}
+use Rattle.wiring_table.specs.Below.chart_line_rules.declared.print_rules.items.PrintedLine.{PrintedLine}
+use Rattle.wiring_table.specs.Below.chart_line_rules.PrintRules.Items.{figure_width, mark_width}
 use Rattle.print_unit.specs.ZeroControl.{Wheel, character_of, shown, gives, printed_from}
 use Rattle.print_unit.proofs.Ranges.{map-same}
-use Rattle.wiring_table.specs.Below.report.Edits.{free_digits}
+use Rattle.report_definition.specs.Edits.{free_digits}
 use Rattle.proof_reports.specs.PrintedLines.Shown.{Shown, Characters, Amount, sets_of, wheel_of_shown, wheel_with, digit_set, point_sets, mark_sets}
 use Rattle.proof_reports.proofs.PrintedLines.AmountText.{amount_wheels, plain-shown}
 use Rattle.proof_reports.proofs.PrintedLines.Characters.{received}

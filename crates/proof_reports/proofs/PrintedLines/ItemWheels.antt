@@ -3,9 +3,9 @@ use Rattle.std.proofs.Common.{◌≡◌, ◌∙◌, refl, sym, ap, ap₂, ℕ, z
 use Rattle.std.specs.List.{range_with_len}
 use Rattle.std.proofs.lemmas.Bool.Decides.{nat_tests}
 use Rattle.std.proofs.lemmas.List.{length-map, length-take, length-drop}
-use Rattle.wiring_table.specs.Below.charts.declared.statement.Mark.{Mark}
-use Rattle.wiring_table.specs.Below.charts.declared.statement.Mark.TheVariants as mark
-use Rattle.wiring_table.specs.Below.line_rules.PrintRules.Items.{mark_width}
+use Rattle.wiring_table.specs.Below.chart_lines.declared.charts.statement.Mark.{Mark}
+use Rattle.wiring_table.specs.Below.chart_lines.declared.charts.statement.Mark.TheVariants as mark
+use Rattle.wiring_table.specs.Below.chart_line_rules.PrintRules.Items.{mark_width}
 use Rattle.print_unit.specs.ZeroControl.{Wheel}
 use Rattle.proof_reports.specs.PrintedLines.Shown.{digit_set, point_sets, mark_sets}
 use Rattle.proof_reports.proofs.PrintedLines.AmountText.{amount_wheels}

@@ -1,17 +1,17 @@
 -- The jacks on the wheels of an item are those of its own line of the chart, whatever other lines plug.
 use Rattle.std.proofs.Common.{◌≡◌, ◌∙◌, refl, ap, subst, ℕ, ◌+◌, ◌<◌, ◌≤◌, true, List, Contains, Some, option_map}
-use Rattle.wiring_table.specs.Below.charts.Field.{columns_of, decimals_of, is_amount}
-use Rattle.wiring_table.specs.Below.charts.declared.chart.Line.{Line}
-use Rattle.wiring_table.specs.Below.charts.declared.statement.BodyLine.TheVariants as body
-use Rattle.wiring_table.specs.Below.charts.declared.statement.FieldKind.{FieldKind}
-use Rattle.wiring_table.specs.Below.charts.declared.statement.FieldKind.TheVariants as holds
-use Rattle.wiring_table.specs.Below.charts.declared.statement.Statement.{Statement}
-use Rattle.wiring_table.specs.Below.line_rules.declared.print_rules.items.Figure.{Figure}
-use Rattle.wiring_table.specs.Below.line_rules.declared.print_rules.items.PrintedLine.{PrintedLine}
-use Rattle.wiring_table.specs.Below.line_rules.declared.print_rules.items.PrintedLine.TheVariants.{Body}
-use Rattle.wiring_table.specs.Below.line_rules.FieldRules.Fields.{fields_of}
-use Rattle.wiring_table.specs.Below.line_rules.PrintRules.Items.{item_of, detail_item, total_item, figure_item, figure_width, mark_shown}
-use Rattle.wiring_table.specs.Below.line_rules.PrintRules.Wheels.{is_body}
+use Rattle.wiring_table.specs.Below.chart_lines.ChartsWords.Field.{columns_of, decimals_of, is_amount}
+use Rattle.wiring_table.specs.Below.chart_lines.declared.charts.chart.Line.{Line}
+use Rattle.wiring_table.specs.Below.chart_lines.declared.charts.statement.BodyLine.TheVariants as body
+use Rattle.wiring_table.specs.Below.chart_lines.declared.charts.statement.FieldKind.{FieldKind}
+use Rattle.wiring_table.specs.Below.chart_lines.declared.charts.statement.FieldKind.TheVariants as holds
+use Rattle.wiring_table.specs.Below.chart_lines.declared.charts.statement.Statement.{Statement}
+use Rattle.wiring_table.specs.Below.chart_line_rules.declared.print_rules.items.Figure.{Figure}
+use Rattle.wiring_table.specs.Below.chart_line_rules.declared.print_rules.items.PrintedLine.{PrintedLine}
+use Rattle.wiring_table.specs.Below.chart_line_rules.declared.print_rules.items.PrintedLine.TheVariants.{Body}
+use Rattle.wiring_table.specs.Below.chart_line_rules.FieldRules.Fields.{fields_of}
+use Rattle.wiring_table.specs.Below.chart_line_rules.PrintRules.Items.{item_of, detail_item, total_item, figure_item, figure_width, mark_shown}
+use Rattle.wiring_table.specs.Below.chart_line_rules.PrintRules.Wheels.{is_body}
 use Rattle.print_unit.specs.Below.hubs.declared.jack.Jack.{Jack}
 use Rattle.print_unit.specs.Below.hubs.declared.jack.Jack.TheVariants as jack
 use Rattle.wiring_table.specs.Figures.{IsFigure, on_detail, on_total, mark_wheel, free_digits}

@@ -1,28 +1,28 @@
 -- What a lawful chart keeps of its items: where they stand, and how many digits amounts have.
 use Rattle.std.proofs.Common.{◌≡◌, ◌∙◌, refl, sym, ap, subst, ℕ, ◌≤◌, ◌&&◌, ◌||◌, false, Contains, Option, Some, None, option_map, arith}
 use Rattle.std.proofs.lemmas.Bool.Decides.{nat_tests}
-use Rattle.wiring_table.specs.Below.charts.Chart.{Chart}
-use Rattle.wiring_table.specs.Below.charts.Field.{columns_of, decimals_of}
-use Rattle.wiring_table.specs.Below.charts.declared.chart.Line.{Line}
-use Rattle.wiring_table.specs.Below.charts.declared.statement.DetailOption.{DetailOption}
-use Rattle.wiring_table.specs.Below.charts.declared.statement.Field.{Field}
-use Rattle.wiring_table.specs.Below.charts.declared.statement.FieldKind.{FieldKind}
-use Rattle.wiring_table.specs.Below.charts.declared.statement.FieldKind.TheVariants as holds
-use Rattle.wiring_table.specs.Below.charts.declared.statement.Statement.{Statement}
-use Rattle.wiring_table.specs.Below.charts.declared.statement.TotalLine.{TotalLine}
-use Rattle.wiring_table.specs.Below.charts.declared.statement.Statement.TheVariants as says
-use Rattle.wiring_table.specs.Below.line_rules.declared.print_rules.items.Figure.{Figure}
-use Rattle.wiring_table.specs.Below.line_rules.declared.print_rules.items.Item.{Item}
+use Rattle.wiring_table.specs.Below.chart_lines.ChartsWords.Chart.{Chart}
+use Rattle.wiring_table.specs.Below.chart_lines.ChartsWords.Field.{columns_of, decimals_of}
+use Rattle.wiring_table.specs.Below.chart_lines.declared.charts.chart.Line.{Line}
+use Rattle.wiring_table.specs.Below.chart_lines.declared.charts.statement.DetailOption.{DetailOption}
+use Rattle.wiring_table.specs.Below.chart_lines.declared.charts.statement.Field.{Field}
+use Rattle.wiring_table.specs.Below.chart_lines.declared.charts.statement.FieldKind.{FieldKind}
+use Rattle.wiring_table.specs.Below.chart_lines.declared.charts.statement.FieldKind.TheVariants as holds
+use Rattle.wiring_table.specs.Below.chart_lines.declared.charts.statement.Statement.{Statement}
+use Rattle.wiring_table.specs.Below.chart_lines.declared.charts.statement.TotalLine.{TotalLine}
+use Rattle.wiring_table.specs.Below.chart_lines.declared.charts.statement.Statement.TheVariants as says
+use Rattle.wiring_table.specs.Below.chart_line_rules.declared.print_rules.items.Figure.{Figure}
+use Rattle.wiring_table.specs.Below.chart_line_rules.declared.print_rules.items.Item.{Item}
 use Rattle.wiring_table.specs.Below.chart_rules.declared.rule.Rule.TheVariants as rule
-use Rattle.wiring_table.specs.Below.line_rules.FieldRules.Digits.{breaks_digits_range, is_out_of_digits}
-use Rattle.wiring_table.specs.Below.line_rules.FieldRules.Fields.{fields_of, field_named}
-use Rattle.wiring_table.specs.Below.line_rules.declared.print_rules.items.PrintedLine.TheVariants.{Body}
-use Rattle.wiring_table.specs.Below.charts.declared.statement.BodyLine.TheVariants as body
-use Rattle.wiring_table.specs.Below.line_rules.PrintRules.Items.{item_of, mark_shown, text_item, detail_item, total_item}
+use Rattle.wiring_table.specs.Below.chart_line_rules.FieldRules.Digits.{breaks_digits_range, is_out_of_digits}
+use Rattle.wiring_table.specs.Below.chart_line_rules.FieldRules.Fields.{fields_of, field_named}
+use Rattle.wiring_table.specs.Below.chart_line_rules.declared.print_rules.items.PrintedLine.TheVariants.{Body}
+use Rattle.wiring_table.specs.Below.chart_lines.declared.charts.statement.BodyLine.TheVariants as body
+use Rattle.wiring_table.specs.Below.chart_line_rules.PrintRules.Items.{item_of, mark_shown, text_item, detail_item, total_item}
 use Rattle.wiring_table.specs.Below.chart_rules.Rules.{IsLawful}
-use Rattle.wiring_table.specs.Below.line_rules.PrintRules.Wheels.{is_off_wheels}
+use Rattle.wiring_table.specs.Below.chart_line_rules.PrintRules.Wheels.{is_off_wheels}
 use Rattle.wiring_table.proofs.Below.chart_rules.Laws.{IsGoodField, good-field, kept-line}
-use Rattle.wiring_table.proofs.Below.line_rules.FieldRules.DigitsKept.{digits-kept}
+use Rattle.wiring_table.proofs.Below.chart_line_rules.FieldRules.DigitsKept.{digits-kept}
 
 -- An item stands on wheels of the machine.
 pub record IsOnWheels (item : Item) : Type 0 where

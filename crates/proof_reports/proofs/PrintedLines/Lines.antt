@@ -3,14 +3,14 @@ use Rattle.std.proofs.Common.{◌≡◌, ◌∙◌, refl, sym, ap, ap₂, ℕ, s
 use Rattle.std.specs.List.{filter_map, cons_option, range_with_len}
 use Rattle.std.proofs.lemmas.List.{length-map, get_or-map}
 use Rattle.std.proofs.lemmas.List.FromFn.{get_or-map-range_with_len, length-map-range_with_len}
-use Rattle.wiring_table.specs.Below.charts.Chart.{Chart}
-use Rattle.wiring_table.specs.Below.charts.declared.chart.Line.{Line}
-use Rattle.wiring_table.specs.Below.charts.declared.statement.Statement.{Statement}
-use Rattle.wiring_table.specs.Below.line_rules.declared.print_rules.items.PrintedLine.{PrintedLine}
+use Rattle.wiring_table.specs.Below.chart_lines.ChartsWords.Chart.{Chart}
+use Rattle.wiring_table.specs.Below.chart_lines.declared.charts.chart.Line.{Line}
+use Rattle.wiring_table.specs.Below.chart_lines.declared.charts.statement.Statement.{Statement}
+use Rattle.wiring_table.specs.Below.chart_line_rules.declared.print_rules.items.PrintedLine.{PrintedLine}
 use Rattle.print_unit.specs.ZeroControl.{Wheel, character_of, is_zero, shown, printed_line}
 use Rattle.print_unit.proofs.LeftNeighbours.{printed_from-freely}
 use Rattle.print_unit.proofs.Ranges.{map-same}
-use Rattle.wiring_table.specs.Below.report.BodyLines.{Piece, char_at, line_of}
+use Rattle.report_definition.specs.BodyLines.{Piece, char_at, line_of}
 use Rattle.proof_reports.specs.PrintedLines.Shown.{Shown, Characters, Amount, set_on, sets_of, wheel_of_shown, wheel_with, wheels_with}
 use Rattle.proof_reports.proofs.PrintedLines.Characters.{received, blank-prints}
 use Rattle.proof_reports.proofs.PrintedLines.ItemText.{Spells, item-prints}

@@ -3,18 +3,18 @@ use Rattle.std.proofs.Common.{◌≡◌, ◌∙◌, ◌⊎◌, inl, inr, refl, s
 use Rattle.std.proofs.lemmas.Bool.{eqb-true, and_parts}
 use Rattle.std.proofs.lemmas.Bool.Decides.{nat_tests}
 use Rattle.std.proofs.lemmas.List.Elements.{Contains-append_right}
-use Rattle.wiring_table.proofs.Below.charts.Listed.{Order, is_one, goes_before, goes_after, listed-first, listed-order, none-any}
-use Rattle.wiring_table.specs.Below.charts.Chart.{Chart}
-use Rattle.wiring_table.specs.Below.charts.declared.chart.Line.{Line}
-use Rattle.wiring_table.specs.Below.charts.declared.statement.Mark.{Mark}
-use Rattle.wiring_table.specs.Below.charts.declared.statement.Mark.TheVariants as mark
-use Rattle.wiring_table.specs.Below.line_rules.declared.print_rules.items.Figure.{Figure}
-use Rattle.wiring_table.specs.Below.line_rules.declared.print_rules.items.Item.{Item}
+use Rattle.wiring_table.proofs.Below.chart_lines.ChartsWords.Listed.{Order, is_one, goes_before, goes_after, listed-first, listed-order, none-any}
+use Rattle.wiring_table.specs.Below.chart_lines.ChartsWords.Chart.{Chart}
+use Rattle.wiring_table.specs.Below.chart_lines.declared.charts.chart.Line.{Line}
+use Rattle.wiring_table.specs.Below.chart_lines.declared.charts.statement.Mark.{Mark}
+use Rattle.wiring_table.specs.Below.chart_lines.declared.charts.statement.Mark.TheVariants as mark
+use Rattle.wiring_table.specs.Below.chart_line_rules.declared.print_rules.items.Figure.{Figure}
+use Rattle.wiring_table.specs.Below.chart_line_rules.declared.print_rules.items.Item.{Item}
 use Rattle.wiring_table.specs.Below.chart_rules.declared.rule.Rule.TheVariants as rule
-use Rattle.wiring_table.specs.Below.line_rules.FieldRules.Fields.{fields_of}
-use Rattle.wiring_table.specs.Below.line_rules.PrintRules.Items.{item_of, is_same_line}
+use Rattle.wiring_table.specs.Below.chart_line_rules.FieldRules.Fields.{fields_of}
+use Rattle.wiring_table.specs.Below.chart_line_rules.PrintRules.Items.{item_of, is_same_line}
 use Rattle.wiring_table.specs.Below.chart_rules.Rules.{IsLawful}
-use Rattle.wiring_table.specs.Below.line_rules.PrintRules.Wheels.{HasWheel, meet, overlap, clash, is_body, may_share, is_same_style, is_same_mark}
+use Rattle.wiring_table.specs.Below.chart_line_rules.PrintRules.Wheels.{HasWheel, meet, overlap, clash, is_body, may_share, is_same_style, is_same_mark}
 use Rattle.wiring_table.proofs.Below.chart_rules.Laws.{breaks-lawful}
 
 -- Two items agree where neither is an amount, or both are amounts with the same last wheel, decimals and mark.

@@ -4,8 +4,8 @@ use Rattle.std.specs.List.{list_any}
 use Rattle.std.proofs.Math.Nat.{pow-succ', mul-add-div_right, mul-add-mod_self_right, mod-eq_of_lt, mod-lt, div-add-mod, div-eq_of_lt, div-lt_iff_lt-mul}
 use Rattle.std.proofs.lemmas.Nat.{div-mul-add}
 use Rattle.std.proofs.lemmas.Bool.Decides.{nat_tests}
-use Rattle.wiring_table.specs.Below.report.Amounts.{number_in}
-use Rattle.wiring_table.specs.Below.report.Edits.{last_digits}
+use Rattle.report_definition.specs.Amounts.{number_in}
+use Rattle.report_definition.specs.Edits.{last_digits}
 
 -- the digit that a column counts as
 abbrev pub value : Option ℕ → ℕ

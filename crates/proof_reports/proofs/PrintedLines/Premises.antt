@@ -2,17 +2,17 @@
 use Rattle.std.proofs.Common.{◌≡◌, ◌∙◌, refl, sym, ap, ap₂, ℕ, pos, ◌+ℤ◌, ◌+◌, false, List, [], ◌∷◌, Some, None}
 use Rattle.std.specs.Int.{is_negative}
 use Rattle.std.proofs.Math.IntN.{pos-+ℤ-pos}
-use Rattle.wiring_table.specs.Below.charts.declared.statement.Field.{Field}
-use Rattle.wiring_table.specs.Below.charts.declared.statement.FieldKind.{FieldKind}
-use Rattle.wiring_table.specs.Below.charts.declared.statement.FieldKind.TheVariants as holds
+use Rattle.wiring_table.specs.Below.chart_lines.declared.charts.statement.Field.{Field}
+use Rattle.wiring_table.specs.Below.chart_lines.declared.charts.statement.FieldKind.{FieldKind}
+use Rattle.wiring_table.specs.Below.chart_lines.declared.charts.statement.FieldKind.TheVariants as holds
 use Rattle.wiring_table.specs.Below.chart_rules.declared.rule.Rule.TheVariants as rule
-use Rattle.wiring_table.specs.Below.line_rules.FieldRules.Fields.{fields_of, field_named}
-use Rattle.wiring_table.specs.Below.line_rules.FieldRules.Names.{breaks_wrong_kind, names_amount}
+use Rattle.wiring_table.specs.Below.chart_line_rules.FieldRules.Fields.{fields_of, field_named}
+use Rattle.wiring_table.specs.Below.chart_line_rules.FieldRules.Names.{breaks_wrong_kind, names_amount}
 use Rattle.wiring_table.proofs.Below.chart_rules.Laws.{kept-line, text-valid}
-use Rattle.wiring_table.specs.Below.report.Amounts.{is_negated, number_in, digits_on, signed}
-use Rattle.wiring_table.specs.Below.report.Totals.{total_of}
+use Rattle.report_definition.specs.Amounts.{is_negated, number_in, digits_on, signed}
+use Rattle.report_definition.specs.Totals.{total_of}
 use Rattle.wiring_table.specs.Figures.{rule_of}
-use Rattle.wiring_table.proofs.Below.report.ReadBack.{not-negative}
+use Rattle.report_definition.proofs.ReadBack.{not-negative}
 use Rattle.proof_reports.specs.PrintedLines.Laws.{UnsignedTotalsHaveNoSign, TotalTextsAreTexts}
 
 -- an amount without a sign rule is not negated

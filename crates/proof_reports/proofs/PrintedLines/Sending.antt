@@ -2,14 +2,14 @@
 use Rattle.std.proofs.Common.{◌≡◌, ◌∙◌, ◌⊎◌, inl, inr, refl, sym, ap, subst, ℕ, zero, suc, ◌+◌, ◌-◌, ◌<◌, ◌&&◌, nat_le, nat_lt, cond, Bool, true, false, List, [], ◌∷◌, length, slice_index_or, Contains, Option, Some, None, arith}
 use Rattle.std.specs.List.{filter_map, cons_option}
 use Rattle.std.proofs.lemmas.Bool.Decides.{nat_tests}
-use Rattle.wiring_table.specs.Below.charts.Chart.{Chart}
-use Rattle.wiring_table.specs.Below.charts.declared.chart.Line.{Line}
-use Rattle.wiring_table.specs.Below.charts.declared.statement.Statement.{Statement}
-use Rattle.wiring_table.specs.Below.line_rules.declared.print_rules.items.Figure.{Figure}
-use Rattle.wiring_table.specs.Below.line_rules.declared.print_rules.items.Item.{Item}
-use Rattle.wiring_table.specs.Below.line_rules.declared.print_rules.items.PrintedLine.{PrintedLine}
-use Rattle.wiring_table.specs.Below.line_rules.FieldRules.Fields.{fields_of}
-use Rattle.wiring_table.specs.Below.line_rules.PrintRules.Items.{item_of, is_same_line}
+use Rattle.wiring_table.specs.Below.chart_lines.ChartsWords.Chart.{Chart}
+use Rattle.wiring_table.specs.Below.chart_lines.declared.charts.chart.Line.{Line}
+use Rattle.wiring_table.specs.Below.chart_lines.declared.charts.statement.Statement.{Statement}
+use Rattle.wiring_table.specs.Below.chart_line_rules.declared.print_rules.items.Figure.{Figure}
+use Rattle.wiring_table.specs.Below.chart_line_rules.declared.print_rules.items.Item.{Item}
+use Rattle.wiring_table.specs.Below.chart_line_rules.declared.print_rules.items.PrintedLine.{PrintedLine}
+use Rattle.wiring_table.specs.Below.chart_line_rules.FieldRules.Fields.{fields_of}
+use Rattle.wiring_table.specs.Below.chart_line_rules.PrintRules.Items.{item_of, is_same_line}
 use Rattle.wiring_table.specs.Below.chart_rules.Rules.{IsLawful}
 use Rattle.wiring_table.specs.Figures.{IsFigure}
 use Rattle.proof_reports.specs.PrintedLines.Laws.{HasWheelOf}

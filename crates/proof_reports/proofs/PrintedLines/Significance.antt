@@ -1,16 +1,16 @@
 -- Wheel by wheel: what each wheel gives to its right neighbour, and that nothing is given to the first wheel of an amount.
 use Rattle.std.proofs.Common.{◌≡◌, ◌∙◌, ◌⊎◌, inl, inr, refl, sym, ap, ap₂, ℕ, zero, suc, pred, ◌+◌, ◌<◌, ◌≤◌, ◌&&◌, ◌||◌, Bool, true, false, ◌∷◌, map, length, Contains, Option, Some, arith}
 use Rattle.std.specs.List.{range_with_len}
-use Rattle.wiring_table.specs.Below.charts.Chart.{Chart}
-use Rattle.wiring_table.specs.Below.charts.declared.chart.Line.{Line}
-use Rattle.wiring_table.specs.Below.charts.declared.statement.Statement.{Statement}
-use Rattle.wiring_table.specs.Below.line_rules.declared.print_rules.items.Figure.{Figure}
-use Rattle.wiring_table.specs.Below.line_rules.declared.print_rules.items.Item.{Item}
-use Rattle.wiring_table.specs.Below.line_rules.declared.print_rules.items.PrintedLine.{PrintedLine}
-use Rattle.wiring_table.specs.Below.line_rules.FieldRules.Fields.{fields_of}
-use Rattle.wiring_table.specs.Below.line_rules.PrintRules.Items.{item_of, figure_item, figure_width}
+use Rattle.wiring_table.specs.Below.chart_lines.ChartsWords.Chart.{Chart}
+use Rattle.wiring_table.specs.Below.chart_lines.declared.charts.chart.Line.{Line}
+use Rattle.wiring_table.specs.Below.chart_lines.declared.charts.statement.Statement.{Statement}
+use Rattle.wiring_table.specs.Below.chart_line_rules.declared.print_rules.items.Figure.{Figure}
+use Rattle.wiring_table.specs.Below.chart_line_rules.declared.print_rules.items.Item.{Item}
+use Rattle.wiring_table.specs.Below.chart_line_rules.declared.print_rules.items.PrintedLine.{PrintedLine}
+use Rattle.wiring_table.specs.Below.chart_line_rules.FieldRules.Fields.{fields_of}
+use Rattle.wiring_table.specs.Below.chart_line_rules.PrintRules.Items.{item_of, figure_item, figure_width}
 use Rattle.wiring_table.specs.Below.chart_rules.Rules.{IsLawful}
-use Rattle.wiring_table.specs.Below.line_rules.PrintRules.Wheels.{HasWheel, is_body}
+use Rattle.wiring_table.specs.Below.chart_line_rules.PrintRules.Wheels.{HasWheel, is_body}
 use Rattle.wiring_table.specs.Jacks.{ChartJack}
 use Rattle.print_unit.specs.Below.hubs.declared.jack.Jack.TheVariants as jack
 use Rattle.print_unit.specs.ZeroControl.{is_figure, shown, printed_from}

@@ -5,15 +5,15 @@ use Rattle.std.proofs.lemmas.List.{length-map}
 use Rattle.std.proofs.lemmas.List.FromFn.{length-map-range_with_len}
 use Rattle.std.proofs.lemmas.Bool.{and_parts}
 use Rattle.print_unit.specs.Below.card_code.CardCode.{deck_character, print_character}
-use Rattle.wiring_table.specs.Below.charts.Field.{columns_of}
-use Rattle.wiring_table.specs.Below.charts.Literal.{is_printable}
-use Rattle.wiring_table.specs.Below.charts.declared.statement.Field.{Field}
-use Rattle.wiring_table.specs.Below.line_rules.declared.print_rules.items.Figure.{Figure}
-use Rattle.wiring_table.specs.Below.line_rules.declared.print_rules.items.PrintedLine.{PrintedLine}
-use Rattle.wiring_table.specs.Below.line_rules.PrintRules.Items.{text_item, figure_item}
+use Rattle.wiring_table.specs.Below.chart_lines.ChartsWords.Field.{columns_of}
+use Rattle.wiring_table.specs.Below.chart_lines.ChartsWords.Literal.{is_printable}
+use Rattle.wiring_table.specs.Below.chart_lines.declared.charts.statement.Field.{Field}
+use Rattle.wiring_table.specs.Below.chart_line_rules.declared.print_rules.items.Figure.{Figure}
+use Rattle.wiring_table.specs.Below.chart_line_rules.declared.print_rules.items.PrintedLine.{PrintedLine}
+use Rattle.wiring_table.specs.Below.chart_line_rules.PrintRules.Items.{text_item, figure_item}
 use Rattle.wiring_table.specs.Below.chart_rules.ValidCard.{column_of, is_printed}
 use Rattle.print_unit.specs.ZeroControl.{character_of}
-use Rattle.wiring_table.specs.Below.report.Amounts.{columns_in}
+use Rattle.report_definition.specs.Amounts.{columns_in}
 use Rattle.proof_reports.specs.PrintedLines.Shown.{Characters, Amount, set_of_character}
 use Rattle.proof_reports.proofs.PrintedLines.Characters.{received, prints-set, prints-literal}
 use Rattle.proof_reports.proofs.PrintedLines.ItemText.{amount-width}

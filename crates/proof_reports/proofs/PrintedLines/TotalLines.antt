@@ -2,32 +2,32 @@
 use Rattle.std.proofs.Common.{◌≡◌, ◌∙◌, refl, ap, subst, ℕ, ◌==◌, if◌then◌else◌, Bool, true, false, List, length, map, Contains, Option, Some, None, option_map, arith}
 use Rattle.std.proofs.lemmas.Bool.{not-false}
 use Rattle.std.proofs.lemmas.Bool.Decides.{nat_tests}
-use Rattle.wiring_table.specs.Below.charts.Chart.{Chart}
-use Rattle.wiring_table.specs.Below.charts.Field.{columns_of, decimals_of, is_amount}
-use Rattle.wiring_table.specs.Below.charts.Levels.{level_number}
-use Rattle.wiring_table.specs.Below.charts.Literals.{HaveLiteralTexts, literal_in}
-use Rattle.wiring_table.specs.Below.charts.declared.chart.Line.{Line}
-use Rattle.wiring_table.specs.Below.charts.declared.level.Level.{Level}
-use Rattle.wiring_table.specs.Below.charts.declared.statement.BodyLine.TheVariants as body
-use Rattle.wiring_table.specs.Below.charts.declared.statement.Field.{Field}
-use Rattle.wiring_table.specs.Below.charts.declared.statement.Statement.{Statement}
-use Rattle.wiring_table.specs.Below.charts.declared.statement.TotalLine.{TotalLine}
-use Rattle.wiring_table.specs.Below.charts.declared.statement.Statement.TheVariants as says
-use Rattle.wiring_table.specs.Below.line_rules.declared.print_rules.items.Figure.{Figure}
-use Rattle.wiring_table.specs.Below.line_rules.declared.print_rules.items.PrintedLine.{PrintedLine}
-use Rattle.wiring_table.specs.Below.line_rules.declared.print_rules.items.PrintedLine.TheVariants.{Heading, Body}
+use Rattle.wiring_table.specs.Below.chart_lines.ChartsWords.Chart.{Chart}
+use Rattle.wiring_table.specs.Below.chart_lines.ChartsWords.Field.{columns_of, decimals_of, is_amount}
+use Rattle.wiring_table.specs.Below.chart_lines.ChartsWords.Levels.{level_number}
+use Rattle.wiring_table.specs.Below.chart_lines.ChartsWords.Literals.{HaveLiteralTexts, literal_in}
+use Rattle.wiring_table.specs.Below.chart_lines.declared.charts.chart.Line.{Line}
+use Rattle.wiring_table.specs.Below.chart_lines.declared.charts.level.Level.{Level}
+use Rattle.wiring_table.specs.Below.chart_lines.declared.charts.statement.BodyLine.TheVariants as body
+use Rattle.wiring_table.specs.Below.chart_lines.declared.charts.statement.Field.{Field}
+use Rattle.wiring_table.specs.Below.chart_lines.declared.charts.statement.Statement.{Statement}
+use Rattle.wiring_table.specs.Below.chart_lines.declared.charts.statement.TotalLine.{TotalLine}
+use Rattle.wiring_table.specs.Below.chart_lines.declared.charts.statement.Statement.TheVariants as says
+use Rattle.wiring_table.specs.Below.chart_line_rules.declared.print_rules.items.Figure.{Figure}
+use Rattle.wiring_table.specs.Below.chart_line_rules.declared.print_rules.items.PrintedLine.{PrintedLine}
+use Rattle.wiring_table.specs.Below.chart_line_rules.declared.print_rules.items.PrintedLine.TheVariants.{Heading, Body}
 use Rattle.wiring_table.specs.Below.chart_rules.declared.rule.Rule.TheVariants as rule
-use Rattle.wiring_table.specs.Below.line_rules.FieldRules.Fields.{fields_of, field_named}
-use Rattle.wiring_table.specs.Below.line_rules.PrintRules.Items.{is_same_line, text_item, total_item}
-use Rattle.wiring_table.specs.Below.line_rules.FieldRules.Names.{breaks_wrong_kind, names_text}
+use Rattle.wiring_table.specs.Below.chart_line_rules.FieldRules.Fields.{fields_of, field_named}
+use Rattle.wiring_table.specs.Below.chart_line_rules.PrintRules.Items.{is_same_line, text_item, total_item}
+use Rattle.wiring_table.specs.Below.chart_line_rules.FieldRules.Names.{breaks_wrong_kind, names_text}
 use Rattle.wiring_table.specs.Below.chart_rules.Rules.{IsLawful}
 use Rattle.wiring_table.specs.Below.chart_rules.ValidCard.{column_of}
-use Rattle.wiring_table.specs.Below.line_rules.PrintRules.Wheels.{is_body}
+use Rattle.wiring_table.specs.Below.chart_line_rules.PrintRules.Wheels.{is_body}
 use Rattle.wiring_table.proofs.Below.chart_rules.Laws.{good-field, kept-line}
-use Rattle.wiring_table.specs.Below.report.Amounts.{columns_in}
-use Rattle.wiring_table.specs.Below.report.BodyLines.{piece_at, total_piece, text_on, a_card_of}
-use Rattle.wiring_table.specs.Below.report.Edits.{last_digits, edited}
-use Rattle.wiring_table.specs.Below.report.Totals.{total_of}
+use Rattle.report_definition.specs.Amounts.{columns_in}
+use Rattle.report_definition.specs.BodyLines.{piece_at, total_piece, text_on, a_card_of}
+use Rattle.report_definition.specs.Edits.{last_digits, edited}
+use Rattle.report_definition.specs.Totals.{total_of}
 use Rattle.wiring_table.specs.Figures.{on_total, total_emitter}
 use Rattle.proof_reports.specs.PrintedLines.Held.{HoldsLine}
 use Rattle.proof_reports.specs.PrintedLines.Laws.{TotalLinesPrint}

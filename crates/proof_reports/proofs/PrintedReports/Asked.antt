@@ -2,8 +2,8 @@
 use Rattle.std.proofs.Common.{ℕ, Option, Some, None}
 use Rattle.carriage.specs.Asked.{nothing_asked}
 use Rattle.carriage.specs.declared.asked.Asked.{Asked}
-use Rattle.report_definition.specs.Below.charts.Chart.{Chart}
-use Rattle.net.specs.declared.cycle.Cycle.{Cycle}
+use Rattle.report_definition.specs.Below.chart_lines.ChartsWords.Chart.{Chart}
+use Rattle.proof_reports.specs.Below.net.declared.cycle.Cycle.{Cycle}
 use Rattle.proof_reports.specs.WiredPanels.CycleAsks.LinePlaces.Placing.{asked_of, kind_of}
 
 -- what the carriage is asked for where a kind of body line prints, or none

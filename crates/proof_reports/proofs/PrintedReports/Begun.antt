@@ -1,13 +1,13 @@
 -- Decks whose totals don't all fit: the feeds up to a card are those of a machine that goes by cards, so their lines are the report's.
 use Rattle.std.proofs.Common.{ℕ, List, [], ◌∷◌}
 use Rattle.report_definition.specs.Below.page_text.declared.placed_lines.placed_line.PlacedLine.{PlacedLine}
-use Rattle.report_definition.specs.Below.charts.Chart.{Chart}
+use Rattle.report_definition.specs.Below.chart_lines.ChartsWords.Chart.{Chart}
 use Rattle.report_definition.proofs.FollowedDecks.Running.{feeds_begin_reports}
 use Rattle.report_definition.specs.FollowedDecks.Runner.{HasFedCards}
 use Rattle.report_definition.specs.FollowedDecks.Stands.{Stand}
-use Rattle.wiring_table.specs.Below.setups.Wiring.{Wiring}
-use Rattle.machine.specs.Feeds.{FedLines}
-use Rattle.machine.specs.Machine.{MachineState, machine_at_start}
+use Rattle.proof_reports.specs.Below.hubs.SetupsWords.Wiring.{Wiring}
+use Rattle.proof_reports.specs.Below.machine.Feeds.{FedLines}
+use Rattle.proof_reports.specs.Below.machine.Machine.{MachineState, machine_at_start}
 use Rattle.proof_reports.specs.PrintedReports.Content.{Waits}
 use Rattle.proof_reports.proofs.PrintedReports.Instance.{machine_goes}
 use Rattle.proof_reports.proofs.PrintedReports.Runs.{goes_by_cards, runner}

@@ -2,13 +2,13 @@
 use Rattle.std.proofs.Common.{◌≡◌, ◌∙◌, refl, sym, ap, subst, ℕ, Bool, true, false, List, [], ◌∷◌, ◌++◌, Option, Some, if◌then◌else◌}
 use Rattle.report_definition.specs.Below.page_text.declared.placed_lines.placed_line.PlacedLine.{PlacedLine}
 use Rattle.report_definition.specs.Below.chart_rules.Rules.{IsLawful}
-use Rattle.report_definition.specs.Below.charts.Chart.{Chart}
+use Rattle.report_definition.specs.Below.chart_lines.ChartsWords.Chart.{Chart}
 use Rattle.report_definition.specs.FollowedDecks.Left.{left_after}
-use Rattle.wiring_table.specs.Below.setups.Wiring.{Wiring}
-use Rattle.machine.specs.Cycles.{CycleRun, line_of}
-use Rattle.machine.specs.Feeds.{due_in, taken}
-use Rattle.machine.specs.Machine.{MachineState}
-use Rattle.net.specs.declared.cycle.Cycle.{Cycle}
+use Rattle.proof_reports.specs.Below.hubs.SetupsWords.Wiring.{Wiring}
+use Rattle.proof_reports.specs.Below.machine.Cycles.{CycleRun, line_of}
+use Rattle.proof_reports.specs.Below.machine.Feeds.{due_in, taken}
+use Rattle.proof_reports.specs.Below.machine.Machine.{MachineState}
+use Rattle.proof_reports.specs.Below.net.declared.cycle.Cycle.{Cycle}
 use Rattle.proof_reports.proofs.WiredPanels.CycleAsks.LinePlaces.BodyLines.{body-placed}
 use Rattle.proof_reports.proofs.WiredPanels.CycleAsks.LinePlaces.UnprintedKinds.{unprinted-stays}
 use Rattle.proof_reports.specs.WiredPanels.CycleAsks.LinePlaces.CarriageCycles.{carriage_after, line_at}

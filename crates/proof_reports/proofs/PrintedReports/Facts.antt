@@ -2,18 +2,18 @@
 use Rattle.std.proofs.Common.{◌≡◌, ℕ, ◌≤◌, ◌<◌, ◌^◌, true, false, List, unsigned_abs}
 use Rattle.std.specs.Int.{is_negative}
 use Rattle.proof_cycles.specs.TotalsWords.CounterCycles.Acts.{Held}
-use Rattle.wiring_table.specs.Below.plans.Plans.{Lists}
-use Rattle.report_definition.specs.Below.charts.Chart.{Chart}
-use Rattle.report_definition.specs.Below.charts.declared.statement.Field.{Field}
-use Rattle.wiring_table.specs.Below.setups.Wiring.{Wiring}
+use Rattle.proof_reports.specs.Below.chart_plans.PlansWords.Plans.{Lists}
+use Rattle.report_definition.specs.Below.chart_lines.ChartsWords.Chart.{Chart}
+use Rattle.report_definition.specs.Below.chart_lines.declared.charts.statement.Field.{Field}
+use Rattle.proof_reports.specs.Below.hubs.SetupsWords.Wiring.{Wiring}
 use Rattle.proof_reports.specs.WiredPanels.CycleAsks.ChartAmounts.{amount_of}
 use Rattle.proof_reports.specs.WiredPanels.PanelCycles.{IsCardRead}
-use Rattle.machine.specs.Machine.{MachineState}
-use Rattle.net.specs.declared.cycle.Cycle.{Cycle}
-use Rattle.net.specs.declared.cycle.Cycle.TheVariants.{RunIn, Card, Prog, Head}
+use Rattle.proof_reports.specs.Below.machine.Machine.{MachineState}
+use Rattle.proof_reports.specs.Below.net.declared.cycle.Cycle.{Cycle}
+use Rattle.proof_reports.specs.Below.net.declared.cycle.Cycle.TheVariants.{RunIn, Card, Prog, Head}
 use Rattle.proof_reports.specs.WiredPanels.CycleAsks.LinePlaces.CarriageCycles.{carriage_after}
 use Rattle.report_definition.specs.Totals.{total_of}
-use Rattle.machine.specs.Below.selectors.Indicate.{indicate_ended}
+use Rattle.proof_reports.specs.Below.selectors.Indicate.{indicate_ended}
 use Rattle.proof_cycles.specs.WholeCycles.Between.{IsReady}
 use Rattle.proof_reports.proofs.PrintedReports.Asked.{asked_in}
 

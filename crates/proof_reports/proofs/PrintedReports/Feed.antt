@@ -2,19 +2,19 @@
 use Rattle.std.proofs.Common.{◌≡◌, ◌∙◌, refl, sym, ap, subst, ℕ, zero, suc, ◌+◌, ◌≤◌, ◌<◌, ◌^◌, Bool, true, false, List, [], ◌∷◌, ◌++◌, Option, Some, None, is_some, length, if◌then◌else◌, arith}
 use Rattle.report_definition.specs.Below.page_text.declared.placed_lines.placed_line.PlacedLine.{PlacedLine}
 use Rattle.report_definition.specs.Below.chart_rules.Rules.{IsLawful}
-use Rattle.report_definition.specs.Below.charts.Chart.{Chart}
+use Rattle.report_definition.specs.Below.chart_lines.ChartsWords.Chart.{Chart}
 use Rattle.report_definition.proofs.FollowedDecks.Pages.{after-most}
 use Rattle.report_definition.proofs.FollowedDecks.Places.{places_split}
 use Rattle.report_definition.specs.FollowedDecks.Left.{bodies_of, left_after}
 use Rattle.report_definition.specs.FollowedDecks.Stands.{Stand, card_bodies}
-use Rattle.wiring_table.specs.Below.setups.Wiring.{Wiring}
-use Rattle.machine.specs.Feeds.{Feeds, FeedRuns, begun, due_in}
-use Rattle.machine.specs.Machine.{MachineState}
-use Rattle.machine.specs.Runs.{has_more, moved_on}
-use Rattle.net.specs.Printing.{prints}
-use Rattle.net.specs.declared.cycle.Cycle.TheVariants.{Card, Head}
-use Rattle.net.specs.declared.cycle.ProgramLevel.{ProgramLevel}
-use Rattle.net.specs.declared.cycle.Ordinal.TheVariants.{First}
+use Rattle.proof_reports.specs.Below.hubs.SetupsWords.Wiring.{Wiring}
+use Rattle.proof_reports.specs.Below.machine.Feeds.{Feeds, FeedRuns, begun, due_in}
+use Rattle.proof_reports.specs.Below.machine.Machine.{MachineState}
+use Rattle.proof_reports.specs.Below.machine.Runs.{has_more, moved_on}
+use Rattle.proof_reports.specs.Below.net.Printing.{prints}
+use Rattle.proof_reports.specs.Below.net.declared.cycle.Cycle.TheVariants.{Card, Head}
+use Rattle.proof_reports.specs.Below.net.declared.cycle.ProgramLevel.{ProgramLevel}
+use Rattle.proof_reports.specs.Below.net.declared.cycle.Ordinal.TheVariants.{First}
 use Rattle.proof_reports.proofs.WiredPanels.CycleAsks.LinePlaces.BodyLines.{jacks-print}
 use Rattle.proof_reports.proofs.WiredPanels.CycleAsks.LinePlaces.CyclesDue.{cards-due, cards-wait, others-come}
 use Rattle.proof_reports.proofs.WiredPanels.CycleAsks.LinePlaces.DueCycles.{due, is_between, stage_after}

@@ -1,28 +1,28 @@
 -- What the rules of a chart say of its amounts, and what the totals hold before the first card.
 use Rattle.std.proofs.Common.{◌≡◌, ◌∙◌, refl, sym, ap, subst, ℕ, zero, suc, ◌-◌, ◌<◌, ◌^◌, true, false, List, [], ◌∷◌, Option, Some, None, map, replicate, slice_index_or, is_some, arith, length, unsigned_abs, ◌+◌, ◌*◌}
-use Rattle.wiring_table.specs.Below.line_rules.FieldRules.Coupled.{has_sign}
-use Rattle.wiring_table.specs.Below.plans.Plans.{Lists}
-use Rattle.wiring_table.proofs.Below.line_rules.FieldRules.Places.{is_same_name-equal}
-use Rattle.wiring_table.specs.Below.line_rules.FieldRules.Fields.{field_named}
+use Rattle.proof_reports.specs.Below.chart_line_rules.FieldRules.Coupled.{has_sign}
+use Rattle.proof_reports.specs.Below.chart_plans.PlansWords.Plans.{Lists}
+use Rattle.proof_reports.proofs.Below.chart_line_rules.FieldRules.Places.{is_same_name-equal}
+use Rattle.proof_reports.specs.Below.chart_line_rules.FieldRules.Fields.{field_named}
 use Rattle.report_definition.specs.Below.chart_rules.Rules.{IsLawful}
-use Rattle.report_definition.specs.Below.charts.Chart.{Chart}
-use Rattle.report_definition.specs.Below.charts.Field.{sign_column}
-use Rattle.report_definition.specs.Below.charts.declared.statement.Field.{Field}
-use Rattle.report_definition.specs.Below.charts.declared.statement.FieldKind.{FieldKind}
-use Rattle.report_definition.specs.Below.charts.declared.statement.FieldKind.TheVariants as holds
-use Rattle.counters.specs.Counters.{Counter, counter_at_start, counter_of}
-use Rattle.counters.specs.Numbers.{number}
-use Rattle.machine.specs.Below.hubs.declared.hub.Group.{Group}
-use Rattle.wiring_table.specs.Below.setups.Wiring.{Wiring}
+use Rattle.report_definition.specs.Below.chart_lines.ChartsWords.Chart.{Chart}
+use Rattle.report_definition.specs.Below.chart_lines.ChartsWords.Field.{sign_column}
+use Rattle.report_definition.specs.Below.chart_lines.declared.charts.statement.Field.{Field}
+use Rattle.report_definition.specs.Below.chart_lines.declared.charts.statement.FieldKind.{FieldKind}
+use Rattle.report_definition.specs.Below.chart_lines.declared.charts.statement.FieldKind.TheVariants as holds
+use Rattle.proof_reports.specs.Below.counters.Counters.{Counter, counter_at_start, counter_of}
+use Rattle.proof_reports.specs.Below.counters.Numbers.{number}
+use Rattle.proof_reports.specs.Below.hubs.declared.hub.Group.{Group}
+use Rattle.proof_reports.specs.Below.hubs.SetupsWords.Wiring.{Wiring}
 use Rattle.proof_cycles.specs.WholeCycles.Units.{group_at}
-use Rattle.wiring_table.specs.Below.plans.declared.counter.TotalCounter.{TotalCounter}
-use Rattle.wiring_table.specs.Below.plans.declared.counter.TotalCounter.TheVariants as of
+use Rattle.proof_reports.specs.Below.chart_plans.declared.plans.counter.TotalCounter.{TotalCounter}
+use Rattle.proof_reports.specs.Below.chart_plans.declared.plans.counter.TotalCounter.TheVariants as of
 use Rattle.wiring_table.specs.Parts.{panel_group}
 use Rattle.proof_reports.proofs.WiredPanels.CycleAsks.AmountFacts.{digits_are, has_from}
 use Rattle.proof_reports.specs.WiredPanels.CycleAsks.ChartAmounts.{amount_of, total_counter}
 use Rattle.proof_reports.specs.WiredPanels.CycleAsks.CounterStates.{held_in}
-use Rattle.machine.specs.Machine.{group_units, machine_at_start}
-use Rattle.net.specs.Panel.{unit_of}
+use Rattle.proof_reports.specs.Below.machine.Machine.{group_units, machine_at_start}
+use Rattle.proof_reports.specs.Below.net.Panel.{unit_of}
 use Rattle.report_definition.specs.Amounts.{is_negated}
 use Rattle.report_definition.specs.Totals.{GroupFits, total_of}
 use Rattle.wiring_table.specs.Figures.{IsAmount}

@@ -4,20 +4,20 @@ use Rattle.std.proofs.lemmas.List.Elements.{All-contains}
 use Rattle.proof_cycles.proofs.TotalsWords.CounterCycles.ActLemmas.{acts-done}
 use Rattle.proof_cycles.specs.TotalsWords.CounterCycles.Acts.{Act, Asks, Held, IsWithinGroup, held_after, held_by}
 use Rattle.proof_cycles.specs.TotalsWords.CounterCycles.Acts.Act.{Still}
-use Rattle.wiring_table.specs.Below.plans.Plans.{Lists}
-use Rattle.report_definition.specs.Below.charts.Chart.{Chart, NumbersRise}
-use Rattle.report_definition.specs.Below.charts.Levels.{level_number}
-use Rattle.report_definition.specs.Below.charts.declared.chart.Line.{Line}
-use Rattle.report_definition.specs.Below.charts.declared.level.Level.{Level as ChartLevel}
-use Rattle.report_definition.specs.Below.charts.declared.level.Level.TheVariants as chart_level
-use Rattle.report_definition.specs.Below.charts.declared.statement.Field.{Field}
-use Rattle.counters.specs.Counters.{Counter, wheels_in}
-use Rattle.counters.specs.Numbers.{number}
-use Rattle.counters.specs.Rings.{CarryThrough, IsFedAlone}
-use Rattle.counters.specs.WholeCycles.{ComesRound, after_cycle, after_its_points}
-use Rattle.wiring_table.specs.Below.setups.Wiring.{LeadsToEntries, Wiring, is_wired}
-use Rattle.machine.specs.Below.hubs.declared.hub.Group.{Group}
-use Rattle.machine.specs.Below.hubs.declared.hub.Hub.TheVariants.{CO, CI}
+use Rattle.proof_reports.specs.Below.chart_plans.PlansWords.Plans.{Lists}
+use Rattle.report_definition.specs.Below.chart_lines.ChartsWords.Chart.{Chart, NumbersRise}
+use Rattle.report_definition.specs.Below.chart_lines.ChartsWords.Levels.{level_number}
+use Rattle.report_definition.specs.Below.chart_lines.declared.charts.chart.Line.{Line}
+use Rattle.report_definition.specs.Below.chart_lines.declared.charts.level.Level.{Level as ChartLevel}
+use Rattle.report_definition.specs.Below.chart_lines.declared.charts.level.Level.TheVariants as chart_level
+use Rattle.report_definition.specs.Below.chart_lines.declared.charts.statement.Field.{Field}
+use Rattle.proof_reports.specs.Below.counters.Counters.{Counter, wheels_in}
+use Rattle.proof_reports.specs.Below.counters.Numbers.{number}
+use Rattle.proof_reports.specs.Below.counters.Rings.{CarryThrough, IsFedAlone}
+use Rattle.proof_reports.specs.Below.counters.WholeCycles.{ComesRound, after_cycle, after_its_points}
+use Rattle.proof_reports.specs.Below.hubs.SetupsWords.Wiring.{LeadsToEntries, Wiring, is_wired}
+use Rattle.proof_reports.specs.Below.hubs.declared.hub.Group.{Group}
+use Rattle.proof_reports.specs.Below.hubs.declared.hub.Hub.TheVariants.{CO, CI}
 use Rattle.proof_reports.proofs.WiredPanels.CycleAsks.AmountFacts.{counter_at, has_from}
 use Rattle.proof_reports.proofs.WiredPanels.CycleAsks.Counters.{held_at}
 use Rattle.proof_reports.proofs.WiredPanels.CycleAsks.CounterAsks.{asks_card, asks_heading, asks_run_in, asks_step}
@@ -31,24 +31,24 @@ use Rattle.proof_reports.specs.WiredPanels.CycleAsks.ChartAmounts.{amount_of, po
 use Rattle.proof_reports.specs.WiredPanels.CycleAsks.CounterStates.{AsksCounter, held_in}
 use Rattle.proof_reports.proofs.WiredPanels.Contacts.{is_set}
 use Rattle.proof_reports.specs.WiredPanels.Groups.{IsCounterOf}
-use Rattle.wiring_table.specs.Below.line_rules.FieldRules.Coupled.{has_sign}
-use Rattle.wiring_table.specs.Below.line_rules.FieldRules.Fields.{field_named}
-use Rattle.wiring_table.specs.Below.plans.declared.counter.TotalCounter.{TotalCounter}
-use Rattle.wiring_table.specs.Below.plans.declared.counter.TotalCounter.TheVariants as of
+use Rattle.proof_reports.specs.Below.chart_line_rules.FieldRules.Coupled.{has_sign}
+use Rattle.proof_reports.specs.Below.chart_line_rules.FieldRules.Fields.{field_named}
+use Rattle.proof_reports.specs.Below.chart_plans.declared.plans.counter.TotalCounter.{TotalCounter}
+use Rattle.proof_reports.specs.Below.chart_plans.declared.plans.counter.TotalCounter.TheVariants as of
 use Rattle.proof_cycles.proofs.TotalsWords.CounterCycles.PairLemmas.{pairs-done}
 use Rattle.proof_cycles.specs.TotalsWords.CounterCycles.Pairs.{AsksBoth, held_by_both}
-use Rattle.counters.specs.Laws.{number_of_both}
-use Rattle.net.specs.declared.cycle.Point.{Point}
-use Rattle.net.specs.declared.cycle.Point.TheVariants.{K}
-use Rattle.machine.specs.Below.hubs.declared.hub.Hub.{Hub}
+use Rattle.proof_reports.specs.Below.counters.Laws.{number_of_both}
+use Rattle.proof_reports.specs.Below.net.declared.cycle.Point.{Point}
+use Rattle.proof_reports.specs.Below.net.declared.cycle.Point.TheVariants.{K}
+use Rattle.proof_reports.specs.Below.hubs.declared.hub.Hub.{Hub}
 use Rattle.wiring_table.proofs.Groups.{counter-given}
-use Rattle.report_definition.proofs.Below.charts.Listed.{listed-map}
+use Rattle.report_definition.proofs.Below.chart_lines.ChartsWords.Listed.{listed-map}
 use Rattle.proof_reports.specs.WiredPanels.Panel.{IsPanel}
-use Rattle.machine.specs.Cycles.{CycleRun}
-use Rattle.machine.specs.Machine.{MachineState}
-use Rattle.net.specs.Panel.{unit_of}
-use Rattle.net.specs.declared.cycle.Cycle.{Cycle}
-use Rattle.net.specs.declared.cycle.Cycle.TheVariants.{RunIn, Card, Prog, Head}
+use Rattle.proof_reports.specs.Below.machine.Cycles.{CycleRun}
+use Rattle.proof_reports.specs.Below.machine.Machine.{MachineState}
+use Rattle.proof_reports.specs.Below.net.Panel.{unit_of}
+use Rattle.proof_reports.specs.Below.net.declared.cycle.Cycle.{Cycle}
+use Rattle.proof_reports.specs.Below.net.declared.cycle.Cycle.TheVariants.{RunIn, Card, Prog, Head}
 use Rattle.proof_cycles.proofs.TotalsWords.Passing.{have_room}
 use Rattle.proof_cycles.specs.TotalsWords.Amounts.{IsSmall, act_of, state_after, total_act}
 use Rattle.proof_cycles.proofs.WholeCycles.Carries.{carries-come}

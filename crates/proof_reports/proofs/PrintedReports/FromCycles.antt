@@ -1,12 +1,12 @@
 -- What whole cycles leave of the units that know no chart.
 use Rattle.std.proofs.Common.{◌≡◌, ◌∙◌, refl, ap, Bool, false}
-use Rattle.wiring_table.specs.Below.setups.Wiring.{Wiring}
-use Rattle.machine.specs.Cycles.{CycleRun}
-use Rattle.machine.specs.Machine.{MachineState}
-use Rattle.net.specs.declared.cycle.Cycle.{Cycle}
-use Rattle.net.specs.declared.cycle.Cycle.TheVariants.{RunIn, Card, Prog, Head}
-use Rattle.net.specs.declared.cycle.Point.TheVariants.{K}
-use Rattle.machine.specs.Below.hubs.declared.hub.Hub.{Hub}
+use Rattle.proof_reports.specs.Below.hubs.SetupsWords.Wiring.{Wiring}
+use Rattle.proof_reports.specs.Below.machine.Cycles.{CycleRun}
+use Rattle.proof_reports.specs.Below.machine.Machine.{MachineState}
+use Rattle.proof_reports.specs.Below.net.declared.cycle.Cycle.{Cycle}
+use Rattle.proof_reports.specs.Below.net.declared.cycle.Cycle.TheVariants.{RunIn, Card, Prog, Head}
+use Rattle.proof_reports.specs.Below.net.declared.cycle.Point.TheVariants.{K}
+use Rattle.proof_reports.specs.Below.hubs.declared.hub.Hub.{Hub}
 use Rattle.program_unit.specs.Program.{ProgramState, program_ended, program_sensed}
 use Rattle.program_unit.specs.declared.stage.Stage.TheVariants.{RanCard}
 use Rattle.proof_cycles.proofs.WholeCycles.Wholes.{cycles-whole}

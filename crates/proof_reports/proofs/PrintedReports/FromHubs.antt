@@ -1,23 +1,23 @@
 -- What the cycles of a panel wired for a chart leave of the carriage, the pilots, the storage units and the program unit.
 use Rattle.std.proofs.Common.{◌≡◌, refl, ℕ, true, false, List, Option, Some, None, is_some}
-use Rattle.wiring_table.specs.Below.plans.Plans.{Lists}
+use Rattle.proof_reports.specs.Below.chart_plans.PlansWords.Plans.{Lists}
 use Rattle.report_definition.specs.Below.chart_rules.ValidCard.{IsValidCard}
-use Rattle.report_definition.specs.Below.charts.Chart.{Chart, NumbersRise}
-use Rattle.wiring_table.specs.Below.setups.Wiring.{Wiring}
+use Rattle.report_definition.specs.Below.chart_lines.ChartsWords.Chart.{Chart, NumbersRise}
+use Rattle.proof_reports.specs.Below.hubs.SetupsWords.Wiring.{Wiring}
 use Rattle.proof_reports.proofs.WiredPanels.CycleAsks.ToCarriage.{carriage-after, carriage-after-other}
 use Rattle.proof_reports.proofs.WiredPanels.AfterCycles.{pilots-after, pilots-after-other, program-after, units-after, units-after-other}
 use Rattle.proof_reports.proofs.WiredPanels.Contacts.{is_card_cycle}
 use Rattle.proof_reports.specs.WiredPanels.Panel.{IsPanel}
 use Rattle.proof_reports.specs.WiredPanels.PanelCycles.{PilotsTellSigns, UnitsHold}
-use Rattle.machine.specs.Cycles.{CycleRun}
-use Rattle.machine.specs.Machine.{MachineState}
-use Rattle.net.specs.declared.cycle.Cycle.{Cycle}
-use Rattle.net.specs.declared.cycle.Cycle.TheVariants.{Card}
+use Rattle.proof_reports.specs.Below.machine.Cycles.{CycleRun}
+use Rattle.proof_reports.specs.Below.machine.Machine.{MachineState}
+use Rattle.proof_reports.specs.Below.net.declared.cycle.Cycle.{Cycle}
+use Rattle.proof_reports.specs.Below.net.declared.cycle.Cycle.TheVariants.{Card}
 use Rattle.proof_reports.specs.WiredPanels.CycleAsks.LinePlaces.CarriageCycles.{carriage_after}
 use Rattle.proof_reports.specs.WiredPanels.CycleAsks.LinePlaces.Placing.{kind_of}
 use Rattle.program_unit.specs.CycleOrder.{levels_to, top_level}
 use Rattle.report_definition.specs.Breaks.{ended_after}
-use Rattle.machine.specs.Below.selectors.Pilots.{moves_pilots}
+use Rattle.proof_reports.specs.Below.selectors.Pilots.{moves_pilots}
 use Rattle.proof_cycles.proofs.WholeCycles.Ready.{machines-ready}
 use Rattle.proof_cycles.specs.WholeCycles.Between.{IsReady}
 use Rattle.proof_reports.proofs.PrintedReports.Asked.{asked_for, asked_in}

@@ -1,40 +1,40 @@
 -- The third program cycle of a level, put together: what the groups and units hold, and the line that they print.
 use Rattle.std.proofs.Common.{◌≡◌, ◌∙◌, refl, sym, ap, subst, ℕ, ◌+◌, ◌≤◌, ◌<◌, ◌^◌, ◌==◌, true, false, List, Contains, Option, Some, None, is_some, unsigned_abs, inl, inr}
-use Rattle.wiring_table.specs.Below.line_rules.FieldRules.Coupled.{has_sign}
-use Rattle.counters.specs.Laws.{IsCounter}
-use Rattle.wiring_table.specs.Below.plans.Plans.{Lists}
-use Rattle.wiring_table.specs.Below.plans.declared.counter.TotalCounter.{TotalCounter}
-use Rattle.wiring_table.specs.Below.plans.declared.counter.TotalCounter.TheVariants as of
+use Rattle.proof_reports.specs.Below.chart_line_rules.FieldRules.Coupled.{has_sign}
+use Rattle.proof_reports.specs.Below.counters.Laws.{IsCounter}
+use Rattle.proof_reports.specs.Below.chart_plans.PlansWords.Plans.{Lists}
+use Rattle.proof_reports.specs.Below.chart_plans.declared.plans.counter.TotalCounter.{TotalCounter}
+use Rattle.proof_reports.specs.Below.chart_plans.declared.plans.counter.TotalCounter.TheVariants as of
 use Rattle.report_definition.specs.Below.card_code.declared.row.Row.{Row as CardRow}
-use Rattle.wiring_table.specs.Below.line_rules.FieldRules.Fields.{field_named, fields_of}
-use Rattle.wiring_table.specs.Below.line_rules.PrintRules.Marks.{breaks_mark_mismatch, is_mismatched, is_mismatched_kind}
-use Rattle.wiring_table.specs.Below.line_rules.FieldRules.Names.{breaks_wrong_kind, names_amount}
+use Rattle.proof_reports.specs.Below.chart_line_rules.FieldRules.Fields.{field_named, fields_of}
+use Rattle.proof_reports.specs.Below.chart_line_rules.PrintRules.Marks.{breaks_mark_mismatch, is_mismatched, is_mismatched_kind}
+use Rattle.proof_reports.specs.Below.chart_line_rules.FieldRules.Names.{breaks_wrong_kind, names_amount}
 use Rattle.report_definition.specs.Below.chart_rules.ValidCard.{IsValidCard, column_of, is_printed}
 use Rattle.report_definition.specs.Below.card_code.CardCode.{deck_character, has_row}
 use Rattle.report_definition.specs.Below.card_code.Rows.{row_number}
-use Rattle.machine.specs.Below.storage_units.Storage.{holds as holds_column}
+use Rattle.proof_reports.specs.Below.storage_units.Storage.{holds as holds_column}
 use Rattle.report_definition.specs.Below.chart_rules.declared.rule.Rule.TheVariants as rule
-use Rattle.report_definition.specs.Below.charts.Chart.{Chart, NumbersRise}
-use Rattle.report_definition.specs.Below.charts.Field.{columns_of, is_amount, sign_column}
-use Rattle.report_definition.specs.Below.charts.Levels as levels
-use Rattle.report_definition.specs.Below.charts.Literals.{HaveLiteralTexts}
-use Rattle.report_definition.specs.Below.charts.declared.chart.Line.{Line}
-use Rattle.report_definition.specs.Below.charts.declared.level.Level.{Level}
-use Rattle.report_definition.specs.Below.charts.declared.statement.Field.{Field}
-use Rattle.report_definition.specs.Below.charts.declared.statement.FieldKind.{FieldKind}
-use Rattle.report_definition.specs.Below.charts.declared.statement.FieldKind.TheVariants as holds
-use Rattle.report_definition.specs.Below.charts.declared.statement.Mark.{Mark}
-use Rattle.report_definition.specs.Below.charts.declared.statement.Statement.TheVariants as says
-use Rattle.report_definition.specs.Below.charts.declared.statement.TotalLine.{TotalLine}
+use Rattle.report_definition.specs.Below.chart_lines.ChartsWords.Chart.{Chart, NumbersRise}
+use Rattle.report_definition.specs.Below.chart_lines.ChartsWords.Field.{columns_of, is_amount, sign_column}
+use Rattle.report_definition.specs.Below.chart_lines.ChartsWords.Levels as levels
+use Rattle.report_definition.specs.Below.chart_lines.ChartsWords.Literals.{HaveLiteralTexts}
+use Rattle.report_definition.specs.Below.chart_lines.declared.charts.chart.Line.{Line}
+use Rattle.report_definition.specs.Below.chart_lines.declared.charts.level.Level.{Level}
+use Rattle.report_definition.specs.Below.chart_lines.declared.charts.statement.Field.{Field}
+use Rattle.report_definition.specs.Below.chart_lines.declared.charts.statement.FieldKind.{FieldKind}
+use Rattle.report_definition.specs.Below.chart_lines.declared.charts.statement.FieldKind.TheVariants as holds
+use Rattle.report_definition.specs.Below.chart_lines.declared.charts.statement.Mark.{Mark}
+use Rattle.report_definition.specs.Below.chart_lines.declared.charts.statement.Statement.TheVariants as says
+use Rattle.report_definition.specs.Below.chart_lines.declared.charts.statement.TotalLine.{TotalLine}
 use Rattle.report_definition.specs.FollowedDecks.Alike.{AlikeWith}
-use Rattle.wiring_table.specs.Below.setups.Wiring.{Wiring}
-use Rattle.machine.specs.Below.hubs.declared.hub.Group.{Group}
+use Rattle.proof_reports.specs.Below.hubs.SetupsWords.Wiring.{Wiring}
+use Rattle.proof_reports.specs.Below.hubs.declared.hub.Group.{Group}
 use Rattle.proof_reports.proofs.WiredPanels.CycleAsks.AmountFacts.{digits_are, has_it, total_field}
 use Rattle.proof_reports.proofs.WiredPanels.CycleAsks.Counters.{counter_held}
 use Rattle.proof_reports.specs.WiredPanels.CycleAsks.CounterStates.{held_in}
 use Rattle.proof_reports.specs.WiredPanels.Groups.{IsCounterOf}
 use Rattle.proof_reports.proofs.WiredPanels.CycleAsks.JacksAndTape.{wheel_jacks-are}
-use Rattle.wiring_table.proofs.Below.line_rules.FieldRules.Places.{is_same_name-own}
+use Rattle.proof_reports.proofs.Below.chart_line_rules.FieldRules.Places.{is_same_name-own}
 use Rattle.report_definition.proofs.Below.chart_rules.Laws.{kept-line}
 use Rattle.proof_reports.proofs.WiredPanels.ToCounters.{IsLine, on_line}
 use Rattle.proof_reports.proofs.WiredPanels.CycleAsks.WheelRowsLaws.{wheels-totals}
@@ -44,12 +44,12 @@ use Rattle.proof_reports.specs.WiredPanels.Panel.{IsPanel}
 use Rattle.proof_reports.specs.WiredPanels.PanelCycles.{UnitsHold}
 use Rattle.proof_reports.specs.WiredPanels.CycleAsks.PrintedRows as rows
 use Rattle.proof_reports.specs.WiredPanels.CycleAsks.PrintedRows.{IsTotalRow}
-use Rattle.machine.specs.Cycles.{CycleRun}
-use Rattle.machine.specs.Machine.{MachineState}
-use Rattle.net.specs.Cycles.{level_number}
-use Rattle.net.specs.declared.cycle.Cycle.TheVariants.{Prog}
-use Rattle.net.specs.declared.cycle.ProgramLevel.{ProgramLevel}
-use Rattle.net.specs.declared.cycle.Ordinal.TheVariants.{Third}
+use Rattle.proof_reports.specs.Below.machine.Cycles.{CycleRun}
+use Rattle.proof_reports.specs.Below.machine.Machine.{MachineState}
+use Rattle.proof_reports.specs.Below.net.Cycles.{level_number}
+use Rattle.proof_reports.specs.Below.net.declared.cycle.Cycle.TheVariants.{Prog}
+use Rattle.proof_reports.specs.Below.net.declared.cycle.ProgramLevel.{ProgramLevel}
+use Rattle.proof_reports.specs.Below.net.declared.cycle.Ordinal.TheVariants.{Third}
 use Rattle.proof_reports.proofs.PrintedLines.Premises.{total_texts}
 use Rattle.proof_reports.proofs.PrintedLines.TotalLines.{total_lines}
 use Rattle.proof_reports.specs.PrintedLines.Held as printed

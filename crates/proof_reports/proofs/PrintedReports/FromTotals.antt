@@ -5,26 +5,26 @@ use Rattle.std.proofs.lemmas.Bool.Decides.{nat_tests}
 use Rattle.std.proofs.lemmas.List.Elements.{All-contains, All-head}
 use Rattle.std.proofs.lemmas.List.Sums.{AllPass-from_list_all}
 use Rattle.std.specs.List.{list_all, range_with_len}
-use Rattle.wiring_table.proofs.Below.line_rules.FieldRules.Places.{is_same_name-equal}
-use Rattle.wiring_table.specs.Below.line_rules.FieldRules.Control.{breaks_total_text_not_control, controls_by, is_controlled_by}
-use Rattle.wiring_table.specs.Below.line_rules.FieldRules.Fields.{field_named}
+use Rattle.proof_reports.proofs.Below.chart_line_rules.FieldRules.Places.{is_same_name-equal}
+use Rattle.proof_reports.specs.Below.chart_line_rules.FieldRules.Control.{breaks_total_text_not_control, controls_by, is_controlled_by}
+use Rattle.proof_reports.specs.Below.chart_line_rules.FieldRules.Fields.{field_named}
 use Rattle.report_definition.specs.Below.chart_rules.Controls.{control_on, controls_of}
 use Rattle.report_definition.specs.Below.chart_rules.Rules.{IsLawful}
 use Rattle.report_definition.specs.Below.chart_rules.ValidCard.{column_of}
 use Rattle.report_definition.specs.Below.chart_rules.declared.rule.Rule.TheVariants as rule
-use Rattle.report_definition.specs.Below.charts.Chart.{Chart}
-use Rattle.report_definition.specs.Below.charts.Field.{columns_of}
-use Rattle.report_definition.specs.Below.charts.Levels.{control_number, level_number}
-use Rattle.report_definition.specs.Below.charts.Name.{is_same_name}
-use Rattle.report_definition.specs.Below.charts.declared.chart.Line.{Line}
-use Rattle.report_definition.specs.Below.charts.declared.level.ControlLevel.{ControlLevel}
-use Rattle.report_definition.specs.Below.charts.declared.level.ControlLevel.TheVariants as control
-use Rattle.report_definition.specs.Below.charts.declared.level.Level.{Level as ChartLevel}
-use Rattle.report_definition.specs.Below.charts.declared.statement.Field.{Field}
-use Rattle.report_definition.specs.Below.charts.declared.statement.Statement.{Statement}
-use Rattle.report_definition.specs.Below.charts.declared.statement.Statement.TheVariants as says
+use Rattle.report_definition.specs.Below.chart_lines.ChartsWords.Chart.{Chart}
+use Rattle.report_definition.specs.Below.chart_lines.ChartsWords.Field.{columns_of}
+use Rattle.report_definition.specs.Below.chart_lines.ChartsWords.Levels.{control_number, level_number}
+use Rattle.report_definition.specs.Below.chart_lines.ChartsWords.Name.{is_same_name}
+use Rattle.report_definition.specs.Below.chart_lines.declared.charts.chart.Line.{Line}
+use Rattle.report_definition.specs.Below.chart_lines.declared.charts.level.ControlLevel.{ControlLevel}
+use Rattle.report_definition.specs.Below.chart_lines.declared.charts.level.ControlLevel.TheVariants as control
+use Rattle.report_definition.specs.Below.chart_lines.declared.charts.level.Level.{Level as ChartLevel}
+use Rattle.report_definition.specs.Below.chart_lines.declared.charts.statement.Field.{Field}
+use Rattle.report_definition.specs.Below.chart_lines.declared.charts.statement.Statement.{Statement}
+use Rattle.report_definition.specs.Below.chart_lines.declared.charts.statement.Statement.TheVariants as says
 use Rattle.report_definition.specs.FollowedDecks.Alike.{AlikeWith}
-use Rattle.report_definition.proofs.Below.charts.Listed.{any-passing, listed-given}
+use Rattle.report_definition.proofs.Below.chart_lines.ChartsWords.Listed.{any-passing, listed-given}
 use Rattle.report_definition.proofs.Below.chart_rules.Laws.{kept-line}
 use Rattle.report_definition.specs.BodyLines.{a_card_of}
 use Rattle.report_definition.specs.Breaks.{taking}

@@ -1,10 +1,10 @@
 -- What the cycles of a panel wired for a chart print.
 use Rattle.std.proofs.Common.{◌≡◌, ◌∙◌, refl, ℕ, List}
-use Rattle.wiring_table.specs.Below.plans.Plans.{Lists}
+use Rattle.proof_reports.specs.Below.chart_plans.PlansWords.Plans.{Lists}
 use Rattle.report_definition.specs.Below.card_code.declared.row.Row.{Row as CardRow}
-use Rattle.report_definition.specs.Below.charts.Chart.{Chart, NumbersRise}
-use Rattle.report_definition.specs.Below.charts.Literals.{HaveLiteralTexts}
-use Rattle.wiring_table.specs.Below.setups.Wiring.{Wiring}
+use Rattle.report_definition.specs.Below.chart_lines.ChartsWords.Chart.{Chart, NumbersRise}
+use Rattle.report_definition.specs.Below.chart_lines.ChartsWords.Literals.{HaveLiteralTexts}
+use Rattle.proof_reports.specs.Below.hubs.SetupsWords.Wiring.{Wiring}
 use Rattle.proof_reports.proofs.WiredPanels.CycleAsks.JacksAndTape.{wheel_jacks-are}
 use Rattle.proof_reports.proofs.WiredPanels.AfterCycles.{cycle-of}
 use Rattle.proof_reports.proofs.WiredPanels.CycleAsks.WheelRowsLaws.{wheels-cards, wheels-headings}
@@ -12,12 +12,12 @@ use Rattle.proof_reports.specs.WiredPanels.PanelCycles.{IsCardRead}
 use Rattle.proof_reports.specs.WiredPanels.Panel.{IsPanel}
 use Rattle.proof_reports.specs.WiredPanels.PanelCycles.{AreSetTo, IsPanelCycle}
 use Rattle.proof_reports.specs.WiredPanels.CycleRows.{CycleRow}
-use Rattle.machine.specs.Cycles.{CycleRun}
-use Rattle.machine.specs.Machine.{MachineState}
-use Rattle.net.specs.Cycles.{ordinal_number}
-use Rattle.net.specs.declared.cycle.Cycle.{Cycle}
-use Rattle.net.specs.declared.cycle.Cycle.TheVariants.{Card, Head}
-use Rattle.net.specs.declared.cycle.Ordinal.{Ordinal}
+use Rattle.proof_reports.specs.Below.machine.Cycles.{CycleRun}
+use Rattle.proof_reports.specs.Below.machine.Machine.{MachineState}
+use Rattle.proof_reports.specs.Below.net.Cycles.{ordinal_number}
+use Rattle.proof_reports.specs.Below.net.declared.cycle.Cycle.{Cycle}
+use Rattle.proof_reports.specs.Below.net.declared.cycle.Cycle.TheVariants.{Card, Head}
+use Rattle.proof_reports.specs.Below.net.declared.cycle.Ordinal.{Ordinal}
 use Rattle.proof_reports.proofs.PrintedLines.Cards.{card_lines}
 use Rattle.proof_reports.proofs.PrintedLines.Headings.{heading_lines}
 use Rattle.proof_reports.specs.PrintedLines.Shown.{sent_to_card, sent_to_heading, set_on}

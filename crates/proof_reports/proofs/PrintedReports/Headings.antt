@@ -5,17 +5,17 @@ use Rattle.std.proofs.lemmas.List.{append_assoc}
 use Rattle.carriage.specs.Asked.{nothing_asked}
 use Rattle.carriage.specs.Carriage.{CarriageState}
 use Rattle.report_definition.specs.Below.page_text.declared.placed_lines.placed_line.PlacedLine.{PlacedLine}
-use Rattle.report_definition.specs.Below.charts.Chart.{Chart}
-use Rattle.wiring_table.specs.Below.setups.Wiring.{Wiring}
-use Rattle.machine.specs.Cycles.{line_of}
-use Rattle.machine.specs.Feeds.{due_in}
-use Rattle.machine.specs.Machine.{MachineState}
-use Rattle.machine.specs.Runs.{has_more}
-use Rattle.net.specs.Printing.{prints}
-use Rattle.net.specs.declared.cycle.Cycle.{Cycle}
-use Rattle.net.specs.declared.cycle.Cycle.TheVariants.{Head}
-use Rattle.net.specs.declared.cycle.Ordinal.{Ordinal}
-use Rattle.net.specs.declared.cycle.Ordinal.TheVariants.{First, Second, Third}
+use Rattle.report_definition.specs.Below.chart_lines.ChartsWords.Chart.{Chart}
+use Rattle.proof_reports.specs.Below.hubs.SetupsWords.Wiring.{Wiring}
+use Rattle.proof_reports.specs.Below.machine.Cycles.{line_of}
+use Rattle.proof_reports.specs.Below.machine.Feeds.{due_in}
+use Rattle.proof_reports.specs.Below.machine.Machine.{MachineState}
+use Rattle.proof_reports.specs.Below.machine.Runs.{has_more}
+use Rattle.proof_reports.specs.Below.net.Printing.{prints}
+use Rattle.proof_reports.specs.Below.net.declared.cycle.Cycle.{Cycle}
+use Rattle.proof_reports.specs.Below.net.declared.cycle.Cycle.TheVariants.{Head}
+use Rattle.proof_reports.specs.Below.net.declared.cycle.Ordinal.{Ordinal}
+use Rattle.proof_reports.specs.Below.net.declared.cycle.Ordinal.TheVariants.{First, Second, Third}
 use Rattle.proof_reports.proofs.WiredPanels.CycleAsks.LinePlaces.CyclesDue.{headings-come}
 use Rattle.proof_reports.proofs.WiredPanels.CycleAsks.LinePlaces.DueCycles.{due}
 use Rattle.proof_reports.proofs.WiredPanels.CycleAsks.LinePlaces.HeadingLines.{headings-placed}

@@ -4,15 +4,15 @@ use Rattle.std.proofs.Common.{◌≡◌, ◌∙◌, refl, sym, ap, subst, ℕ, s
 use Rattle.std.specs.Int.{is_negative}
 use Rattle.std.proofs.lemmas.Bool.Decides.{nat_tests}
 use Rattle.proof_cycles.specs.TotalsWords.CounterCycles.Acts.{Held}
-use Rattle.wiring_table.specs.Below.plans.Plans.{Lists}
+use Rattle.proof_reports.specs.Below.chart_plans.PlansWords.Plans.{Lists}
 use Rattle.carriage.specs.Asked.{nothing_asked}
 use Rattle.report_definition.specs.Below.chart_rules.ValidCard.{IsValidCard}
-use Rattle.report_definition.specs.Below.charts.Chart.{Chart, NumbersRise}
-use Rattle.report_definition.specs.Below.charts.Literals.{HaveLiteralTexts}
-use Rattle.report_definition.specs.Below.charts.declared.statement.Field.{Field}
+use Rattle.report_definition.specs.Below.chart_lines.ChartsWords.Chart.{Chart, NumbersRise}
+use Rattle.report_definition.specs.Below.chart_lines.ChartsWords.Literals.{HaveLiteralTexts}
+use Rattle.report_definition.specs.Below.chart_lines.declared.charts.statement.Field.{Field}
 use Rattle.report_definition.specs.FollowedDecks.Runner.{ReadsNext}
 use Rattle.report_definition.specs.FollowedDecks.Stands.{Stand, at_first}
-use Rattle.wiring_table.specs.Below.setups.Wiring.{Wiring}
+use Rattle.proof_reports.specs.Below.hubs.SetupsWords.Wiring.{Wiring}
 use Rattle.proof_reports.specs.WiredPanels.CycleAsks.ChartAmounts.{amount_of}
 use Rattle.proof_reports.specs.WiredPanels.PanelCycles.{IsCardRead}
 use Rattle.proof_reports.specs.WiredPanels.PanelCycles.{AreSetTo}
@@ -21,19 +21,19 @@ use Rattle.proof_reports.proofs.WiredPanels.CycleAsks.AmountsLawful.{amount_on_c
 use Rattle.proof_reports.proofs.WiredPanels.Contacts.{is_card_cycle}
 use Rattle.proof_reports.proofs.WiredPanels.IndicateLatches.{latches-card, latches-third, latches-left, latches-heading, latches-run_in, latches-start}
 use Rattle.proof_reports.proofs.WiredPanels.CycleAsks.JacksAndTape.{printing-is, tape-is}
-use Rattle.machine.specs.Cycles.{CycleRun}
-use Rattle.machine.specs.Machine.{MachineState, machine_at_start}
-use Rattle.machine.specs.Runs.{moved_on}
-use Rattle.net.specs.Cycles.{level_number}
-use Rattle.net.specs.declared.cycle.Cycle.{Cycle}
-use Rattle.net.specs.declared.cycle.Cycle.TheVariants.{RunIn, Card, Prog, Head}
-use Rattle.net.specs.declared.cycle.ProgramLevel.{ProgramLevel}
-use Rattle.net.specs.declared.cycle.Ordinal.{Ordinal}
-use Rattle.net.specs.declared.cycle.Ordinal.TheVariants.{First, Second, Third}
+use Rattle.proof_reports.specs.Below.machine.Cycles.{CycleRun}
+use Rattle.proof_reports.specs.Below.machine.Machine.{MachineState, machine_at_start}
+use Rattle.proof_reports.specs.Below.machine.Runs.{moved_on}
+use Rattle.proof_reports.specs.Below.net.Cycles.{level_number}
+use Rattle.proof_reports.specs.Below.net.declared.cycle.Cycle.{Cycle}
+use Rattle.proof_reports.specs.Below.net.declared.cycle.Cycle.TheVariants.{RunIn, Card, Prog, Head}
+use Rattle.proof_reports.specs.Below.net.declared.cycle.ProgramLevel.{ProgramLevel}
+use Rattle.proof_reports.specs.Below.net.declared.cycle.Ordinal.{Ordinal}
+use Rattle.proof_reports.specs.Below.net.declared.cycle.Ordinal.TheVariants.{First, Second, Third}
 use Rattle.report_definition.specs.Breaks.{cleared, ended_after, taking}
 use Rattle.report_definition.specs.Totals.{total_of}
-use Rattle.machine.specs.Below.selectors.Indicate.{Latches, indicate_ended}
-use Rattle.machine.specs.Below.selectors.Pilots.{moves_pilots}
+use Rattle.proof_reports.specs.Below.selectors.Indicate.{Latches, indicate_ended}
+use Rattle.proof_reports.specs.Below.selectors.Pilots.{moves_pilots}
 use Rattle.proof_cycles.proofs.TotalsWords.Cards.{zeros}
 use Rattle.proof_cycles.proofs.TotalsWords.GroupEnds.{total_shows}
 use Rattle.proof_cycles.proofs.TotalsWords.Passing.{other_passes}

@@ -5,23 +5,23 @@ use Rattle.std.proofs.lemmas.Bool.Decides.{nat_tests}
 use Rattle.carriage.specs.Asked.{nothing_asked}
 use Rattle.report_definition.specs.Below.page_text.declared.placed_lines.placed_line.PlacedLine.{PlacedLine}
 use Rattle.report_definition.specs.Below.chart_rules.Rules.{IsLawful}
-use Rattle.report_definition.specs.Below.charts.Chart.{Chart}
+use Rattle.report_definition.specs.Below.chart_lines.ChartsWords.Chart.{Chart}
 use Rattle.report_definition.proofs.FollowedDecks.Pages.{after-most}
 use Rattle.report_definition.proofs.FollowedDecks.Places.{places_split}
 use Rattle.report_definition.specs.FollowedDecks.Left.{bodies_of, left_after}
 use Rattle.report_definition.specs.FollowedDecks.Stands.{Stand}
-use Rattle.wiring_table.specs.Below.setups.Wiring.{Wiring}
-use Rattle.machine.specs.Cycles.{line_of}
-use Rattle.machine.specs.Feeds.{due_in}
-use Rattle.machine.specs.Machine.{MachineState}
-use Rattle.machine.specs.Runs.{has_more}
-use Rattle.net.specs.Cycles.{level_number}
-use Rattle.net.specs.Printing.{prints}
-use Rattle.net.specs.declared.cycle.Cycle.{Cycle}
-use Rattle.net.specs.declared.cycle.Cycle.TheVariants.{Prog, Head}
-use Rattle.net.specs.declared.cycle.ProgramLevel.{ProgramLevel}
-use Rattle.net.specs.declared.cycle.ProgramLevel.TheVariants.{Final}
-use Rattle.net.specs.declared.cycle.Ordinal.TheVariants.{First, Second, Third}
+use Rattle.proof_reports.specs.Below.hubs.SetupsWords.Wiring.{Wiring}
+use Rattle.proof_reports.specs.Below.machine.Cycles.{line_of}
+use Rattle.proof_reports.specs.Below.machine.Feeds.{due_in}
+use Rattle.proof_reports.specs.Below.machine.Machine.{MachineState}
+use Rattle.proof_reports.specs.Below.machine.Runs.{has_more}
+use Rattle.proof_reports.specs.Below.net.Cycles.{level_number}
+use Rattle.proof_reports.specs.Below.net.Printing.{prints}
+use Rattle.proof_reports.specs.Below.net.declared.cycle.Cycle.{Cycle}
+use Rattle.proof_reports.specs.Below.net.declared.cycle.Cycle.TheVariants.{Prog, Head}
+use Rattle.proof_reports.specs.Below.net.declared.cycle.ProgramLevel.{ProgramLevel}
+use Rattle.proof_reports.specs.Below.net.declared.cycle.ProgramLevel.TheVariants.{Final}
+use Rattle.proof_reports.specs.Below.net.declared.cycle.Ordinal.TheVariants.{First, Second, Third}
 use Rattle.proof_reports.proofs.WiredPanels.CycleAsks.LinePlaces.BodyLines.{jacks-print}
 use Rattle.proof_reports.proofs.WiredPanels.CycleAsks.LinePlaces.CyclesDue.{levels-due, levels-rise, seconds-due, thirds-due, totals-wait, others-come}
 use Rattle.proof_reports.proofs.WiredPanels.CycleAsks.LinePlaces.DueCycles.{due, stage_after}

@@ -4,14 +4,14 @@ use Rattle.std.specs.List.{range_with_len}
 use Rattle.report_definition.specs.Below.card_code.CardCode.{has_row}
 use Rattle.report_definition.specs.Below.card_code.Rows.{row_number, rows}
 use Rattle.report_definition.specs.Below.card_code.declared.row.Row.{Row as CardRow}
-use Rattle.wiring_table.specs.Below.setups.Wiring.{Wiring, is_plugged}
-use Rattle.machine.specs.Below.hubs.declared.hub.Hub.{Hub}
-use Rattle.machine.specs.Below.hubs.declared.hub.Hub.TheVariants.{W}
-use Rattle.machine.specs.Below.hubs.declared.jack.Jack.TheVariants.{Link, Suppress, Symbol}
-use Rattle.machine.specs.Machine.{MachineState}
-use Rattle.net.specs.declared.cycle.Cycle.{Cycle}
-use Rattle.net.specs.declared.cycle.Point.{Point}
-use Rattle.net.specs.declared.cycle.Point.TheVariants.{Row}
+use Rattle.proof_reports.specs.Below.hubs.SetupsWords.Wiring.{Wiring, is_plugged}
+use Rattle.proof_reports.specs.Below.hubs.declared.hub.Hub.{Hub}
+use Rattle.proof_reports.specs.Below.hubs.declared.hub.Hub.TheVariants.{W}
+use Rattle.proof_reports.specs.Below.hubs.declared.jack.Jack.TheVariants.{Link, Suppress, Symbol}
+use Rattle.proof_reports.specs.Below.machine.Machine.{MachineState}
+use Rattle.proof_reports.specs.Below.net.declared.cycle.Cycle.{Cycle}
+use Rattle.proof_reports.specs.Below.net.declared.cycle.Point.{Point}
+use Rattle.proof_reports.specs.Below.net.declared.cycle.Point.TheVariants.{Row}
 use Rattle.print_unit.specs.Wheels.{wheel_at_start}
 use Rattle.print_unit.specs.ZeroControl.{Wheel, has_zero_control, printed_line}
 use Rattle.proof_reports.specs.PrintedLines.Shown.{wheel_with, wheels_with}

@@ -1,11 +1,11 @@
 -- The floors put together: a machine that is wired for a chart places the lines of the chart's report.
 use Rattle.report_definition.specs.Below.chart_rules.ValidCard.{IsValidCard}
 use Rattle.report_definition.proofs.FollowedDecks.Running.{runs_follow_decks}
-use Rattle.machine.specs.Machine.{machine_at_start}
+use Rattle.proof_reports.specs.Below.machine.Machine.{machine_at_start}
 use Rattle.proof_reports.specs.PrintedReports.Content.{Waits}
 use Rattle.proof_reports.specs.PrintedReports.Laws.{MachinesPrintReports}
 use Rattle.proof_reports.proofs.PrintedReports.Instance.{machine_goes}
-use Rattle.machine.proofs.RunsInFeeds.{run-in-feeds}
+use Rattle.proof_reports.proofs.Below.machine.RunsInFeeds.{run-in-feeds}
 use Rattle.proof_reports.proofs.PrintedReports.Runs.{goes_by_cards, lines-run, runner}
 
 pub machine_prints_reports : MachinesPrintReports

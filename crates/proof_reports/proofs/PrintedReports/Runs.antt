@@ -3,17 +3,17 @@ use Rattle.std.proofs.Common.{◌≡◌, ◌∙◌, refl, sym, ap, subst, ℕ, �
 use Rattle.carriage.specs.Asked.{nothing_asked}
 use Rattle.report_definition.specs.Below.page_text.declared.placed_lines.placed_line.PlacedLine.{PlacedLine}
 use Rattle.report_definition.specs.Below.chart_rules.Rules.{IsLawful}
-use Rattle.report_definition.specs.Below.charts.Chart.{Chart}
+use Rattle.report_definition.specs.Below.chart_lines.ChartsWords.Chart.{Chart}
 use Rattle.report_definition.specs.FollowedDecks.Runner.{Runner, GoesByCards, FollowsNext, Runs}
 use Rattle.report_definition.specs.FollowedDecks.Stands.{Stand, at_first, card_bodies, stand_after}
-use Rattle.wiring_table.specs.Below.setups.Wiring.{Wiring}
-use Rattle.machine.specs.Cycles.{CycleRun}
-use Rattle.machine.specs.Feeds.{Feeds, LinesFrom, begun, due_in}
-use Rattle.machine.specs.Machine.{MachineState, machine_at_start}
-use Rattle.machine.specs.Runs.{has_more, moved_on}
-use Rattle.net.specs.Printing.{printing_of}
-use Rattle.net.specs.declared.cycle.Cycle.TheVariants.{RunIn}
-use Rattle.net.specs.declared.cycle.ProgramLevel.{ProgramLevel}
+use Rattle.proof_reports.specs.Below.hubs.SetupsWords.Wiring.{Wiring}
+use Rattle.proof_reports.specs.Below.machine.Cycles.{CycleRun}
+use Rattle.proof_reports.specs.Below.machine.Feeds.{Feeds, LinesFrom, begun, due_in}
+use Rattle.proof_reports.specs.Below.machine.Machine.{MachineState, machine_at_start}
+use Rattle.proof_reports.specs.Below.machine.Runs.{has_more, moved_on}
+use Rattle.proof_reports.specs.Below.net.Printing.{printing_of}
+use Rattle.proof_reports.specs.Below.net.declared.cycle.Cycle.TheVariants.{RunIn}
+use Rattle.proof_reports.specs.Below.net.declared.cycle.ProgramLevel.{ProgramLevel}
 use Rattle.proof_reports.proofs.WiredPanels.CycleAsks.LinePlaces.DueCycles.{due, is_between}
 use Rattle.proof_reports.proofs.WiredPanels.CycleAsks.LinePlaces.Placements.{starts}
 use Rattle.proof_reports.specs.WiredPanels.CycleAsks.LinePlaces.Placing.{IsCarriageOf, IsFormOf, printing_of_chart}

@@ -1,11 +1,11 @@
 -- The steps of a feed: the cycle that is due, and what follows it.
 use Rattle.std.proofs.Common.{◌≡◌, subst, ℕ, Bool, List, [], ◌∷◌, ◌++◌, Option, Some, None}
 use Rattle.report_definition.specs.Below.page_text.declared.placed_lines.placed_line.PlacedLine.{PlacedLine}
-use Rattle.wiring_table.specs.Below.setups.Wiring.{Wiring}
-use Rattle.machine.specs.Cycles.{CycleRun, line_of}
-use Rattle.machine.specs.Feeds.{Fed, FeedStep, FeedRuns, due_in, taken}
-use Rattle.machine.specs.Machine.{MachineState}
-use Rattle.net.specs.declared.cycle.Cycle.{Cycle}
+use Rattle.proof_reports.specs.Below.hubs.SetupsWords.Wiring.{Wiring}
+use Rattle.proof_reports.specs.Below.machine.Cycles.{CycleRun, line_of}
+use Rattle.proof_reports.specs.Below.machine.Feeds.{Fed, FeedStep, FeedRuns, due_in, taken}
+use Rattle.proof_reports.specs.Below.machine.Machine.{MachineState}
+use Rattle.proof_reports.specs.Below.net.declared.cycle.Cycle.{Cycle}
 
 -- a machine in a feed
 abbrev pub fed_with : MachineState → Bool → Option (List ℕ) → Fed

@@ -5,8 +5,8 @@ use Rattle.std.specs.Int.{is_negative}
 use Rattle.std.proofs.lemmas.Bool.Decides.{nat_tests}
 use Rattle.std.proofs.lemmas.Int.{ints}
 use Rattle.proof_cycles.specs.TotalsWords.CounterCycles.Acts.{Held}
-use Rattle.report_definition.specs.Below.charts.declared.statement.Field.{Field}
-use Rattle.net.specs.declared.cycle.Ordinal.TheVariants.{First, Second, Third}
+use Rattle.report_definition.specs.Below.chart_lines.declared.charts.statement.Field.{Field}
+use Rattle.proof_reports.specs.Below.net.declared.cycle.Ordinal.TheVariants.{First, Second, Third}
 use Rattle.report_definition.specs.Amounts.{digits_on, is_negated, number_in, value_of}
 use Rattle.report_definition.specs.Breaks.{cleared, taking}
 use Rattle.report_definition.specs.Totals.{total_of}

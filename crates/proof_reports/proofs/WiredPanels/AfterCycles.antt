@@ -1,17 +1,17 @@
 -- The machine after a whole cycle of a panel that is wired for a chart: the pilots, the storage units and the level called for.
 use Rattle.std.proofs.Common.{◌≡◌, ◌∙◌, sym, ap, subst, ℕ, true, false, List, Option, Some}
-use Rattle.wiring_table.specs.Below.plans.Plans.{Lists}
+use Rattle.wiring_table.specs.Below.chart_plans.PlansWords.Plans.{Lists}
 use Rattle.wiring_table.specs.Below.chart_rules.ValidCard.{IsValidCard}
-use Rattle.wiring_table.specs.Below.charts.Chart.{Chart, NumbersRise}
-use Rattle.wiring_table.specs.Below.setups.Wiring.{Wiring}
-use Rattle.machine.specs.Machine.{MachineState}
-use Rattle.machine.specs.Below.net.declared.cycle.Cycle.{Cycle}
-use Rattle.machine.specs.Below.net.declared.cycle.Cycle.TheVariants.{Card}
-use Rattle.machine.specs.Below.program_unit.CycleOrder.{levels_to}
-use Rattle.machine.specs.Below.program_unit.Program.{ProgramState}
-use Rattle.wiring_table.specs.Below.report.Breaks.{highest}
-use Rattle.machine.specs.Below.selectors.Pilots.{PilotStates, moves_pilots}
-use Rattle.machine.specs.Below.storage_units.Storage.{StorageState}
+use Rattle.wiring_table.specs.Below.chart_lines.ChartsWords.Chart.{Chart, NumbersRise}
+use Rattle.wiring_table.specs.Below.hubs.SetupsWords.Wiring.{Wiring}
+use Rattle.proof_cycles.specs.Below.machine.Machine.{MachineState}
+use Rattle.proof_cycles.specs.Below.net.declared.cycle.Cycle.{Cycle}
+use Rattle.proof_cycles.specs.Below.net.declared.cycle.Cycle.TheVariants.{Card}
+use Rattle.program_unit.specs.CycleOrder.{levels_to}
+use Rattle.program_unit.specs.Program.{ProgramState}
+use Rattle.report_definition.specs.Breaks.{highest}
+use Rattle.proof_cycles.specs.Below.selectors.Pilots.{PilotStates, moves_pilots}
+use Rattle.proof_cycles.specs.Below.storage_units.Storage.{StorageState}
 use Rattle.proof_cycles.specs.WholeCycles.Between.{IsBetween}
 use Rattle.proof_cycles.specs.WholeCycles.WholeCycles.{WholeCycle}
 use Rattle.proof_reports.proofs.WiredPanels.Contacts.{is_card_cycle}

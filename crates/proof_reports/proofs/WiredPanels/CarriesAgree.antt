@@ -4,17 +4,17 @@ use Rattle.std.proofs.lemmas.Bool.{and_parts}
 use Rattle.std.proofs.lemmas.Bool.Decides.{nat_tests}
 use Rattle.std.proofs.lemmas.Option.{same_Some}
 use Rattle.wiring_table.specs.Below.capacity.declared.group.CounterGroup.{CounterGroup}
-use Rattle.wiring_table.specs.Below.charts.declared.chart.Line.{Line}
-use Rattle.wiring_table.specs.Below.charts.declared.statement.Statement.{Statement}
-use Rattle.machine.specs.Below.hubs.Carries.{are_alike, do_groups_agree, do_wires_agree, is_one_group, keeps_carry, may_carry}
-use Rattle.machine.specs.Below.hubs.Hubs.{carry_into, carry_out_of}
-use Rattle.machine.specs.Below.hubs.declared.hub.Group.{Group}
-use Rattle.machine.specs.Below.hubs.declared.hub.Hub.{Hub}
-use Rattle.machine.specs.Below.hubs.declared.hub.Hub.TheVariants.{CI, CO}
-use Rattle.wiring_table.specs.Below.plans.Counters.{ServesAsPair, single_group}
-use Rattle.wiring_table.specs.Below.plans.Plans.{Lists, ServesChart}
-use Rattle.wiring_table.specs.Below.plans.declared.counter.TotalCounter.TheVariants as of
-use Rattle.wiring_table.specs.Below.setups.Wiring.{CanJoin, HasWire, Wiring}
+use Rattle.wiring_table.specs.Below.chart_lines.declared.charts.chart.Line.{Line}
+use Rattle.wiring_table.specs.Below.chart_lines.declared.charts.statement.Statement.{Statement}
+use Rattle.proof_cycles.specs.Below.hubs.Carries.{are_alike, do_groups_agree, do_wires_agree, is_one_group, keeps_carry, may_carry}
+use Rattle.proof_cycles.specs.Below.hubs.Hubs.{carry_into, carry_out_of}
+use Rattle.proof_cycles.specs.Below.hubs.declared.hub.Group.{Group}
+use Rattle.proof_cycles.specs.Below.hubs.declared.hub.Hub.{Hub}
+use Rattle.proof_cycles.specs.Below.hubs.declared.hub.Hub.TheVariants.{CI, CO}
+use Rattle.wiring_table.specs.Below.chart_plans.PlansWords.Counters.{ServesAsPair, single_group}
+use Rattle.wiring_table.specs.Below.chart_plans.PlansWords.Plans.{Lists, ServesChart}
+use Rattle.wiring_table.specs.Below.chart_plans.declared.plans.counter.TotalCounter.TheVariants as of
+use Rattle.wiring_table.specs.Below.hubs.SetupsWords.Wiring.{CanJoin, HasWire, Wiring}
 use Rattle.proof_reports.proofs.WiredPanels.Chains.{ToCarry, carry_kept, from_itself, from_lower, from_upper, to_carry}
 use Rattle.wiring_table.proofs.Groups.{is-served, serves-own, single-serves}
 use Rattle.wiring_table.specs.Parts.{ServesTotal, counter_for, group_for, panel_group}

@@ -1,21 +1,21 @@
 -- What holds of each wire of a chart: it leads from an exit to an entry, and no second contact stands after a contact.
 use Rattle.std.proofs.Common.{◌≡◌, sym, refl, ℕ, ◌&&◌, ◌||◌, not, Bool, true, false, List, Option, Some, None, ap, is_some}
-use Rattle.wiring_table.specs.Below.plans.Plans.{Lists}
-use Rattle.wiring_table.specs.Below.charts.declared.chart.Line.{Line}
-use Rattle.wiring_table.specs.Below.charts.declared.statement.BodyLine.TheVariants as body
-use Rattle.wiring_table.specs.Below.charts.declared.statement.SignRule.{SignRule}
-use Rattle.wiring_table.specs.Below.charts.declared.statement.SignRule.TheVariants as sign
-use Rattle.wiring_table.specs.Below.charts.declared.statement.Statement.{Statement}
-use Rattle.machine.specs.Below.hub_table.HubTable.{row_of}
-use Rattle.machine.specs.Below.hubs.Hubs.{carry_into, carry_out_of, letters_of}
-use Rattle.machine.specs.Below.hubs.declared.hub.Group.{Group}
-use Rattle.machine.specs.Below.hubs.declared.hub.Hub.{Hub}
-use Rattle.machine.specs.Below.hubs.declared.hub.Hub.TheVariants.{CA, CB, CI, CO, PIX, SE, SI, SO, ST, SP, SK, RS}
-use Rattle.machine.specs.Below.net.Panel.{contact_of}
+use Rattle.wiring_table.specs.Below.chart_plans.PlansWords.Plans.{Lists}
+use Rattle.wiring_table.specs.Below.chart_lines.declared.charts.chart.Line.{Line}
+use Rattle.wiring_table.specs.Below.chart_lines.declared.charts.statement.BodyLine.TheVariants as body
+use Rattle.wiring_table.specs.Below.chart_lines.declared.charts.statement.SignRule.{SignRule}
+use Rattle.wiring_table.specs.Below.chart_lines.declared.charts.statement.SignRule.TheVariants as sign
+use Rattle.wiring_table.specs.Below.chart_lines.declared.charts.statement.Statement.{Statement}
+use Rattle.proof_cycles.specs.Below.hubs.HubTable.HubTable.{row_of}
+use Rattle.proof_cycles.specs.Below.hubs.Hubs.{carry_into, carry_out_of, letters_of}
+use Rattle.proof_cycles.specs.Below.hubs.declared.hub.Group.{Group}
+use Rattle.proof_cycles.specs.Below.hubs.declared.hub.Hub.{Hub}
+use Rattle.proof_cycles.specs.Below.hubs.declared.hub.Hub.TheVariants.{CA, CB, CI, CO, PIX, SE, SI, SO, ST, SP, SK, RS}
+use Rattle.proof_cycles.specs.Below.net.Panel.{contact_of}
 use Rattle.proof_cycles.specs.WholeCycles.Carries.{is_carry}
 use Rattle.proof_cycles.specs.WholeCycles.OneContactDeep.{is_common}
 use Rattle.wiring_table.specs.Below.capacity.declared.group.CounterGroup.{CounterGroup}
-use Rattle.wiring_table.specs.Below.plans.declared.counter.TotalCounter.TheVariants as of
+use Rattle.wiring_table.specs.Below.chart_plans.declared.plans.counter.TotalCounter.TheVariants as of
 use Rattle.wiring_table.specs.Figures.{IsSigned}
 use Rattle.wiring_table.specs.Parts.{counter_for, group_for, panel_group}
 use Rattle.wiring_table.specs.Wires.{LineWire}

@@ -1,22 +1,22 @@
 -- Which contacts are closed in a cycle, by the states before it.
 use Rattle.std.proofs.Common.{◌≡◌, ◌∙◌, refl, ℕ, ◌&&◌, ◌||◌, not, Bool, true, false}
-use Rattle.machine.specs.Below.card_code.declared.row.Row.{Row as CardRow}
-use Rattle.machine.specs.Below.hub_table.Ranges.{is_within}
-use Rattle.machine.specs.Below.hubs.declared.hub.Group.{Group}
-use Rattle.machine.specs.Below.hubs.declared.hub.Hub.{Hub}
-use Rattle.machine.specs.Below.hubs.declared.hub.Hub.TheVariants.{BAN, BAT, PIN, PIT, IX, CSD}
-use Rattle.machine.proofs.ClosedContacts.{closes-joined}
-use Rattle.machine.specs.Fields.{AreInUnitOrder}
-use Rattle.machine.specs.Machine.{MachineState, closes}
-use Rattle.machine.specs.Steady.{balance_latches}
-use Rattle.machine.specs.Below.net.declared.cycle.Cycle.{Cycle}
-use Rattle.machine.specs.Below.net.declared.cycle.Cycle.TheVariants.{RunIn, Card, Prog, Head}
-use Rattle.machine.specs.Below.net.declared.cycle.Point.{Point}
-use Rattle.machine.specs.Below.net.declared.cycle.Point.TheVariants.{C, Row, K}
-use Rattle.machine.specs.Below.selectors.Contacts.{has_balance, is_balance_set}
-use Rattle.machine.specs.Below.selectors.Indicate.{is_latch_set, indicate_closes}
-use Rattle.machine.specs.Below.selectors.Pilots.{is_normal, is_transferred}
-use Rattle.machine.specs.Below.selectors.Splits.{is_digit_row, split_closes}
+use Rattle.proof_cycles.specs.Below.card_code.declared.row.Row.{Row as CardRow}
+use Rattle.proof_cycles.specs.Below.hubs.HubTable.Ranges.{is_within}
+use Rattle.proof_cycles.specs.Below.hubs.declared.hub.Group.{Group}
+use Rattle.proof_cycles.specs.Below.hubs.declared.hub.Hub.{Hub}
+use Rattle.proof_cycles.specs.Below.hubs.declared.hub.Hub.TheVariants.{BAN, BAT, PIN, PIT, IX, CSD}
+use Rattle.proof_cycles.proofs.Below.machine.ClosedContacts.{closes-joined}
+use Rattle.proof_cycles.specs.Below.machine.Fields.{AreInUnitOrder}
+use Rattle.proof_cycles.specs.Below.machine.Machine.{MachineState, closes}
+use Rattle.proof_cycles.specs.Below.machine.Steady.{balance_latches}
+use Rattle.proof_cycles.specs.Below.net.declared.cycle.Cycle.{Cycle}
+use Rattle.proof_cycles.specs.Below.net.declared.cycle.Cycle.TheVariants.{RunIn, Card, Prog, Head}
+use Rattle.proof_cycles.specs.Below.net.declared.cycle.Point.{Point}
+use Rattle.proof_cycles.specs.Below.net.declared.cycle.Point.TheVariants.{C, Row, K}
+use Rattle.proof_cycles.specs.Below.selectors.Contacts.{has_balance, is_balance_set}
+use Rattle.proof_cycles.specs.Below.selectors.Indicate.{is_latch_set, indicate_closes}
+use Rattle.proof_cycles.specs.Below.selectors.Pilots.{is_normal, is_transferred}
+use Rattle.proof_cycles.specs.Below.selectors.Splits.{is_digit_row, split_closes}
 
 -- whether the balance latch of a counter group is set
 abbrev pub is_set : MachineState → Group → Bool

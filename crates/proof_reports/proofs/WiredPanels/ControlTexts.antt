@@ -2,19 +2,19 @@
 use Rattle.std.proofs.Common.{◌≡◌, ◌∙◌, refl, sym, ap, ℕ, ◌+◌, ◌<◌, ◌==◌, ◌&&◌, Bool, true, false, List, [], ◌∷◌, Contains, Option, Some, arith, if◌then◌else◌}
 use Rattle.std.proofs.lemmas.Bool.Decides.{nat_tests}
 use Rattle.std.specs.List.{list_all}
-use Rattle.machine.specs.Below.card_code.CardCode.{code, character_in, deck_character}
-use Rattle.machine.specs.Below.card_code.Rows.{is_row_set}
-use Rattle.wiring_table.specs.Below.line_rules.FieldRules.Fields.{field_named}
-use Rattle.wiring_table.specs.Below.line_rules.FieldRules.Names.{names_amount}
+use Rattle.proof_cycles.specs.Below.card_code.CardCode.{code, character_in, deck_character}
+use Rattle.proof_cycles.specs.Below.card_code.Rows.{is_row_set}
+use Rattle.wiring_table.specs.Below.chart_line_rules.FieldRules.Fields.{field_named}
+use Rattle.wiring_table.specs.Below.chart_line_rules.FieldRules.Names.{names_amount}
 use Rattle.wiring_table.specs.Below.chart_rules.Rules.{IsLawful, breaks}
 use Rattle.wiring_table.specs.Below.chart_rules.ValidCard.{IsValidCard, IsText, column_of, is_printed}
 use Rattle.wiring_table.specs.Below.chart_rules.declared.rule.Rule.TheVariants as rule
-use Rattle.wiring_table.specs.Below.charts.Chart.{Chart}
-use Rattle.wiring_table.specs.Below.charts.Field.{columns_of}
-use Rattle.wiring_table.specs.Below.charts.declared.chart.Line.{Line}
-use Rattle.wiring_table.specs.Below.charts.declared.level.ControlLevel.{ControlLevel}
-use Rattle.wiring_table.specs.Below.charts.declared.statement.Field.{Field}
-use Rattle.wiring_table.specs.Below.charts.declared.statement.Statement.TheVariants as says
+use Rattle.wiring_table.specs.Below.chart_lines.ChartsWords.Chart.{Chart}
+use Rattle.wiring_table.specs.Below.chart_lines.ChartsWords.Field.{columns_of}
+use Rattle.wiring_table.specs.Below.chart_lines.declared.charts.chart.Line.{Line}
+use Rattle.wiring_table.specs.Below.chart_lines.declared.charts.level.ControlLevel.{ControlLevel}
+use Rattle.wiring_table.specs.Below.chart_lines.declared.charts.statement.Field.{Field}
+use Rattle.wiring_table.specs.Below.chart_lines.declared.charts.statement.Statement.TheVariants as says
 use Rattle.wiring_table.proofs.Below.chart_rules.Laws.{kept-line, text-valid}
 
 -- a set with a print character is the set of the first pair, or has its character further on

@@ -2,25 +2,25 @@
 use Rattle.std.proofs.Common.{◌≡◌, ◌∙◌, refl, ap, ℕ, ◌+◌, ◌-◌, ◌≤◌, nat_le, ◌&&◌, not, Bool, true, false, List, Some, None, option_map, arith, if◌then◌else◌}
 use Rattle.std.proofs.lemmas.Bool.Decides.{nat_tests}
 use Rattle.std.specs.Prelude.{slice_index_or}
-use Rattle.machine.specs.Below.card_code.CardCode.{has_row}
+use Rattle.proof_cycles.specs.Below.card_code.CardCode.{has_row}
 use Rattle.wiring_table.specs.Below.chart_rules.ValidCard.{column_of}
-use Rattle.wiring_table.specs.Below.charts.Field.{column_of_rule}
-use Rattle.wiring_table.specs.Below.charts.declared.statement.FieldKind.{FieldKind}
-use Rattle.wiring_table.specs.Below.charts.declared.statement.FieldKind.TheVariants as holds
-use Rattle.wiring_table.specs.Below.charts.declared.statement.SignRule.{SignRule}
-use Rattle.wiring_table.specs.Below.charts.declared.statement.SignRule.TheVariants as sign
-use Rattle.machine.specs.Below.hubs.Hubs.{number_of}
-use Rattle.machine.specs.Below.hub_table.Places.{part_place, up_to}
-use Rattle.machine.specs.Below.hub_table.Ranges.{is_within}
-use Rattle.machine.specs.Below.hubs.declared.hub.Group.{Group}
-use Rattle.machine.specs.Below.hubs.declared.hub.Hub.TheVariants.{BAN, BAT, PIC}
-use Rattle.machine.specs.Fields.{AreInUnitOrder}
-use Rattle.machine.specs.Machine.{MachineState}
-use Rattle.machine.specs.Below.net.Panel.{unit_of}
-use Rattle.machine.specs.Below.net.declared.cycle.Cycle.{Cycle}
-use Rattle.machine.specs.Below.net.declared.cycle.Point.TheVariants.{C}
-use Rattle.wiring_table.specs.Below.report.Amounts.{is_negated, is_negative_by}
-use Rattle.machine.specs.Below.selectors.Pilots.{PilotStates, is_transferred, is_normal}
+use Rattle.wiring_table.specs.Below.chart_lines.ChartsWords.Field.{column_of_rule}
+use Rattle.wiring_table.specs.Below.chart_lines.declared.charts.statement.FieldKind.{FieldKind}
+use Rattle.wiring_table.specs.Below.chart_lines.declared.charts.statement.FieldKind.TheVariants as holds
+use Rattle.wiring_table.specs.Below.chart_lines.declared.charts.statement.SignRule.{SignRule}
+use Rattle.wiring_table.specs.Below.chart_lines.declared.charts.statement.SignRule.TheVariants as sign
+use Rattle.proof_cycles.specs.Below.hubs.Hubs.{number_of}
+use Rattle.proof_cycles.specs.Below.hubs.HubTable.Places.{part_place, up_to}
+use Rattle.proof_cycles.specs.Below.hubs.HubTable.Ranges.{is_within}
+use Rattle.proof_cycles.specs.Below.hubs.declared.hub.Group.{Group}
+use Rattle.proof_cycles.specs.Below.hubs.declared.hub.Hub.TheVariants.{BAN, BAT, PIC}
+use Rattle.proof_cycles.specs.Below.machine.Fields.{AreInUnitOrder}
+use Rattle.proof_cycles.specs.Below.machine.Machine.{MachineState}
+use Rattle.proof_cycles.specs.Below.net.Panel.{unit_of}
+use Rattle.proof_cycles.specs.Below.net.declared.cycle.Cycle.{Cycle}
+use Rattle.proof_cycles.specs.Below.net.declared.cycle.Point.TheVariants.{C}
+use Rattle.report_definition.specs.Amounts.{is_negated, is_negative_by}
+use Rattle.proof_cycles.specs.Below.selectors.Pilots.{PilotStates, is_transferred, is_normal}
 use Rattle.wiring_table.specs.Figures.{rule_of}
 use Rattle.wiring_table.specs.Parts.{negative_side, positive_side}
 use Rattle.proof_reports.proofs.WiredPanels.Contacts.{closes-BAT, closes-BAN, closes-PIT, closes-PIN, is_set}

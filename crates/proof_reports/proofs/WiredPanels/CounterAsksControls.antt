@@ -1,19 +1,19 @@
 -- What impulses the control hubs of a counter group of a total.
 use Rattle.std.proofs.Common.{◌≡◌, ◌∙◌, refl, sym, subst, ℕ, Bool, true, List, Some, ◌⊎◌, inl, inr, arith}
-use Rattle.wiring_table.specs.Below.plans.Plans.{Lists}
-use Rattle.wiring_table.specs.Below.charts.Chart.{Chart, NumbersRise}
-use Rattle.wiring_table.specs.Below.charts.declared.chart.Line.{Line}
-use Rattle.wiring_table.specs.Below.charts.declared.statement.SignRule.{SignRule}
-use Rattle.wiring_table.specs.Below.charts.declared.statement.SignRule.TheVariants as sign
-use Rattle.wiring_table.specs.Below.setups.Wiring.{Wiring, HasWire}
-use Rattle.machine.specs.Below.hubs.declared.hub.Group.{Group}
-use Rattle.machine.specs.Below.hubs.declared.hub.Hub.{Hub}
-use Rattle.machine.specs.Below.hubs.declared.hub.Hub.TheVariants.{BAN, BAT, PL, MI, RO, BT, BAC, PIC}
-use Rattle.machine.specs.Machine.{MachineState, closes}
-use Rattle.machine.specs.Below.net.Panel.{contact_of}
-use Rattle.machine.specs.Below.net.declared.cycle.Cycle.{Cycle}
-use Rattle.machine.specs.Below.net.declared.cycle.Point.{Point}
-use Rattle.machine.specs.Below.net.declared.cycle.Point.TheVariants.{C}
+use Rattle.wiring_table.specs.Below.chart_plans.PlansWords.Plans.{Lists}
+use Rattle.wiring_table.specs.Below.chart_lines.ChartsWords.Chart.{Chart, NumbersRise}
+use Rattle.wiring_table.specs.Below.chart_lines.declared.charts.chart.Line.{Line}
+use Rattle.wiring_table.specs.Below.chart_lines.declared.charts.statement.SignRule.{SignRule}
+use Rattle.wiring_table.specs.Below.chart_lines.declared.charts.statement.SignRule.TheVariants as sign
+use Rattle.wiring_table.specs.Below.hubs.SetupsWords.Wiring.{Wiring, HasWire}
+use Rattle.proof_cycles.specs.Below.hubs.declared.hub.Group.{Group}
+use Rattle.proof_cycles.specs.Below.hubs.declared.hub.Hub.{Hub}
+use Rattle.proof_cycles.specs.Below.hubs.declared.hub.Hub.TheVariants.{BAN, BAT, PL, MI, RO, BT, BAC, PIC}
+use Rattle.proof_cycles.specs.Below.machine.Machine.{MachineState, closes}
+use Rattle.proof_cycles.specs.Below.net.Panel.{contact_of}
+use Rattle.proof_cycles.specs.Below.net.declared.cycle.Cycle.{Cycle}
+use Rattle.proof_cycles.specs.Below.net.declared.cycle.Point.{Point}
+use Rattle.proof_cycles.specs.Below.net.declared.cycle.Point.TheVariants.{C}
 use Rattle.proof_cycles.specs.WholeCycles.WholeCycles.{control_emits}
 use Rattle.wiring_table.specs.Figures.{IsSigned, IsUnsigned}
 use Rattle.wiring_table.specs.Parts.{IsLowest, pilot_for, negative_side, positive_side, top_for}

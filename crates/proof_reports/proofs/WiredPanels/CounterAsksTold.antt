@@ -1,18 +1,18 @@
 -- Cycles as the control hubs of counter groups tell them apart, and wires from the lines of totals.
 use Rattle.std.proofs.Common.{◌≡◌, ◌∙◌, refl, sym, ap, subst, ℕ, ◌<◌, Bool, true, false, List, Some}
-use Rattle.wiring_table.specs.Below.plans.Plans.{Lists, ServesChart}
-use Rattle.wiring_table.proofs.Below.line_rules.FieldRules.Places.{is_same_name-equal}
-use Rattle.wiring_table.specs.Below.charts.Chart.{Chart, NumbersRise}
-use Rattle.wiring_table.specs.Below.charts.declared.chart.Line.{Line}
-use Rattle.wiring_table.specs.Below.charts.declared.statement.Statement.TheVariants as says
-use Rattle.wiring_table.specs.Below.charts.declared.statement.TotalLine.{TotalLine}
-use Rattle.machine.specs.Below.hubs.Hubs.{number_of}
-use Rattle.machine.specs.Below.hubs.declared.hub.Group.{Group}
-use Rattle.machine.specs.Below.hubs.declared.hub.Hub.{Hub}
-use Rattle.machine.specs.Below.hubs.declared.hub.Hub.TheVariants.{CC, PX, HX}
-use Rattle.machine.specs.Below.net.Cycles.{level_number, ordinal_number}
-use Rattle.machine.specs.Below.net.declared.cycle.Cycle.{Cycle}
-use Rattle.machine.specs.Below.net.declared.cycle.Cycle.TheVariants.{RunIn, Card, Prog, Head}
+use Rattle.wiring_table.specs.Below.chart_plans.PlansWords.Plans.{Lists, ServesChart}
+use Rattle.wiring_table.proofs.Below.chart_line_rules.FieldRules.Places.{is_same_name-equal}
+use Rattle.wiring_table.specs.Below.chart_lines.ChartsWords.Chart.{Chart, NumbersRise}
+use Rattle.wiring_table.specs.Below.chart_lines.declared.charts.chart.Line.{Line}
+use Rattle.wiring_table.specs.Below.chart_lines.declared.charts.statement.Statement.TheVariants as says
+use Rattle.wiring_table.specs.Below.chart_lines.declared.charts.statement.TotalLine.{TotalLine}
+use Rattle.proof_cycles.specs.Below.hubs.Hubs.{number_of}
+use Rattle.proof_cycles.specs.Below.hubs.declared.hub.Group.{Group}
+use Rattle.proof_cycles.specs.Below.hubs.declared.hub.Hub.{Hub}
+use Rattle.proof_cycles.specs.Below.hubs.declared.hub.Hub.TheVariants.{CC, PX, HX}
+use Rattle.proof_cycles.specs.Below.net.Cycles.{level_number, ordinal_number}
+use Rattle.proof_cycles.specs.Below.net.declared.cycle.Cycle.{Cycle}
+use Rattle.proof_cycles.specs.Below.net.declared.cycle.Cycle.TheVariants.{RunIn, Card, Prog, Head}
 use Rattle.proof_cycles.specs.WholeCycles.WholeCycles.{control_emits}
 use Rattle.wiring_table.specs.Parts.{HasTotal, IsNextHigher}
 use Rattle.wiring_table.specs.Wires.{LineWire, ChartWire}

@@ -2,24 +2,24 @@
 use Rattle.std.proofs.Common.{◌≡◌, ◌∙◌, refl, sym, ap, subst, ℕ, suc, ◌+◌, ◌-◌, ◌*◌, ◌<◌, ◌≤◌, nat_le, Bool, true, false, List, [], ◌∷◌, Contains, Option, Some, None, option_map, length, map, ◌⊎◌, inl, inr, arith, if◌then◌else◌}
 use Rattle.std.proofs.lemmas.Bool.Decides.{nat_tests}
 use Rattle.std.specs.Prelude.{slice_index_or}
-use Rattle.wiring_table.proofs.Below.plans.CounterGroups.{width-cases}
-use Rattle.wiring_table.specs.Below.plans.Plans.{Lists, ServesChart}
+use Rattle.wiring_table.proofs.Below.chart_plans.PlansWords.CounterGroups.{width-cases}
+use Rattle.wiring_table.specs.Below.chart_plans.PlansWords.Plans.{Lists, ServesChart}
 use Rattle.wiring_table.specs.Below.capacity.Capacities.{HasGroup, standard, groups_of}
-use Rattle.wiring_table.specs.Below.charts.declared.chart.Line.{Line}
-use Rattle.machine.specs.Below.counters.Counters.{Counter, counter_number}
-use Rattle.machine.proofs.Below.hubs.HubLemmas.{number_of-injective}
-use Rattle.machine.specs.Below.hubs.Hubs.{number_of}
-use Rattle.machine.specs.Below.hub_table.Places.{group_place, part_place, up_to, width_place}
-use Rattle.machine.specs.Below.hub_table.Ranges.{is_within}
-use Rattle.machine.specs.Below.hubs.declared.hub.Group.{Group}
-use Rattle.machine.specs.Below.hubs.declared.hub.Hub.TheVariants.{PL}
-use Rattle.machine.proofs.ClosedContacts.{AreFrom, are_from, group_units-up, unit_of-last}
-use Rattle.machine.specs.Fields.{AreInUnitOrder}
-use Rattle.machine.specs.Machine.{group_units}
-use Rattle.machine.specs.Below.net.Panel.{unit_of, unit_after}
+use Rattle.wiring_table.specs.Below.chart_lines.declared.charts.chart.Line.{Line}
+use Rattle.proof_cycles.specs.Below.counters.Counters.{Counter, counter_number}
+use Rattle.proof_cycles.proofs.Below.hubs.HubLemmas.{number_of-injective}
+use Rattle.proof_cycles.specs.Below.hubs.Hubs.{number_of}
+use Rattle.proof_cycles.specs.Below.hubs.HubTable.Places.{group_place, part_place, up_to, width_place}
+use Rattle.proof_cycles.specs.Below.hubs.HubTable.Ranges.{is_within}
+use Rattle.proof_cycles.specs.Below.hubs.declared.hub.Group.{Group}
+use Rattle.proof_cycles.specs.Below.hubs.declared.hub.Hub.TheVariants.{PL}
+use Rattle.proof_cycles.proofs.Below.machine.ClosedContacts.{AreFrom, are_from, group_units-up, unit_of-last}
+use Rattle.proof_cycles.specs.Below.machine.Fields.{AreInUnitOrder}
+use Rattle.proof_cycles.specs.Below.machine.Machine.{group_units}
+use Rattle.proof_cycles.specs.Below.net.Panel.{unit_of, unit_after}
 use Rattle.wiring_table.specs.Parts.{ServesTotal}
 use Rattle.wiring_table.proofs.Groups.{serves-there}
-use Rattle.wiring_table.proofs.Below.charts.Listed.{listed-after, listed-cases, listed-first}
+use Rattle.wiring_table.proofs.Below.chart_lines.ChartsWords.Listed.{listed-after, listed-cases, listed-first}
 
 -- a group of the standard machine is one of the units 3 and up
 pub unit_there : (group : Group) → HasGroup standard (record { width = group.width; number = group.number }) → 3 ≤ unit_of group

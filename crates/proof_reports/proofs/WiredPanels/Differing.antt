@@ -5,19 +5,19 @@ use Rattle.std.proofs.lemmas.List.Folds.{list_all_at}
 use Rattle.std.proofs.lemmas.List.FromFn.{length-range_with_len, get_or-range_with_len}
 use Rattle.std.specs.List.{cons_option, filter_map, list_all, range_with_len}
 use Rattle.std.proofs.lemmas.Bool.{and_right}
-use Rattle.wiring_table.specs.Below.line_rules.FieldRules.Fields.{field_named}
+use Rattle.wiring_table.specs.Below.chart_line_rules.FieldRules.Fields.{field_named}
 use Rattle.wiring_table.specs.Below.chart_rules.Controls.{control_on}
 use Rattle.wiring_table.specs.Below.chart_rules.ValidCard.{column_of}
-use Rattle.wiring_table.specs.Below.charts.Field.{columns_of}
-use Rattle.wiring_table.specs.Below.charts.Levels.{control_number}
-use Rattle.wiring_table.specs.Below.charts.declared.chart.Line.{Line}
-use Rattle.wiring_table.specs.Below.charts.declared.level.ControlLevel.{ControlLevel}
-use Rattle.wiring_table.specs.Below.charts.declared.statement.Field.{Field}
-use Rattle.wiring_table.specs.Below.charts.declared.statement.Statement.{Statement}
-use Rattle.wiring_table.specs.Below.charts.declared.statement.Statement.TheVariants as says
-use Rattle.wiring_table.specs.Below.report.Groups.{is_same_on, is_same_at}
+use Rattle.wiring_table.specs.Below.chart_lines.ChartsWords.Field.{columns_of}
+use Rattle.wiring_table.specs.Below.chart_lines.ChartsWords.Levels.{control_number}
+use Rattle.wiring_table.specs.Below.chart_lines.declared.charts.chart.Line.{Line}
+use Rattle.wiring_table.specs.Below.chart_lines.declared.charts.level.ControlLevel.{ControlLevel}
+use Rattle.wiring_table.specs.Below.chart_lines.declared.charts.statement.Field.{Field}
+use Rattle.wiring_table.specs.Below.chart_lines.declared.charts.statement.Statement.{Statement}
+use Rattle.wiring_table.specs.Below.chart_lines.declared.charts.statement.Statement.TheVariants as says
+use Rattle.report_definition.specs.Groups.{is_same_on, is_same_at}
 use Rattle.proof_reports.specs.WiredPanels.PanelCycles.{Differs}
-use Rattle.wiring_table.proofs.Below.charts.Listed.{listed-after}
+use Rattle.wiring_table.proofs.Below.chart_lines.ChartsWords.Listed.{listed-after}
 
 -- A column of a row of them that fails a test.
 record Fails (test : ℕ → Bool) (first many : ℕ) : Type 0 where

@@ -2,13 +2,13 @@
 -- level's latch.
 use Rattle.std.proofs.Common.{◌≡◌, ◌∙◌, refl, ℕ, zero, suc, ◌≢◌, ◌+◌, ◌≤◌, ◌==◌, nat_le, Bool, true, false, arith, if◌then◌else◌}
 use Rattle.std.proofs.lemmas.Bool.Decides.{nat_tests}
-use Rattle.machine.specs.Below.net.Cycles.{level_number}
-use Rattle.machine.specs.Below.net.declared.cycle.Cycle.TheVariants.{RunIn, Card, Prog, Head}
-use Rattle.machine.specs.Below.net.declared.cycle.ProgramLevel.{ProgramLevel}
-use Rattle.machine.specs.Below.net.declared.cycle.ProgramLevel.TheVariants.{Minor, Intermediate, Major, Final}
-use Rattle.machine.specs.Below.net.declared.cycle.Ordinal.{Ordinal}
-use Rattle.machine.specs.Below.net.declared.cycle.Ordinal.TheVariants.{First, Second, Third}
-use Rattle.machine.specs.Below.selectors.Indicate.{Latches, indicate_at_start, indicate_ended}
+use Rattle.proof_cycles.specs.Below.net.Cycles.{level_number}
+use Rattle.proof_cycles.specs.Below.net.declared.cycle.Cycle.TheVariants.{RunIn, Card, Prog, Head}
+use Rattle.proof_cycles.specs.Below.net.declared.cycle.ProgramLevel.{ProgramLevel}
+use Rattle.proof_cycles.specs.Below.net.declared.cycle.ProgramLevel.TheVariants.{Minor, Intermediate, Major, Final}
+use Rattle.proof_cycles.specs.Below.net.declared.cycle.Ordinal.{Ordinal}
+use Rattle.proof_cycles.specs.Below.net.declared.cycle.Ordinal.TheVariants.{First, Second, Third}
+use Rattle.proof_cycles.specs.Below.selectors.Indicate.{Latches, indicate_at_start, indicate_ended}
 use Rattle.proof_reports.specs.WiredPanels.PanelCycles.{AreSetTo}
 
 -- the latches by their levels

@@ -1,7 +1,7 @@
 -- The laws of the other units, from what reaches them: an impulse passes one contact at most, and units emit at exits of theirs alone.
 use Rattle.std.proofs.Common.{◌≡◌, ◌≢◌, refl, false}
-use Rattle.machine.specs.Below.net.declared.cycle.Cycle.{Cycle}
-use Rattle.machine.specs.Below.net.declared.cycle.Cycle.TheVariants.{RunIn, Card, Prog, Head}
+use Rattle.proof_cycles.specs.Below.net.declared.cycle.Cycle.{Cycle}
+use Rattle.proof_cycles.specs.Below.net.declared.cycle.Cycle.TheVariants.{RunIn, Card, Prog, Head}
 use Rattle.proof_reports.specs.WiredPanels.PanelLaws.{BreaksCallLevels, PilotsTellTheNextCard, UnitsHoldTheCard}
 use Rattle.proof_reports.proofs.WiredPanels.AfterCycles.{pilots-after, pilots-after-other, program-after, units-after, units-after-other}
 use Rattle.proof_reports.proofs.WiredPanels.Contacts.{is_card_cycle}

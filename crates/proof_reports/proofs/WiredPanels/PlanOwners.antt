@@ -1,24 +1,24 @@
 -- A counter group serves one total, one group has the balance of a total, and each signed amount with a total has a pilot.
 use Rattle.std.proofs.Common.{◌≡◌, ◌∙◌, refl, sym, ap, ℕ, ◌≤◌, true, List, Some, None, is_some, position, arith}
-use Rattle.wiring_table.specs.Below.wanted.Pilots.{shows}
-use Rattle.wiring_table.specs.Below.plans.Plans.{Lists, ServesChart}
-use Rattle.wiring_table.proofs.Below.line_rules.FieldRules.Places.{is_same_name-equal}
+use Rattle.wiring_table.specs.Below.chart_plans.WantedWords.Pilots.{shows}
+use Rattle.wiring_table.specs.Below.chart_plans.PlansWords.Plans.{Lists, ServesChart}
+use Rattle.wiring_table.proofs.Below.chart_line_rules.FieldRules.Places.{is_same_name-equal}
 use Rattle.wiring_table.specs.Below.chart_rules.Rules.{IsLawful}
-use Rattle.wiring_table.specs.Below.charts.Chart.{Chart, NumbersRise}
-use Rattle.wiring_table.specs.Below.charts.Field.{sign_column}
-use Rattle.wiring_table.specs.Below.charts.Levels.{level_number}
-use Rattle.wiring_table.specs.Below.charts.declared.chart.Line.{Line}
-use Rattle.wiring_table.specs.Below.charts.declared.level.Level.{Level}
-use Rattle.wiring_table.specs.Below.charts.declared.level.Level.TheVariants as level
-use Rattle.wiring_table.specs.Below.charts.declared.statement.FieldKind.{FieldKind}
-use Rattle.wiring_table.specs.Below.charts.declared.statement.FieldKind.TheVariants as holds
-use Rattle.wiring_table.specs.Below.charts.declared.statement.SignRule.{SignRule}
-use Rattle.wiring_table.specs.Below.charts.declared.statement.Statement.TheVariants as says
-use Rattle.machine.specs.Below.hubs.declared.hub.Group.{Group}
+use Rattle.wiring_table.specs.Below.chart_lines.ChartsWords.Chart.{Chart, NumbersRise}
+use Rattle.wiring_table.specs.Below.chart_lines.ChartsWords.Field.{sign_column}
+use Rattle.wiring_table.specs.Below.chart_lines.ChartsWords.Levels.{level_number}
+use Rattle.wiring_table.specs.Below.chart_lines.declared.charts.chart.Line.{Line}
+use Rattle.wiring_table.specs.Below.chart_lines.declared.charts.level.Level.{Level}
+use Rattle.wiring_table.specs.Below.chart_lines.declared.charts.level.Level.TheVariants as level
+use Rattle.wiring_table.specs.Below.chart_lines.declared.charts.statement.FieldKind.{FieldKind}
+use Rattle.wiring_table.specs.Below.chart_lines.declared.charts.statement.FieldKind.TheVariants as holds
+use Rattle.wiring_table.specs.Below.chart_lines.declared.charts.statement.SignRule.{SignRule}
+use Rattle.wiring_table.specs.Below.chart_lines.declared.charts.statement.Statement.TheVariants as says
+use Rattle.proof_cycles.specs.Below.hubs.declared.hub.Group.{Group}
 use Rattle.wiring_table.specs.Figures.{IsSigned, rule_of}
 use Rattle.wiring_table.specs.Parts.{HasTotal, pilot_for, top_for}
 use Rattle.proof_reports.specs.WiredPanels.Groups.{IsGroupOf, IsPlaceFor, IsTopOf}
-use Rattle.wiring_table.proofs.Below.charts.Rising.{one-line}
+use Rattle.wiring_table.proofs.Below.chart_lines.ChartsWords.Rising.{one-line}
 use Rattle.wiring_table.proofs.Groups.{position-serves, serves-own, top-serves}
 use Rattle.wiring_table.proofs.Parts.{pilot-given}
 use Rattle.wiring_table.proofs.Totals.{one-total}

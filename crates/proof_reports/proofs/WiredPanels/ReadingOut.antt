@@ -1,18 +1,18 @@
 -- Which counter groups and storage units read out in the cycles that print: those of a level's totals and texts in its third program
 -- cycle, and none in other cycles.
 use Rattle.std.proofs.Common.{◌≡◌, refl, sym, ap, subst, ℕ, Bool, true, false, List, ◌↔◌}
-use Rattle.wiring_table.specs.Below.setups.Wiring.{Wiring}
-use Rattle.wiring_table.specs.Below.charts.Chart.{NumbersRise}
-use Rattle.wiring_table.specs.Below.charts.Levels.{level_number as chart_number}
-use Rattle.machine.specs.Below.hubs.declared.hub.Group.{Group}
-use Rattle.machine.specs.Below.hubs.declared.hub.Hub.{Hub}
-use Rattle.machine.specs.Below.hubs.declared.hub.Hub.TheVariants.{PX, RO, SO}
-use Rattle.machine.specs.Below.net.Cycles.{level_number}
-use Rattle.machine.specs.Below.net.declared.cycle.Cycle.{Cycle}
-use Rattle.machine.specs.Below.net.declared.cycle.Cycle.TheVariants.{RunIn, Card, Prog, Head}
-use Rattle.machine.specs.Below.net.declared.cycle.ProgramLevel.{ProgramLevel}
-use Rattle.machine.specs.Below.net.declared.cycle.Ordinal.TheVariants.{First, Second, Third}
-use Rattle.machine.specs.Below.net.declared.cycle.Point.TheVariants.{C}
+use Rattle.wiring_table.specs.Below.hubs.SetupsWords.Wiring.{Wiring}
+use Rattle.wiring_table.specs.Below.chart_lines.ChartsWords.Chart.{NumbersRise}
+use Rattle.wiring_table.specs.Below.chart_lines.ChartsWords.Levels.{level_number as chart_number}
+use Rattle.proof_cycles.specs.Below.hubs.declared.hub.Group.{Group}
+use Rattle.proof_cycles.specs.Below.hubs.declared.hub.Hub.{Hub}
+use Rattle.proof_cycles.specs.Below.hubs.declared.hub.Hub.TheVariants.{PX, RO, SO}
+use Rattle.proof_cycles.specs.Below.net.Cycles.{level_number}
+use Rattle.proof_cycles.specs.Below.net.declared.cycle.Cycle.{Cycle}
+use Rattle.proof_cycles.specs.Below.net.declared.cycle.Cycle.TheVariants.{RunIn, Card, Prog, Head}
+use Rattle.proof_cycles.specs.Below.net.declared.cycle.ProgramLevel.{ProgramLevel}
+use Rattle.proof_cycles.specs.Below.net.declared.cycle.Ordinal.TheVariants.{First, Second, Third}
+use Rattle.proof_cycles.specs.Below.net.declared.cycle.Point.TheVariants.{C}
 use Rattle.proof_reports.proofs.WiredPanels.ReadingGroups.{reading}
 use Rattle.proof_reports.proofs.WiredPanels.ToStorage.{unit-reads_out}
 use Rattle.proof_reports.specs.WiredPanels.CycleRows.{CycleRow}

@@ -3,25 +3,25 @@ use Rattle.std.proofs.Common.{◌≡◌, ◌∙◌, refl, sym, ap, ℕ, zero, su
 use Rattle.std.proofs.lemmas.Bool.Decides.{nat_tests}
 use Rattle.std.specs.List.{list_any}
 use Rattle.wiring_table.proofs.Below.chart_rules.Laws.{breaks-lawful}
-use Rattle.wiring_table.specs.Below.line_rules.FieldRules.Repeats.{repeats, is_same_body}
+use Rattle.wiring_table.specs.Below.chart_line_rules.FieldRules.Repeats.{repeats, is_same_body}
 use Rattle.wiring_table.specs.Below.chart_rules.Rules.{IsLawful}
 use Rattle.wiring_table.specs.Below.chart_rules.declared.rule.Rule.TheVariants as rule
-use Rattle.wiring_table.specs.Below.charts.Chart.{Chart}
-use Rattle.wiring_table.specs.Below.charts.Levels.{level_number}
-use Rattle.wiring_table.specs.Below.charts.Spacings.{spacing_number}
-use Rattle.wiring_table.specs.Below.charts.declared.chart.Line.{Line}
-use Rattle.wiring_table.specs.Below.charts.declared.level.Level.{Level}
-use Rattle.wiring_table.specs.Below.charts.declared.level.Level.TheVariants as level
-use Rattle.wiring_table.specs.Below.charts.declared.spacing.Spacing.{Spacing}
-use Rattle.wiring_table.specs.Below.charts.declared.statement.After.{After}
-use Rattle.wiring_table.specs.Below.charts.declared.statement.BodyLine.{BodyLine}
-use Rattle.wiring_table.specs.Below.charts.declared.statement.BodyLine.TheVariants as body
-use Rattle.wiring_table.specs.Below.charts.declared.statement.Statement.{Statement}
-use Rattle.wiring_table.specs.Below.charts.declared.statement.Statement.TheVariants as says
-use Rattle.wiring_table.specs.Below.report.ChartForm.{kind_number, spacing_of, spacing_from, after_of, after_from}
+use Rattle.wiring_table.specs.Below.chart_lines.ChartsWords.Chart.{Chart}
+use Rattle.wiring_table.specs.Below.chart_lines.ChartsWords.Levels.{level_number}
+use Rattle.wiring_table.specs.Below.chart_lines.ChartsWords.Spacings.{spacing_number}
+use Rattle.wiring_table.specs.Below.chart_lines.declared.charts.chart.Line.{Line}
+use Rattle.wiring_table.specs.Below.chart_lines.declared.charts.level.Level.{Level}
+use Rattle.wiring_table.specs.Below.chart_lines.declared.charts.level.Level.TheVariants as level
+use Rattle.wiring_table.specs.Below.chart_lines.declared.charts.spacing.Spacing.{Spacing}
+use Rattle.wiring_table.specs.Below.chart_lines.declared.charts.statement.After.{After}
+use Rattle.wiring_table.specs.Below.chart_lines.declared.charts.statement.BodyLine.{BodyLine}
+use Rattle.wiring_table.specs.Below.chart_lines.declared.charts.statement.BodyLine.TheVariants as body
+use Rattle.wiring_table.specs.Below.chart_lines.declared.charts.statement.Statement.{Statement}
+use Rattle.wiring_table.specs.Below.chart_lines.declared.charts.statement.Statement.TheVariants as says
+use Rattle.report_definition.specs.ChartForm.{kind_number, spacing_of, spacing_from, after_of, after_from}
 use Rattle.std.proofs.lemmas.List.Elements.{Contains-append_right}
-use Rattle.wiring_table.proofs.Below.report.Said.{SaysAfter, SaysSpace}
-use Rattle.wiring_table.proofs.Below.charts.Listed.{listed-first, none-any}
+use Rattle.report_definition.proofs.Said.{SaysAfter, SaysSpace}
+use Rattle.wiring_table.proofs.Below.chart_lines.ChartsWords.Listed.{listed-first, none-any}
 
 -- no line of a list says again what another before it says
 abbrev pub IsSaidOnce : List Line → Type 0

@@ -3,10 +3,10 @@ use Rattle.std.proofs.Common.{◌≡◌, ◌≢◌, ◌∙◌, refl, sym, ap, �
 use Rattle.std.proofs.lemmas.Bool.Decides.{nat_tests}
 use Rattle.std.proofs.lemmas.Nat.Bits.{same_from_bits_below, bit_at-lt}
 use Rattle.std.specs.Int.{bit_at}
-use Rattle.machine.specs.Below.card_code.CardCode.{has_row}
-use Rattle.machine.specs.Below.card_code.Rows.{rows, row_number, is_row_set}
-use Rattle.machine.specs.Below.card_code.declared.row.Row.{Row as CardRow}
-use Rattle.machine.specs.Below.card_code.declared.row.Row.TheVariants.{Zero, One, Two, Three, Four, Five, Six, Seven, Eight, Nine, Eleven, Twelve}
+use Rattle.proof_cycles.specs.Below.card_code.CardCode.{has_row}
+use Rattle.proof_cycles.specs.Below.card_code.Rows.{rows, row_number, is_row_set}
+use Rattle.proof_cycles.specs.Below.card_code.declared.row.Row.{Row as CardRow}
+use Rattle.proof_cycles.specs.Below.card_code.declared.row.Row.TheVariants.{Zero, One, Two, Three, Four, Five, Six, Seven, Eight, Nine, Eleven, Twelve}
 
 -- each row is one of the twelve
 pub row-listed : (row : CardRow) → Contains rows row

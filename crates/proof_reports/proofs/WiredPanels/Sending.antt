@@ -1,31 +1,31 @@
 -- What sends at a point emits there: the other way from exits to sources.
 use Rattle.std.proofs.Common.{◌≡◌, ◌∙◌, refl, sym, ap, ℕ, suc, ◌+◌, ◌-◌, ◌≤◌, ◌==◌, ◌&&◌, ◌||◌, Bool, true, false, List, [], ◌∷◌, Some, length, slice_index, arith}
 use Rattle.std.proofs.lemmas.Bool.Decides.{nat_tests}
-use Rattle.machine.specs.Below.card_code.Rows.{row_number}
-use Rattle.machine.specs.Below.card_code.declared.row.Row.{Row as CardRow}
-use Rattle.machine.specs.Below.counters.Counters.{shows}
-use Rattle.machine.specs.Below.hubs.Hubs.{number_of}
-use Rattle.machine.specs.Below.hubs.declared.hub.Group.{Group}
-use Rattle.machine.specs.Below.hubs.declared.hub.Hub.{Hub}
-use Rattle.machine.specs.Below.hubs.declared.hub.Hub.TheVariants.{FR, SR, GX, SX, EM, PX, HX, RO, SO}
-use Rattle.machine.specs.Machine.{MachineState}
-use Rattle.machine.proofs.Below.net.Rows.{is_hub-own}
-use Rattle.machine.specs.Below.net.Cycles.{level_number, ordinal_number}
-use Rattle.machine.specs.Below.net.HubSets.{is_hub}
-use Rattle.machine.specs.Below.net.declared.cycle.Cycle.{Cycle}
-use Rattle.machine.specs.Below.net.declared.cycle.Cycle.TheVariants.{Card}
-use Rattle.machine.specs.Below.net.declared.cycle.Point.{Point}
-use Rattle.machine.specs.Below.net.declared.cycle.Point.TheVariants.{C, Row}
-use Rattle.machine.specs.Below.print_unit.Emitters.{emits_row}
-use Rattle.machine.specs.Below.stations.Punches.{is_punched_at}
-use Rattle.machine.specs.Below.stations.Stations.{stations_emits}
-use Rattle.machine.specs.Below.storage_units.Storage.{holds}
+use Rattle.proof_cycles.specs.Below.card_code.Rows.{row_number}
+use Rattle.proof_cycles.specs.Below.card_code.declared.row.Row.{Row as CardRow}
+use Rattle.proof_cycles.specs.Below.counters.Counters.{shows}
+use Rattle.proof_cycles.specs.Below.hubs.Hubs.{number_of}
+use Rattle.proof_cycles.specs.Below.hubs.declared.hub.Group.{Group}
+use Rattle.proof_cycles.specs.Below.hubs.declared.hub.Hub.{Hub}
+use Rattle.proof_cycles.specs.Below.hubs.declared.hub.Hub.TheVariants.{FR, SR, GX, SX, EM, PX, HX, RO, SO}
+use Rattle.proof_cycles.specs.Below.machine.Machine.{MachineState}
+use Rattle.proof_cycles.proofs.Below.net.Rows.{is_hub-own}
+use Rattle.proof_cycles.specs.Below.net.Cycles.{level_number, ordinal_number}
+use Rattle.proof_cycles.specs.Below.net.HubSets.{is_hub}
+use Rattle.proof_cycles.specs.Below.net.declared.cycle.Cycle.{Cycle}
+use Rattle.proof_cycles.specs.Below.net.declared.cycle.Cycle.TheVariants.{Card}
+use Rattle.proof_cycles.specs.Below.net.declared.cycle.Point.{Point}
+use Rattle.proof_cycles.specs.Below.net.declared.cycle.Point.TheVariants.{C, Row}
+use Rattle.print_unit.specs.Emitters.{emits_row}
+use Rattle.proof_cycles.specs.Below.stations.Punches.{is_punched_at}
+use Rattle.proof_cycles.specs.Below.stations.Stations.{stations_emits}
+use Rattle.proof_cycles.specs.Below.storage_units.Storage.{holds}
 use Rattle.proof_cycles.specs.WholeCycles.WholeCycles.{control_emits, row_emits, group_reads_out, storage_reads_out}
 use Rattle.proof_reports.specs.WiredPanels.Sources.{EmitsAtControl, EmitsAtRow, ReadsFirst, digit_from_units}
 use Rattle.proof_reports.specs.WiredPanels.Sources.ReadsFirst.{run_in, card as card_reads}
 use Rattle.proof_reports.specs.WiredPanels.Sources.EmitsAtControl.{card as tells_card, prog as tells_prog, head as tells_head}
 use Rattle.proof_reports.specs.WiredPanels.Sources.EmitsAtRow.{first, second, digit, column, emitter}
-use Rattle.wiring_table.proofs.Below.charts.Listed.{any-listed}
+use Rattle.wiring_table.proofs.Below.chart_lines.ChartsWords.Listed.{any-listed}
 
 -- a hub of the panel is itself
 pub own : (hub : Hub) (n : ℕ) → number_of hub ≡ Some n → is_hub hub hub ≡ true

@@ -2,30 +2,30 @@
 use Rattle.std.proofs.Common.{◌≡◌, ◌∙◌, refl, sym, ap, subst, ℕ, ◌+◌, ◌-◌, ◌≤◌, ◌==◌, ◌&&◌, ◌||◌, Bool, true, false, List, [], ◌∷◌, Contains, Option, Some, None, length, slice_index, ◌⊎◌, inl, inr, arith, suc}
 use Rattle.std.proofs.lemmas.Bool.Decides.{nat_tests}
 use Rattle.std.specs.List.{list_any}
-use Rattle.machine.specs.Below.card_code.Rows.{row_number}
-use Rattle.machine.specs.Below.card_code.declared.row.Row.{Row as CardRow}
-use Rattle.machine.specs.Below.counters.Counters.{Counter, shows}
-use Rattle.machine.specs.Below.hubs.declared.hub.Group.{Group}
-use Rattle.machine.specs.Below.hubs.declared.hub.Hub.{Hub}
-use Rattle.machine.specs.Below.hubs.declared.hub.Hub.TheVariants.{FR, SR, GX, SX, EM, CC, PX, HX, RO, SO}
-use Rattle.machine.specs.Machine.{MachineState}
-use Rattle.machine.proofs.Below.net.Rows.{is_hub-same}
-use Rattle.machine.specs.Below.net.Cycles.{level_number, ordinal_number}
-use Rattle.machine.specs.Below.net.HubSets.{is_hub}
-use Rattle.machine.specs.Below.net.declared.cycle.Cycle.{Cycle}
-use Rattle.machine.specs.Below.net.declared.cycle.Cycle.TheVariants.{RunIn, Card, Prog, Head}
-use Rattle.machine.specs.Below.net.declared.cycle.Point.{Point}
-use Rattle.machine.specs.Below.net.declared.cycle.Point.TheVariants.{C, Row}
-use Rattle.machine.specs.Below.print_unit.Emitters.{emitter_of, emits_row, emitters_emit}
-use Rattle.machine.specs.Below.stations.Punches.{is_punched_at}
-use Rattle.machine.specs.Below.stations.Stations.{first_emits, second_emits, stations_emits}
-use Rattle.machine.specs.Below.storage_units.Storage.{StorageState, holds}
+use Rattle.proof_cycles.specs.Below.card_code.Rows.{row_number}
+use Rattle.proof_cycles.specs.Below.card_code.declared.row.Row.{Row as CardRow}
+use Rattle.proof_cycles.specs.Below.counters.Counters.{Counter, shows}
+use Rattle.proof_cycles.specs.Below.hubs.declared.hub.Group.{Group}
+use Rattle.proof_cycles.specs.Below.hubs.declared.hub.Hub.{Hub}
+use Rattle.proof_cycles.specs.Below.hubs.declared.hub.Hub.TheVariants.{FR, SR, GX, SX, EM, CC, PX, HX, RO, SO}
+use Rattle.proof_cycles.specs.Below.machine.Machine.{MachineState}
+use Rattle.proof_cycles.proofs.Below.net.Rows.{is_hub-same}
+use Rattle.proof_cycles.specs.Below.net.Cycles.{level_number, ordinal_number}
+use Rattle.proof_cycles.specs.Below.net.HubSets.{is_hub}
+use Rattle.proof_cycles.specs.Below.net.declared.cycle.Cycle.{Cycle}
+use Rattle.proof_cycles.specs.Below.net.declared.cycle.Cycle.TheVariants.{RunIn, Card, Prog, Head}
+use Rattle.proof_cycles.specs.Below.net.declared.cycle.Point.{Point}
+use Rattle.proof_cycles.specs.Below.net.declared.cycle.Point.TheVariants.{C, Row}
+use Rattle.print_unit.specs.Emitters.{emitter_of, emits_row, emitters_emit}
+use Rattle.proof_cycles.specs.Below.stations.Punches.{is_punched_at}
+use Rattle.proof_cycles.specs.Below.stations.Stations.{first_emits, second_emits, stations_emits}
+use Rattle.proof_cycles.specs.Below.storage_units.Storage.{StorageState, holds}
 use Rattle.proof_cycles.specs.WholeCycles.WholeCycles.{control_emits, row_emits, group_reads_out, storage_reads_out}
 use Rattle.proof_reports.specs.WiredPanels.Sources.{EmitsAtControl, EmitsAtRow, digit_from_units}
 use Rattle.proof_reports.specs.WiredPanels.Sources.EmitsAtControl.{card as tells_card, prog as tells_prog, head as tells_head}
 use Rattle.proof_reports.specs.WiredPanels.Sources.ReadsFirst.{run_in as reads_run_in, card as reads_card}
 use Rattle.proof_reports.specs.WiredPanels.Sources.EmitsAtRow.{first, second, digit, column, emitter}
-use Rattle.wiring_table.proofs.Below.charts.Listed.{any-passing}
+use Rattle.wiring_table.proofs.Below.chart_lines.ChartsWords.Listed.{any-passing}
 
 -- the exit that emits at the control point tells of the cycle
 pub told : (cycle : Cycle) (hub : Hub) → control_emits cycle hub ≡ true → EmitsAtControl cycle hub

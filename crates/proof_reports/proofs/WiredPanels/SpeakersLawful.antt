@@ -5,17 +5,17 @@ use Rattle.std.proofs.lemmas.Bool.{or_parts}
 use Rattle.std.proofs.Math.Seq.{split_at}
 use Rattle.std.proofs.lemmas.Option.{slice_get_within, get_or_from_slice_get}
 use Rattle.wiring_table.proofs.Below.chart_rules.Laws.{breaks-lawful, said-once}
-use Rattle.wiring_table.proofs.Below.line_rules.FieldRules.Places.{is_same_name-own}
-use Rattle.wiring_table.specs.Below.line_rules.FieldRules.Fields.{fields_of}
-use Rattle.wiring_table.specs.Below.line_rules.PrintRules.Items.{item_of}
+use Rattle.wiring_table.proofs.Below.chart_line_rules.FieldRules.Places.{is_same_name-own}
+use Rattle.wiring_table.specs.Below.chart_line_rules.FieldRules.Fields.{fields_of}
+use Rattle.wiring_table.specs.Below.chart_line_rules.PrintRules.Items.{item_of}
 use Rattle.wiring_table.specs.Below.chart_rules.Rules.{IsLawful, breaks}
-use Rattle.wiring_table.specs.Below.line_rules.PrintRules.Wheels.{overlap}
+use Rattle.wiring_table.specs.Below.chart_line_rules.PrintRules.Wheels.{overlap}
 use Rattle.wiring_table.specs.Below.chart_rules.declared.rule.Rule.TheVariants as rule
 use Rattle.wiring_table.specs.Below.chart_rules.declared.rule.Rule.{Rule}
-use Rattle.wiring_table.specs.Below.charts.Chart.{Chart}
-use Rattle.wiring_table.specs.Below.charts.declared.chart.Line.{Line}
-use Rattle.wiring_table.specs.Below.charts.declared.statement.DetailOption.{DetailOption}
-use Rattle.wiring_table.specs.Below.charts.declared.statement.Statement.TheVariants as says
+use Rattle.wiring_table.specs.Below.chart_lines.ChartsWords.Chart.{Chart}
+use Rattle.wiring_table.specs.Below.chart_lines.declared.charts.chart.Line.{Line}
+use Rattle.wiring_table.specs.Below.chart_lines.declared.charts.statement.DetailOption.{DetailOption}
+use Rattle.wiring_table.specs.Below.chart_lines.declared.charts.statement.Statement.TheVariants as says
 
 -- a line of a lawful chart breaks no rule
 pub kept-at :

@@ -1,16 +1,16 @@
 -- What arrives at the entries of a panel at the points of a cycle. At a plain entry an impulse arrives straight from an exit that emits.
 use Rattle.std.proofs.Common.{◌≡◌, refl, Bool, true, false, List, None, ◌↔◌}
-use Rattle.wiring_table.specs.Below.plans.Plans.{Lists}
-use Rattle.machine.specs.Below.card_code.declared.row.Row.{Row as CardRow}
-use Rattle.wiring_table.specs.Below.charts.Chart.{Chart}
-use Rattle.wiring_table.specs.Below.charts.declared.chart.Line.{Line}
-use Rattle.wiring_table.specs.Below.setups.Wiring.{Wiring}
-use Rattle.machine.specs.Below.hubs.declared.hub.Hub.{Hub}
-use Rattle.machine.specs.Machine.{MachineState, closes}
-use Rattle.machine.specs.Below.net.Panel.{contact_of}
-use Rattle.machine.specs.Below.net.declared.cycle.Cycle.{Cycle}
-use Rattle.machine.specs.Below.net.declared.cycle.Point.{Point}
-use Rattle.machine.specs.Below.net.declared.cycle.Point.TheVariants.{C, Row, K}
+use Rattle.wiring_table.specs.Below.chart_plans.PlansWords.Plans.{Lists}
+use Rattle.proof_cycles.specs.Below.card_code.declared.row.Row.{Row as CardRow}
+use Rattle.wiring_table.specs.Below.chart_lines.ChartsWords.Chart.{Chart}
+use Rattle.wiring_table.specs.Below.chart_lines.declared.charts.chart.Line.{Line}
+use Rattle.wiring_table.specs.Below.hubs.SetupsWords.Wiring.{Wiring}
+use Rattle.proof_cycles.specs.Below.hubs.declared.hub.Hub.{Hub}
+use Rattle.proof_cycles.specs.Below.machine.Machine.{MachineState, closes}
+use Rattle.proof_cycles.specs.Below.net.Panel.{contact_of}
+use Rattle.proof_cycles.specs.Below.net.declared.cycle.Cycle.{Cycle}
+use Rattle.proof_cycles.specs.Below.net.declared.cycle.Point.{Point}
+use Rattle.proof_cycles.specs.Below.net.declared.cycle.Point.TheVariants.{C, Row, K}
 use Rattle.proof_cycles.proofs.WholeCycles.Sources.{emit_at_sources}
 use Rattle.proof_cycles.proofs.WholeCycles.Carries.{carries-apart, carries-wait}
 use Rattle.proof_cycles.specs.WholeCycles.Carries.{but_carries, is_carry}

@@ -3,34 +3,34 @@
 use Rattle.std.proofs.Common.{◌≡◌, ◌∙◌, refl, sym, ap, subst, ℕ, ◌+◌, ◌<◌, ◌==◌, not, Bool, true, false, List, Contains, Some, None, ◌↔◌, arith, if◌then◌else◌}
 use Rattle.std.proofs.lemmas.Bool.Decides.{nat_tests}
 use Rattle.std.proofs.lemmas.Bool.{not-true, and_parts}
-use Rattle.wiring_table.specs.Below.plans.Plans.{Lists}
-use Rattle.machine.specs.Below.card_code.CardCode.{has_row}
-use Rattle.machine.specs.Below.card_code.Rows.{rows, row_number}
-use Rattle.machine.specs.Below.card_code.declared.row.Row.{Row as CardRow}
-use Rattle.wiring_table.specs.Below.line_rules.FieldRules.Fields.{field_named}
+use Rattle.wiring_table.specs.Below.chart_plans.PlansWords.Plans.{Lists}
+use Rattle.proof_cycles.specs.Below.card_code.CardCode.{has_row}
+use Rattle.proof_cycles.specs.Below.card_code.Rows.{rows, row_number}
+use Rattle.proof_cycles.specs.Below.card_code.declared.row.Row.{Row as CardRow}
+use Rattle.wiring_table.specs.Below.chart_line_rules.FieldRules.Fields.{field_named}
 use Rattle.wiring_table.specs.Below.chart_rules.ValidCard.{IsValidCard, column_of}
-use Rattle.wiring_table.specs.Below.charts.Chart.{Chart}
-use Rattle.wiring_table.specs.Below.charts.Field.{columns_of}
-use Rattle.wiring_table.specs.Below.charts.Levels.{control_number}
-use Rattle.wiring_table.specs.Below.charts.declared.chart.Line.{Line}
-use Rattle.wiring_table.specs.Below.charts.declared.level.ControlLevel.{ControlLevel}
-use Rattle.wiring_table.specs.Below.charts.declared.statement.Field.{Field}
-use Rattle.wiring_table.specs.Below.charts.declared.statement.Statement.{Statement}
-use Rattle.wiring_table.specs.Below.charts.declared.statement.Statement.TheVariants as says
-use Rattle.machine.specs.Below.hub_table.Ranges.{is_within}
-use Rattle.wiring_table.specs.Below.setups.Wiring.{Wiring}
-use Rattle.machine.specs.Below.hubs.declared.hub.Hub.{Hub}
-use Rattle.machine.specs.Below.hubs.declared.hub.Hub.TheVariants.{FR, SR, CX, CA, CB, ST}
-use Rattle.machine.specs.Machine.{MachineState}
-use Rattle.machine.specs.Below.net.declared.cycle.Cycle.TheVariants.{Card}
-use Rattle.machine.specs.Below.net.declared.cycle.ProgramLevel.TheVariants.{Minor, Intermediate, Major}
-use Rattle.machine.specs.Below.net.declared.cycle.Point.{Point}
-use Rattle.machine.specs.Below.net.declared.cycle.Point.TheVariants.{Row, K}
-use Rattle.machine.specs.Below.program_unit.CycleOrder.{levels_to}
-use Rattle.machine.specs.Below.program_unit.Program.{called_for}
-use Rattle.wiring_table.specs.Below.report.Breaks.{highest}
-use Rattle.wiring_table.specs.Below.report.Groups.{is_same_at}
-use Rattle.machine.specs.Below.stations.Comparing.{are_unlike}
+use Rattle.wiring_table.specs.Below.chart_lines.ChartsWords.Chart.{Chart}
+use Rattle.wiring_table.specs.Below.chart_lines.ChartsWords.Field.{columns_of}
+use Rattle.wiring_table.specs.Below.chart_lines.ChartsWords.Levels.{control_number}
+use Rattle.wiring_table.specs.Below.chart_lines.declared.charts.chart.Line.{Line}
+use Rattle.wiring_table.specs.Below.chart_lines.declared.charts.level.ControlLevel.{ControlLevel}
+use Rattle.wiring_table.specs.Below.chart_lines.declared.charts.statement.Field.{Field}
+use Rattle.wiring_table.specs.Below.chart_lines.declared.charts.statement.Statement.{Statement}
+use Rattle.wiring_table.specs.Below.chart_lines.declared.charts.statement.Statement.TheVariants as says
+use Rattle.proof_cycles.specs.Below.hubs.HubTable.Ranges.{is_within}
+use Rattle.wiring_table.specs.Below.hubs.SetupsWords.Wiring.{Wiring}
+use Rattle.proof_cycles.specs.Below.hubs.declared.hub.Hub.{Hub}
+use Rattle.proof_cycles.specs.Below.hubs.declared.hub.Hub.TheVariants.{FR, SR, CX, CA, CB, ST}
+use Rattle.proof_cycles.specs.Below.machine.Machine.{MachineState}
+use Rattle.proof_cycles.specs.Below.net.declared.cycle.Cycle.TheVariants.{Card}
+use Rattle.proof_cycles.specs.Below.net.declared.cycle.ProgramLevel.TheVariants.{Minor, Intermediate, Major}
+use Rattle.proof_cycles.specs.Below.net.declared.cycle.Point.{Point}
+use Rattle.proof_cycles.specs.Below.net.declared.cycle.Point.TheVariants.{Row, K}
+use Rattle.program_unit.specs.CycleOrder.{levels_to}
+use Rattle.program_unit.specs.Program.{called_for}
+use Rattle.report_definition.specs.Breaks.{highest}
+use Rattle.report_definition.specs.Groups.{is_same_at}
+use Rattle.proof_cycles.specs.Below.stations.Comparing.{are_unlike}
 use Rattle.proof_cycles.specs.WholeCycles.WholeCycles.{IsClosingPicture, closing_emits, compares_unlike}
 use Rattle.wiring_table.specs.Parts.{comparing_for}
 use Rattle.wiring_table.specs.Wires.{LineWire, ChartWire}
@@ -38,7 +38,7 @@ use Rattle.wiring_table.specs.Wires.LineWire.{compared_first, compared_second, l
 use Rattle.proof_reports.proofs.WiredPanels.ControlTexts.{control-set}
 use Rattle.proof_reports.proofs.WiredPanels.Differing.{differs-where, where-differs}
 use Rattle.proof_reports.proofs.WiredPanels.Ways.{same_tests}
-use Rattle.wiring_table.proofs.Below.charts.Listed.{any-passing, none-any}
+use Rattle.wiring_table.proofs.Below.chart_lines.ChartsWords.Listed.{any-passing, none-any}
 use Rattle.wiring_table.proofs.Parts.{comparing-given, comparing-own}
 use Rattle.proof_reports.proofs.WiredPanels.SameColumns.{row-listed, same-sets}
 use Rattle.proof_reports.proofs.WiredPanels.Straight.{at_row, at_closing}

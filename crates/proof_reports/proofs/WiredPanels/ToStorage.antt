@@ -1,43 +1,43 @@
 -- What the storage units of a panel hold after a card cycle, and in which cycles they read out.
 use Rattle.std.proofs.Common.{◌≡◌, ◌∙◌, refl, sym, ap, subst, ℕ, ◌+◌, ◌-◌, ◌<◌, ◌&&◌, Bool, true, false, List, [], ◌∷◌, Contains, Option, Some, None, option_map, ◌↔◌, if◌then◌else◌, slice_index, zero, suc, arith, map}
-use Rattle.wiring_table.specs.Below.plans.Plans.{Lists}
-use Rattle.machine.specs.Below.card_code.CardCode.{has_row}
-use Rattle.machine.specs.Below.card_code.Rows.{row_number}
-use Rattle.machine.specs.Below.card_code.declared.row.Row.{Row as CardRow}
-use Rattle.wiring_table.specs.Below.line_rules.FieldRules.Fields.{field_named}
+use Rattle.wiring_table.specs.Below.chart_plans.PlansWords.Plans.{Lists}
+use Rattle.proof_cycles.specs.Below.card_code.CardCode.{has_row}
+use Rattle.proof_cycles.specs.Below.card_code.Rows.{row_number}
+use Rattle.proof_cycles.specs.Below.card_code.declared.row.Row.{Row as CardRow}
+use Rattle.wiring_table.specs.Below.chart_line_rules.FieldRules.Fields.{field_named}
 use Rattle.wiring_table.specs.Below.chart_rules.ValidCard.{column_of}
-use Rattle.wiring_table.specs.Below.charts.Chart.{Chart, NumbersRise}
-use Rattle.wiring_table.specs.Below.charts.Field.{columns_of}
-use Rattle.wiring_table.specs.Below.charts.Levels.{level_number}
-use Rattle.wiring_table.specs.Below.charts.declared.chart.Line.{Line}
-use Rattle.wiring_table.specs.Below.charts.declared.level.Level.{Level}
-use Rattle.wiring_table.specs.Below.charts.declared.statement.Field.{Field}
-use Rattle.wiring_table.specs.Below.charts.declared.statement.Statement.{Statement}
-use Rattle.wiring_table.specs.Below.charts.declared.statement.Statement.TheVariants as says
-use Rattle.machine.specs.Below.hub_table.Places.{part_place}
-use Rattle.machine.specs.Below.hub_table.Ranges.{is_within}
-use Rattle.wiring_table.specs.Below.setups.Wiring.{Wiring}
-use Rattle.machine.specs.Below.hubs.declared.hub.Hub.{Hub}
-use Rattle.machine.specs.Below.hubs.declared.hub.Hub.TheVariants.{SR, CC, PX, SE, SI, SO}
-use Rattle.machine.specs.Machine.{MachineState}
-use Rattle.machine.specs.Below.net.declared.cycle.Cycle.{Cycle}
-use Rattle.machine.specs.Below.net.declared.cycle.Cycle.TheVariants.{Card}
-use Rattle.machine.specs.Below.net.declared.cycle.Point.{Point}
-use Rattle.machine.specs.Below.net.declared.cycle.Point.TheVariants.{C, Row}
-use Rattle.machine.specs.Below.stations.Punches.{is_punched_at}
-use Rattle.machine.proofs.Below.storage_units.CycleLemmas.{reads_in_whole, keeps_held}
-use Rattle.machine.specs.Below.storage_units.Storage.{StorageState, holds}
-use Rattle.machine.specs.Below.storage_units.WholeCycles.{after_cycle}
+use Rattle.wiring_table.specs.Below.chart_lines.ChartsWords.Chart.{Chart, NumbersRise}
+use Rattle.wiring_table.specs.Below.chart_lines.ChartsWords.Field.{columns_of}
+use Rattle.wiring_table.specs.Below.chart_lines.ChartsWords.Levels.{level_number}
+use Rattle.wiring_table.specs.Below.chart_lines.declared.charts.chart.Line.{Line}
+use Rattle.wiring_table.specs.Below.chart_lines.declared.charts.level.Level.{Level}
+use Rattle.wiring_table.specs.Below.chart_lines.declared.charts.statement.Field.{Field}
+use Rattle.wiring_table.specs.Below.chart_lines.declared.charts.statement.Statement.{Statement}
+use Rattle.wiring_table.specs.Below.chart_lines.declared.charts.statement.Statement.TheVariants as says
+use Rattle.proof_cycles.specs.Below.hubs.HubTable.Places.{part_place}
+use Rattle.proof_cycles.specs.Below.hubs.HubTable.Ranges.{is_within}
+use Rattle.wiring_table.specs.Below.hubs.SetupsWords.Wiring.{Wiring}
+use Rattle.proof_cycles.specs.Below.hubs.declared.hub.Hub.{Hub}
+use Rattle.proof_cycles.specs.Below.hubs.declared.hub.Hub.TheVariants.{SR, CC, PX, SE, SI, SO}
+use Rattle.proof_cycles.specs.Below.machine.Machine.{MachineState}
+use Rattle.proof_cycles.specs.Below.net.declared.cycle.Cycle.{Cycle}
+use Rattle.proof_cycles.specs.Below.net.declared.cycle.Cycle.TheVariants.{Card}
+use Rattle.proof_cycles.specs.Below.net.declared.cycle.Point.{Point}
+use Rattle.proof_cycles.specs.Below.net.declared.cycle.Point.TheVariants.{C, Row}
+use Rattle.proof_cycles.specs.Below.stations.Punches.{is_punched_at}
+use Rattle.proof_cycles.proofs.Below.storage_units.CycleLemmas.{reads_in_whole, keeps_held}
+use Rattle.proof_cycles.specs.Below.storage_units.Storage.{StorageState, holds}
+use Rattle.proof_cycles.specs.Below.storage_units.WholeCycles.{after_cycle}
 use Rattle.wiring_table.specs.Figures.{IsText}
 use Rattle.wiring_table.specs.Parts.{unit_for}
 use Rattle.wiring_table.specs.Wires.{LineWire, ChartWire}
 use Rattle.wiring_table.specs.Wires.LineWire.{total_text_in, total_text_taken, total_text_given}
-use Rattle.wiring_table.proofs.Below.charts.Rising.{one-line}
+use Rattle.wiring_table.proofs.Below.chart_lines.ChartsWords.Rising.{one-line}
 use Rattle.proof_reports.proofs.WiredPanels.Contacts.{is_card_cycle}
 use Rattle.proof_reports.proofs.WiredPanels.Ways.{same_tests}
 use Rattle.proof_reports.proofs.WiredPanels.Straight.{at_control, at_row}
 use Rattle.wiring_table.proofs.Parts.{unit-own}
-use Rattle.wiring_table.proofs.Below.charts.Listed.{listed-after}
+use Rattle.wiring_table.proofs.Below.chart_lines.ChartsWords.Listed.{listed-after}
 use Rattle.proof_reports.proofs.WiredPanels.ToPilots.{sends-second, column-there}
 use Rattle.proof_reports.specs.WiredPanels.PanelCycles.{IsPanelCycle, ArrivesAtControl, ArrivesAtRow, UnitsHold, IsTextPrinted}
 use Rattle.proof_reports.specs.WiredPanels.Sources.{EmitsAtRow, EmitsAtControl}

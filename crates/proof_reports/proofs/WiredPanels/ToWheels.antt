@@ -2,35 +2,35 @@
 -- pilot's and a group's marks. And the wires of a line, followed from an exit that emits.
 use Rattle.std.proofs.Common.{◌≡◌, ◌∙◌, refl, sym, ap, subst, ℕ, ◌+◌, ◌-◌, Bool, true, false, Contains, Option, Some, arith, List}
 use Rattle.std.proofs.lemmas.Option.{same_Some}
-use Rattle.machine.specs.Below.card_code.Rows.{row_number}
-use Rattle.machine.specs.Below.card_code.declared.row.Row.{Row as CardRow}
-use Rattle.wiring_table.specs.Below.line_rules.FieldRules.Fields.{field_named}
-use Rattle.wiring_table.specs.Below.charts.Chart.{NumbersRise}
-use Rattle.wiring_table.specs.Below.charts.Field.{sign_column}
-use Rattle.wiring_table.specs.Below.charts.Levels.{control_number, level_number}
-use Rattle.wiring_table.specs.Below.charts.declared.chart.Line.{Line}
-use Rattle.wiring_table.specs.Below.charts.declared.level.ControlLevel.TheVariants as control
-use Rattle.wiring_table.specs.Below.charts.declared.level.ControlLevel.{ControlLevel}
-use Rattle.wiring_table.specs.Below.charts.declared.statement.DetailOption.TheVariants as shown
-use Rattle.wiring_table.specs.Below.charts.declared.statement.DetailOption.{DetailOption}
-use Rattle.wiring_table.specs.Below.charts.declared.statement.Field.{Field}
-use Rattle.wiring_table.specs.Below.charts.declared.statement.Mark.{Mark}
-use Rattle.wiring_table.specs.Below.charts.declared.statement.SignRule.TheVariants as sign
-use Rattle.wiring_table.specs.Below.charts.declared.statement.SignRule.{SignRule}
-use Rattle.wiring_table.specs.Below.charts.declared.statement.Statement.TheVariants as says
-use Rattle.wiring_table.specs.Below.charts.declared.statement.TotalLine.{TotalLine}
-use Rattle.wiring_table.specs.Below.charts.declared.statement.Statement.{Statement}
-use Rattle.wiring_table.specs.Below.setups.Wiring.{Wiring}
-use Rattle.machine.specs.Below.hubs.declared.hub.Group.{Group}
-use Rattle.machine.specs.Below.hubs.declared.hub.Hub.TheVariants.{FR, SR, GX, SX, EM, BAC, PIC, IE, CSE}
-use Rattle.machine.specs.Below.hubs.declared.hub.Hub.{Hub}
-use Rattle.machine.specs.Machine.{MachineState, closes}
-use Rattle.machine.specs.Below.net.Panel.{contact_of}
-use Rattle.machine.specs.Below.net.declared.cycle.Cycle.TheVariants.{Card}
-use Rattle.machine.specs.Below.net.declared.cycle.Cycle.{Cycle}
-use Rattle.machine.specs.Below.net.declared.cycle.Point.TheVariants.{Row}
-use Rattle.machine.specs.Below.net.declared.cycle.Point.{Point}
-use Rattle.machine.specs.Below.print_unit.Emitters.{emitter_of}
+use Rattle.proof_cycles.specs.Below.card_code.Rows.{row_number}
+use Rattle.proof_cycles.specs.Below.card_code.declared.row.Row.{Row as CardRow}
+use Rattle.wiring_table.specs.Below.chart_line_rules.FieldRules.Fields.{field_named}
+use Rattle.wiring_table.specs.Below.chart_lines.ChartsWords.Chart.{NumbersRise}
+use Rattle.wiring_table.specs.Below.chart_lines.ChartsWords.Field.{sign_column}
+use Rattle.wiring_table.specs.Below.chart_lines.ChartsWords.Levels.{control_number, level_number}
+use Rattle.wiring_table.specs.Below.chart_lines.declared.charts.chart.Line.{Line}
+use Rattle.wiring_table.specs.Below.chart_lines.declared.charts.level.ControlLevel.TheVariants as control
+use Rattle.wiring_table.specs.Below.chart_lines.declared.charts.level.ControlLevel.{ControlLevel}
+use Rattle.wiring_table.specs.Below.chart_lines.declared.charts.statement.DetailOption.TheVariants as shown
+use Rattle.wiring_table.specs.Below.chart_lines.declared.charts.statement.DetailOption.{DetailOption}
+use Rattle.wiring_table.specs.Below.chart_lines.declared.charts.statement.Field.{Field}
+use Rattle.wiring_table.specs.Below.chart_lines.declared.charts.statement.Mark.{Mark}
+use Rattle.wiring_table.specs.Below.chart_lines.declared.charts.statement.SignRule.TheVariants as sign
+use Rattle.wiring_table.specs.Below.chart_lines.declared.charts.statement.SignRule.{SignRule}
+use Rattle.wiring_table.specs.Below.chart_lines.declared.charts.statement.Statement.TheVariants as says
+use Rattle.wiring_table.specs.Below.chart_lines.declared.charts.statement.TotalLine.{TotalLine}
+use Rattle.wiring_table.specs.Below.chart_lines.declared.charts.statement.Statement.{Statement}
+use Rattle.wiring_table.specs.Below.hubs.SetupsWords.Wiring.{Wiring}
+use Rattle.proof_cycles.specs.Below.hubs.declared.hub.Group.{Group}
+use Rattle.proof_cycles.specs.Below.hubs.declared.hub.Hub.TheVariants.{FR, SR, GX, SX, EM, BAC, PIC, IE, CSE}
+use Rattle.proof_cycles.specs.Below.hubs.declared.hub.Hub.{Hub}
+use Rattle.proof_cycles.specs.Below.machine.Machine.{MachineState, closes}
+use Rattle.proof_cycles.specs.Below.net.Panel.{contact_of}
+use Rattle.proof_cycles.specs.Below.net.declared.cycle.Cycle.TheVariants.{Card}
+use Rattle.proof_cycles.specs.Below.net.declared.cycle.Cycle.{Cycle}
+use Rattle.proof_cycles.specs.Below.net.declared.cycle.Point.TheVariants.{Row}
+use Rattle.proof_cycles.specs.Below.net.declared.cycle.Point.{Point}
+use Rattle.print_unit.specs.Emitters.{emitter_of}
 use Rattle.proof_cycles.specs.WholeCycles.WholeCycles.{row_emits}
 use Rattle.wiring_table.specs.Figures.{IsAmount, HasPunchAt, mark_text, detail_emitter, total_emitter}
 use Rattle.wiring_table.specs.Parts.{top_for, pilot_for, indicate_for, split_for, negative_side}
@@ -42,7 +42,7 @@ use Rattle.proof_reports.specs.WiredPanels.Panel.{Arrives}
 use Rattle.proof_reports.specs.WiredPanels.PanelCycles.{IsPanelCycle}
 use Rattle.proof_reports.specs.WiredPanels.Sources.EmitsAtRow.{first, second, digit, column, emitter}
 use Rattle.proof_reports.specs.WiredPanels.Sources.{EmitsAtRow}
-use Rattle.wiring_table.proofs.Below.charts.Rising.{one-line}
+use Rattle.wiring_table.proofs.Below.chart_lines.ChartsWords.Rising.{one-line}
 use Rattle.wiring_table.proofs.Groups.{serves-own, top-serves}
 use Rattle.wiring_table.proofs.Parts.{indicate-own, pilot-own, split-own}
 use Rattle.proof_reports.proofs.WiredPanels.SpeakersLawful.{detail-same}

@@ -1,13 +1,13 @@
 -- The ways of impulses to the entries of a panel that is wired for a chart.
 use Rattle.std.proofs.Common.{◌≡◌, refl, sym, ap, Bool, true, false, Some, None, is_some, ◌↔◌}
-use Rattle.wiring_table.specs.Below.plans.Plans.{Lists}
-use Rattle.wiring_table.specs.Below.charts.Chart.{Chart}
-use Rattle.machine.specs.Below.hubs.Hubs.{is_hub_in_range, number_of}
-use Rattle.wiring_table.specs.Below.setups.Wiring.{Wiring, LeadsToEntries}
-use Rattle.machine.specs.Below.hubs.declared.hub.Hub.{Hub}
+use Rattle.wiring_table.specs.Below.chart_plans.PlansWords.Plans.{Lists}
+use Rattle.wiring_table.specs.Below.chart_lines.ChartsWords.Chart.{Chart}
+use Rattle.proof_cycles.specs.Below.hubs.Hubs.{is_hub_in_range, number_of}
+use Rattle.wiring_table.specs.Below.hubs.SetupsWords.Wiring.{Wiring, LeadsToEntries}
+use Rattle.proof_cycles.specs.Below.hubs.declared.hub.Hub.{Hub}
 use Rattle.proof_cycles.specs.WholeCycles.Carries.{CarriesLeadToCarries}
-use Rattle.machine.specs.Below.net.Impulsed.{IsImpulsed}
-use Rattle.machine.specs.Below.net.Panel.{contact_of}
+use Rattle.proof_cycles.specs.Below.net.Impulsed.{IsImpulsed}
+use Rattle.proof_cycles.specs.Below.net.Panel.{contact_of}
 use Rattle.proof_cycles.proofs.WholeCycles.Contacts.{contacts-one_deep}
 use Rattle.proof_cycles.proofs.WholeCycles.Sources.{emit_at_sources}
 use Rattle.proof_cycles.specs.WholeCycles.OneContactDeep.{AreCarriesOpen, IsOneContactDeep, IsWithinOneContact, SourcesAloneEmit, is_source}

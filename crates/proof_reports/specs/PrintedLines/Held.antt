@@ -1,17 +1,17 @@
 -- What a total line rests on: what the totals and the storage units hold when a group ends.
 use Rattle.std.specs.Prelude.{◌≡◌, ℕ, ℤ, ◌<◌, ◌^◌, true, false, List, Contains, Option, Some, is_some, unsigned_abs}
 use Rattle.std.specs.Int.{is_negative}
-use Rattle.wiring_table.specs.Below.charts.Levels.{level_number}
-use Rattle.wiring_table.specs.Below.charts.declared.chart.Line.{Line}
-use Rattle.wiring_table.specs.Below.charts.declared.level.Level.{Level}
-use Rattle.wiring_table.specs.Below.charts.declared.statement.Field.{Field}
-use Rattle.wiring_table.specs.Below.charts.declared.statement.Mark.{Mark}
-use Rattle.wiring_table.specs.Below.charts.declared.statement.Statement.TheVariants as says
-use Rattle.wiring_table.specs.Below.charts.declared.statement.TotalLine.{TotalLine}
-use Rattle.wiring_table.specs.Below.line_rules.FieldRules.Fields.{field_named}
+use Rattle.wiring_table.specs.Below.chart_lines.ChartsWords.Levels.{level_number}
+use Rattle.wiring_table.specs.Below.chart_lines.declared.charts.chart.Line.{Line}
+use Rattle.wiring_table.specs.Below.chart_lines.declared.charts.level.Level.{Level}
+use Rattle.wiring_table.specs.Below.chart_lines.declared.charts.statement.Field.{Field}
+use Rattle.wiring_table.specs.Below.chart_lines.declared.charts.statement.Mark.{Mark}
+use Rattle.wiring_table.specs.Below.chart_lines.declared.charts.statement.Statement.TheVariants as says
+use Rattle.wiring_table.specs.Below.chart_lines.declared.charts.statement.TotalLine.{TotalLine}
+use Rattle.wiring_table.specs.Below.chart_line_rules.FieldRules.Fields.{field_named}
 use Rattle.wiring_table.specs.Below.chart_rules.ValidCard.{EachColumn, IsText, column_of}
-use Rattle.wiring_table.specs.Below.report.BodyLines.{a_card_of}
-use Rattle.wiring_table.specs.Below.report.Totals.{total_of}
+use Rattle.report_definition.specs.BodyLines.{a_card_of}
+use Rattle.report_definition.specs.Totals.{total_of}
 use Rattle.proof_reports.specs.PrintedLines.Shown.{Printed}
 
 -- What is held of a total prints it in so many digits: the total fits, the figure is its size, and where it has a mark the balance

@@ -1,19 +1,19 @@
 -- The laws of printed lines: what the items of a lawful chart send to their wheels prints as the lines of its reports.
 use Rattle.std.specs.Prelude.{◌≡◌, ℕ, ◌+◌, ◌-◌, ◌<◌, ◌≤◌, Bool, true, false, List, Contains, Option, Some, None, length, slice_index_or}
 use Rattle.std.specs.Int.{is_negative}
-use Rattle.wiring_table.specs.Below.charts.Chart.{Chart}
-use Rattle.wiring_table.specs.Below.charts.Literals.{HaveLiteralTexts}
-use Rattle.wiring_table.specs.Below.charts.declared.chart.Line.{Line}
-use Rattle.wiring_table.specs.Below.charts.declared.level.Level.{Level}
-use Rattle.wiring_table.specs.Below.charts.declared.statement.Field.{Field}
-use Rattle.wiring_table.specs.Below.charts.declared.statement.Statement.{Statement}
-use Rattle.wiring_table.specs.Below.charts.declared.statement.Statement.TheVariants as says
-use Rattle.wiring_table.specs.Below.line_rules.FieldRules.Fields.{field_named}
+use Rattle.wiring_table.specs.Below.chart_lines.ChartsWords.Chart.{Chart}
+use Rattle.wiring_table.specs.Below.chart_lines.ChartsWords.Literals.{HaveLiteralTexts}
+use Rattle.wiring_table.specs.Below.chart_lines.declared.charts.chart.Line.{Line}
+use Rattle.wiring_table.specs.Below.chart_lines.declared.charts.level.Level.{Level}
+use Rattle.wiring_table.specs.Below.chart_lines.declared.charts.statement.Field.{Field}
+use Rattle.wiring_table.specs.Below.chart_lines.declared.charts.statement.Statement.{Statement}
+use Rattle.wiring_table.specs.Below.chart_lines.declared.charts.statement.Statement.TheVariants as says
+use Rattle.wiring_table.specs.Below.chart_line_rules.FieldRules.Fields.{field_named}
 use Rattle.wiring_table.specs.Below.chart_rules.Rules.{IsLawful}
 use Rattle.wiring_table.specs.Below.chart_rules.ValidCard.{IsText, IsValidCard}
 use Rattle.print_unit.specs.ZeroControl.{printed_line}
-use Rattle.wiring_table.specs.Below.report.BodyLines.{card_line, total_line, heading_line}
-use Rattle.wiring_table.specs.Below.report.Totals.{total_of}
+use Rattle.report_definition.specs.BodyLines.{card_line, total_line, heading_line}
+use Rattle.report_definition.specs.Totals.{total_of}
 use Rattle.wiring_table.specs.Figures.{rule_of}
 use Rattle.proof_reports.specs.PrintedLines.Held.{HoldsLine}
 use Rattle.proof_reports.specs.PrintedLines.Shown.{Shown, Printed, HasJacksOf, wheel_of_shown, sets_of, set_on, sent_to_card, sent_to_total, sent_to_heading, card_sends, total_sends, heading_sends, wheels_with}

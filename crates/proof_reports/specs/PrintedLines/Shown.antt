@@ -4,25 +4,25 @@ use Rattle.std.specs.Prelude.{◌≡◌, ◌↔◌, ℕ, ◌+◌, ◌-◌, ◌==
 use Rattle.std.specs.List.{filter_map, range_with_len}
 use Rattle.print_unit.specs.Below.card_code.CardCode.{has_row, rows_of}
 use Rattle.print_unit.specs.Below.card_code.Rows.{row_number, rows}
-use Rattle.wiring_table.specs.Below.line_rules.FieldRules.Fields.{field_named}
-use Rattle.wiring_table.specs.Below.line_rules.PrintRules.Items.{mark_shown}
+use Rattle.wiring_table.specs.Below.chart_line_rules.FieldRules.Fields.{field_named}
+use Rattle.wiring_table.specs.Below.chart_line_rules.PrintRules.Items.{mark_shown}
 use Rattle.wiring_table.specs.Below.chart_rules.ValidCard.{column_of}
-use Rattle.wiring_table.specs.Below.line_rules.declared.print_rules.items.Figure.{Figure}
-use Rattle.wiring_table.specs.Below.charts.Field.{columns_of, decimals_of}
-use Rattle.wiring_table.specs.Below.charts.Headings.{heading_number}
-use Rattle.wiring_table.specs.Below.charts.Levels.{level_number}
-use Rattle.wiring_table.specs.Below.charts.declared.chart.Line.{Line}
-use Rattle.wiring_table.specs.Below.charts.declared.statement.Field.{Field}
-use Rattle.wiring_table.specs.Below.charts.declared.statement.FieldKind.{FieldKind}
-use Rattle.wiring_table.specs.Below.charts.declared.statement.FieldKind.TheVariants as holds
-use Rattle.wiring_table.specs.Below.charts.declared.statement.Mark.{Mark}
-use Rattle.wiring_table.specs.Below.charts.declared.statement.Statement.{Statement}
-use Rattle.wiring_table.specs.Below.charts.declared.statement.Statement.TheVariants as says
+use Rattle.wiring_table.specs.Below.chart_line_rules.declared.print_rules.items.Figure.{Figure}
+use Rattle.wiring_table.specs.Below.chart_lines.ChartsWords.Field.{columns_of, decimals_of}
+use Rattle.wiring_table.specs.Below.chart_lines.ChartsWords.Headings.{heading_number}
+use Rattle.wiring_table.specs.Below.chart_lines.ChartsWords.Levels.{level_number}
+use Rattle.wiring_table.specs.Below.chart_lines.declared.charts.chart.Line.{Line}
+use Rattle.wiring_table.specs.Below.chart_lines.declared.charts.statement.Field.{Field}
+use Rattle.wiring_table.specs.Below.chart_lines.declared.charts.statement.FieldKind.{FieldKind}
+use Rattle.wiring_table.specs.Below.chart_lines.declared.charts.statement.FieldKind.TheVariants as holds
+use Rattle.wiring_table.specs.Below.chart_lines.declared.charts.statement.Mark.{Mark}
+use Rattle.wiring_table.specs.Below.chart_lines.declared.charts.statement.Statement.{Statement}
+use Rattle.wiring_table.specs.Below.chart_lines.declared.charts.statement.Statement.TheVariants as says
 use Rattle.print_unit.specs.Below.hubs.declared.jack.Jack.TheVariants as jack
 use Rattle.print_unit.specs.ZeroControl.{Wheel}
-use Rattle.wiring_table.specs.Below.report.Amounts.{columns_in, digits_on, is_negated}
-use Rattle.wiring_table.specs.Below.report.BodyLines.{is_shown}
-use Rattle.wiring_table.specs.Below.report.Edits.{last_digits, mark_text}
+use Rattle.report_definition.specs.Amounts.{columns_in, digits_on, is_negated}
+use Rattle.report_definition.specs.BodyLines.{is_shown}
+use Rattle.report_definition.specs.Edits.{last_digits, mark_text}
 use Rattle.wiring_table.specs.Jacks.{ChartJack}
 
 -- What an item sends. Characters: the set of rows of each of its wheels, from its first wheel on. An amount: the digits of its positions

@@ -1,17 +1,17 @@
 -- The law of decks whose totals don't all fit.
 use Rattle.std.specs.Prelude.{◌≡◌, ℕ, ◌≤◌, List, ◌∷◌, ◌++◌, All, length}
 use Rattle.report_definition.specs.Below.card_code.MostCards.{most_cards}
-use Rattle.wiring_table.specs.Below.plans.Plans.{Lists}
+use Rattle.proof_reports.specs.Below.chart_plans.PlansWords.Plans.{Lists}
 use Rattle.report_definition.specs.Below.page_text.declared.placed_lines.placed_line.PlacedLine.{PlacedLine}
 use Rattle.report_definition.specs.Below.chart_rules.ValidCard.{IsValidCard}
-use Rattle.report_definition.specs.Below.charts.Chart.{Chart, NumbersRise}
-use Rattle.report_definition.specs.Below.charts.Literals.{HaveLiteralTexts}
+use Rattle.report_definition.specs.Below.chart_lines.ChartsWords.Chart.{Chart, NumbersRise}
+use Rattle.report_definition.specs.Below.chart_lines.ChartsWords.Literals.{HaveLiteralTexts}
 use Rattle.report_definition.specs.FollowedDecks.FitBefore.{FitBefore}
 use Rattle.report_definition.specs.FollowedDecks.Stands.{report_before}
-use Rattle.wiring_table.specs.Below.setups.Wiring.{Wiring}
+use Rattle.proof_reports.specs.Below.hubs.SetupsWords.Wiring.{Wiring}
 use Rattle.proof_reports.specs.WiredPanels.Panel.{IsPanel}
-use Rattle.machine.specs.Feeds.{FedLines}
-use Rattle.machine.specs.Machine.{MachineState, machine_at_start}
+use Rattle.proof_reports.specs.Below.machine.Feeds.{FedLines}
+use Rattle.proof_reports.specs.Below.machine.Machine.{MachineState, machine_at_start}
 
 -- Where the totals of a deck don't all fit, the lines that the machine places before those of the first card at which one doesn't are the
 -- lines of the report that stand before that card's. In full: for every chart that breaks no rule, whose line numbers rise and whose

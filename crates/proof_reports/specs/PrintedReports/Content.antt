@@ -2,20 +2,20 @@
 -- texts.
 use Rattle.std.specs.Prelude.{◌≡◌, ℕ, suc, ◌≤◌, ℤ, List, Option, Some}
 use Rattle.proof_cycles.specs.TotalsWords.CounterCycles.Acts.{Held}
-use Rattle.wiring_table.specs.Below.plans.Plans.{Lists}
-use Rattle.report_definition.specs.Below.charts.Chart.{Chart}
-use Rattle.report_definition.specs.Below.charts.declared.statement.Field.{Field}
+use Rattle.proof_reports.specs.Below.chart_plans.PlansWords.Plans.{Lists}
+use Rattle.report_definition.specs.Below.chart_lines.ChartsWords.Chart.{Chart}
+use Rattle.report_definition.specs.Below.chart_lines.declared.charts.statement.Field.{Field}
 use Rattle.report_definition.specs.FollowedDecks.Stands.{Stand}
-use Rattle.wiring_table.specs.Below.setups.Wiring.{Wiring}
+use Rattle.proof_reports.specs.Below.hubs.SetupsWords.Wiring.{Wiring}
 use Rattle.proof_reports.specs.WiredPanels.CycleAsks.ChartAmounts.{amount_of}
 use Rattle.proof_reports.specs.WiredPanels.CycleAsks.CounterStates.{state_of}
 use Rattle.proof_reports.specs.WiredPanels.PanelCycles.{AreSetTo, PilotsTellSigns, UnitsHold}
-use Rattle.machine.specs.Machine.{MachineState}
-use Rattle.net.specs.Cycles.{level_number}
-use Rattle.net.specs.declared.cycle.Cycle.{Cycle}
-use Rattle.net.specs.declared.cycle.Cycle.TheVariants.{RunIn, Card, Prog, Head}
-use Rattle.net.specs.declared.cycle.ProgramLevel.{ProgramLevel}
-use Rattle.net.specs.declared.cycle.Ordinal.TheVariants.{First}
+use Rattle.proof_reports.specs.Below.machine.Machine.{MachineState}
+use Rattle.proof_reports.specs.Below.net.Cycles.{level_number}
+use Rattle.proof_reports.specs.Below.net.declared.cycle.Cycle.{Cycle}
+use Rattle.proof_reports.specs.Below.net.declared.cycle.Cycle.TheVariants.{RunIn, Card, Prog, Head}
+use Rattle.proof_reports.specs.Below.net.declared.cycle.ProgramLevel.{ProgramLevel}
+use Rattle.proof_reports.specs.Below.net.declared.cycle.Ordinal.TheVariants.{First}
 use Rattle.report_definition.specs.Amounts.{digits_on, is_negated, number_in}
 use Rattle.proof_cycles.specs.TotalsWords.Amounts.{Kind, state_after}
 use Rattle.proof_cycles.specs.TotalsWords.Amounts.Kind.{Entry, Prog as Ends, Other}

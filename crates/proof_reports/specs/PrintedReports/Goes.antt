@@ -1,21 +1,21 @@
 -- What a machine does card by card, cycle by cycle, that is wired for a chart: told by what it holds between its cycles, whatever that is.
 use Rattle.std.specs.Prelude.{◌≡◌, ℕ, suc, ◌≤◌, List, Option, Some}
 use Rattle.carriage.specs.Asked.{nothing_asked}
-use Rattle.report_definition.specs.Below.charts.Chart.{Chart}
+use Rattle.report_definition.specs.Below.chart_lines.ChartsWords.Chart.{Chart}
 use Rattle.report_definition.specs.FollowedDecks.Alike.{AlikeWith}
 use Rattle.report_definition.specs.FollowedDecks.CardMisfits.{GroupsFit}
 use Rattle.report_definition.specs.FollowedDecks.Runner.{ReadsNext}
 use Rattle.report_definition.specs.FollowedDecks.Stands.{Stand, at_first, stand_after}
-use Rattle.wiring_table.specs.Below.setups.Wiring.{Wiring}
-use Rattle.machine.specs.Cycles.{CycleRun}
-use Rattle.machine.specs.Machine.{MachineState, machine_at_start}
-use Rattle.machine.specs.Runs.{moved_on}
-use Rattle.net.specs.Cycles.{level_number}
-use Rattle.net.specs.Printing.{printing_of}
-use Rattle.net.specs.declared.cycle.Cycle.TheVariants.{Card, Head, Prog, RunIn}
-use Rattle.net.specs.declared.cycle.ProgramLevel.{ProgramLevel}
-use Rattle.net.specs.declared.cycle.Ordinal.{Ordinal}
-use Rattle.net.specs.declared.cycle.Ordinal.TheVariants.{First, Second, Third}
+use Rattle.proof_reports.specs.Below.hubs.SetupsWords.Wiring.{Wiring}
+use Rattle.proof_reports.specs.Below.machine.Cycles.{CycleRun}
+use Rattle.proof_reports.specs.Below.machine.Machine.{MachineState, machine_at_start}
+use Rattle.proof_reports.specs.Below.machine.Runs.{moved_on}
+use Rattle.proof_reports.specs.Below.net.Cycles.{level_number}
+use Rattle.proof_reports.specs.Below.net.Printing.{printing_of}
+use Rattle.proof_reports.specs.Below.net.declared.cycle.Cycle.TheVariants.{Card, Head, Prog, RunIn}
+use Rattle.proof_reports.specs.Below.net.declared.cycle.ProgramLevel.{ProgramLevel}
+use Rattle.proof_reports.specs.Below.net.declared.cycle.Ordinal.{Ordinal}
+use Rattle.proof_reports.specs.Below.net.declared.cycle.Ordinal.TheVariants.{First, Second, Third}
 use Rattle.proof_reports.specs.WiredPanels.CycleAsks.LinePlaces.Placing.{IsFormOf, printing_of_chart}
 use Rattle.report_definition.specs.Breaks.{ended_after, taking}
 use Rattle.proof_reports.specs.PrintedReports.Steps.{GoesOn, Heads, RunsCard, Totals}

@@ -1,9 +1,9 @@
 -- The law of the cycles of machines that are wired for charts.
-use Rattle.wiring_table.specs.Below.plans.Plans.{Lists}
+use Rattle.proof_reports.specs.Below.chart_plans.PlansWords.Plans.{Lists}
 use Rattle.report_definition.specs.Below.chart_rules.ValidCard.{IsValidCard}
-use Rattle.report_definition.specs.Below.charts.Chart.{Chart, NumbersRise}
-use Rattle.report_definition.specs.Below.charts.Literals.{HaveLiteralTexts}
-use Rattle.wiring_table.specs.Below.setups.Wiring.{Wiring}
+use Rattle.report_definition.specs.Below.chart_lines.ChartsWords.Chart.{Chart, NumbersRise}
+use Rattle.report_definition.specs.Below.chart_lines.ChartsWords.Literals.{HaveLiteralTexts}
+use Rattle.proof_reports.specs.Below.hubs.SetupsWords.Wiring.{Wiring}
 use Rattle.proof_reports.specs.WiredPanels.Panel.{IsPanel}
 use Rattle.proof_reports.specs.PrintedReports.Content.{After, Waits, Within, by_first, by_second}
 use Rattle.proof_reports.specs.PrintedReports.Goes.{MachineGoes}

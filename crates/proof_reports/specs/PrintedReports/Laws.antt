@@ -1,14 +1,14 @@
 -- The law of machines that are wired for charts.
 use Rattle.std.specs.Prelude.{◌≡◌, ℕ, ◌≤◌, List, All, length}
 use Rattle.report_definition.specs.Below.card_code.MostCards.{most_cards}
-use Rattle.wiring_table.specs.Below.plans.Plans.{Lists}
+use Rattle.proof_reports.specs.Below.chart_plans.PlansWords.Plans.{Lists}
 use Rattle.report_definition.specs.Below.page_text.declared.placed_lines.placed_line.PlacedLine.{PlacedLine}
 use Rattle.report_definition.specs.Below.chart_rules.ValidCard.{IsValidCard}
-use Rattle.report_definition.specs.Below.charts.Chart.{Chart, NumbersRise}
-use Rattle.report_definition.specs.Below.charts.Literals.{HaveLiteralTexts}
-use Rattle.wiring_table.specs.Below.setups.Wiring.{Wiring}
+use Rattle.report_definition.specs.Below.chart_lines.ChartsWords.Chart.{Chart, NumbersRise}
+use Rattle.report_definition.specs.Below.chart_lines.ChartsWords.Literals.{HaveLiteralTexts}
+use Rattle.proof_reports.specs.Below.hubs.SetupsWords.Wiring.{Wiring}
 use Rattle.proof_reports.specs.WiredPanels.Panel.{IsPanel}
-use Rattle.machine.specs.Runs.{MachineLines}
+use Rattle.proof_reports.specs.Below.machine.Runs.{MachineLines}
 use Rattle.report_definition.specs.Report.{report_lines}
 use Rattle.report_definition.specs.Totals.{Fits}
 

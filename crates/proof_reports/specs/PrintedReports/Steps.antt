@@ -2,15 +2,15 @@
 -- groups, contacts and storage units hold for it is told by tests of the machine, whatever they are.
 use Rattle.std.specs.Prelude.{◌≡◌, ℕ, ◌≤◌, true, List, Option, is_some}
 use Rattle.carriage.specs.Asked.{nothing_asked}
-use Rattle.report_definition.specs.Below.charts.Chart.{Chart}
+use Rattle.report_definition.specs.Below.chart_lines.ChartsWords.Chart.{Chart}
 use Rattle.report_definition.specs.FollowedDecks.Stands.{Stand}
-use Rattle.machine.specs.Machine.{MachineState}
-use Rattle.net.specs.Cycles.{level_number, ordinal_number}
-use Rattle.net.specs.declared.cycle.Cycle.{Cycle}
-use Rattle.net.specs.declared.cycle.Cycle.TheVariants.{Card, Prog, Head}
-use Rattle.net.specs.declared.cycle.ProgramLevel.{ProgramLevel}
-use Rattle.net.specs.declared.cycle.Ordinal.{Ordinal}
-use Rattle.net.specs.declared.cycle.Ordinal.TheVariants.{Third}
+use Rattle.proof_reports.specs.Below.machine.Machine.{MachineState}
+use Rattle.proof_reports.specs.Below.net.Cycles.{level_number, ordinal_number}
+use Rattle.proof_reports.specs.Below.net.declared.cycle.Cycle.{Cycle}
+use Rattle.proof_reports.specs.Below.net.declared.cycle.Cycle.TheVariants.{Card, Prog, Head}
+use Rattle.proof_reports.specs.Below.net.declared.cycle.ProgramLevel.{ProgramLevel}
+use Rattle.proof_reports.specs.Below.net.declared.cycle.Ordinal.{Ordinal}
+use Rattle.proof_reports.specs.Below.net.declared.cycle.Ordinal.TheVariants.{Third}
 use Rattle.proof_reports.specs.WiredPanels.CycleAsks.LinePlaces.CarriageCycles.{carriage_after}
 use Rattle.proof_reports.specs.WiredPanels.CycleAsks.LinePlaces.Placing.{asked_of}
 use Rattle.program_unit.specs.CycleOrder.{levels_to, top_level}

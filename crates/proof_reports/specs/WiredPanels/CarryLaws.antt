@@ -1,9 +1,9 @@
 -- A law of the carries of a chart: its carry wires agree with one another.
 use Rattle.std.specs.Prelude.{List}
-use Rattle.wiring_table.specs.Below.charts.declared.chart.Line.{Line}
-use Rattle.machine.specs.Below.hubs.declared.hub.Hub.{Hub}
-use Rattle.wiring_table.specs.Below.plans.Plans.{Lists, ServesChart}
-use Rattle.wiring_table.specs.Below.setups.Wiring.{CanJoin, HasWire, Wiring}
+use Rattle.wiring_table.specs.Below.chart_lines.declared.charts.chart.Line.{Line}
+use Rattle.proof_cycles.specs.Below.hubs.declared.hub.Hub.{Hub}
+use Rattle.wiring_table.specs.Below.chart_plans.PlansWords.Plans.{Lists, ServesChart}
+use Rattle.wiring_table.specs.Below.hubs.SetupsWords.Wiring.{CanJoin, HasWire, Wiring}
 use Rattle.wiring_table.specs.Wires.{ChartWire}
 
 -- Each wire of a chart can join a setup whose wires are all wires of the chart.

@@ -1,14 +1,14 @@
 -- A row of a cycle, with all that it hangs on.
 use Rattle.std.specs.Prelude.{ℕ, Bool}
-use Rattle.wiring_table.specs.Below.plans.Plans.{Lists}
-use Rattle.machine.specs.Below.card_code.declared.row.Row.{Row as CardRow}
-use Rattle.wiring_table.specs.Below.charts.Chart.{Chart}
-use Rattle.machine.specs.Below.hubs.declared.hub.Hub.{Hub}
-use Rattle.machine.specs.Machine.{MachineState, closes}
-use Rattle.machine.specs.Below.net.declared.cycle.Cycle.{Cycle}
-use Rattle.machine.specs.Below.net.declared.cycle.Point.{Point}
-use Rattle.machine.specs.Below.net.declared.cycle.Point.TheVariants.{Row}
-use Rattle.machine.specs.Below.stations.Punches.{is_punched_at}
+use Rattle.wiring_table.specs.Below.chart_plans.PlansWords.Plans.{Lists}
+use Rattle.proof_cycles.specs.Below.card_code.declared.row.Row.{Row as CardRow}
+use Rattle.wiring_table.specs.Below.chart_lines.ChartsWords.Chart.{Chart}
+use Rattle.proof_cycles.specs.Below.hubs.declared.hub.Hub.{Hub}
+use Rattle.proof_cycles.specs.Below.machine.Machine.{MachineState, closes}
+use Rattle.proof_cycles.specs.Below.net.declared.cycle.Cycle.{Cycle}
+use Rattle.proof_cycles.specs.Below.net.declared.cycle.Point.{Point}
+use Rattle.proof_cycles.specs.Below.net.declared.cycle.Point.TheVariants.{Row}
+use Rattle.proof_cycles.specs.Below.stations.Punches.{is_punched_at}
 
 -- A row of a cycle: a chart and its plan, the machine before the cycle, the cycle with the pictures of its points, and the
 -- row.

@@ -1,21 +1,21 @@
 -- The counter groups that serve the totals of a chart, and those that read out in a cycle.
 use Rattle.std.specs.Prelude.{◌≡◌, ℕ, true, List, Some}
-use Rattle.wiring_table.specs.Below.plans.Plans.{Lists}
-use Rattle.wiring_table.specs.Below.charts.Chart.{Chart}
-use Rattle.wiring_table.specs.Below.charts.declared.chart.Line.{Line}
-use Rattle.wiring_table.specs.Below.charts.declared.statement.SignRule.{SignRule}
-use Rattle.machine.specs.Below.hubs.declared.hub.Group.{Group}
-use Rattle.machine.specs.Machine.{MachineState}
-use Rattle.machine.specs.Steady.{balance_latches}
-use Rattle.machine.specs.Below.net.Cycles.{level_number}
-use Rattle.machine.specs.Below.net.declared.cycle.Cycle.{Cycle}
-use Rattle.machine.specs.Below.net.declared.cycle.Cycle.TheVariants.{Prog}
-use Rattle.machine.specs.Below.net.declared.cycle.ProgramLevel.{ProgramLevel}
-use Rattle.machine.specs.Below.net.declared.cycle.Ordinal.TheVariants.{Second, Third}
-use Rattle.machine.specs.Below.selectors.Contacts.{is_balance_set}
+use Rattle.wiring_table.specs.Below.chart_plans.PlansWords.Plans.{Lists}
+use Rattle.wiring_table.specs.Below.chart_lines.ChartsWords.Chart.{Chart}
+use Rattle.wiring_table.specs.Below.chart_lines.declared.charts.chart.Line.{Line}
+use Rattle.wiring_table.specs.Below.chart_lines.declared.charts.statement.SignRule.{SignRule}
+use Rattle.proof_cycles.specs.Below.hubs.declared.hub.Group.{Group}
+use Rattle.proof_cycles.specs.Below.machine.Machine.{MachineState}
+use Rattle.proof_cycles.specs.Below.machine.Steady.{balance_latches}
+use Rattle.proof_cycles.specs.Below.net.Cycles.{level_number}
+use Rattle.proof_cycles.specs.Below.net.declared.cycle.Cycle.{Cycle}
+use Rattle.proof_cycles.specs.Below.net.declared.cycle.Cycle.TheVariants.{Prog}
+use Rattle.proof_cycles.specs.Below.net.declared.cycle.ProgramLevel.{ProgramLevel}
+use Rattle.proof_cycles.specs.Below.net.declared.cycle.Ordinal.TheVariants.{Second, Third}
+use Rattle.proof_cycles.specs.Below.selectors.Contacts.{is_balance_set}
 use Rattle.wiring_table.specs.Figures.{IsSigned}
 use Rattle.wiring_table.specs.Parts.{HasTotal, ServesPosition, ServesTotal, counter_for, top_for}
-use Rattle.wiring_table.specs.Below.plans.declared.counter.TotalCounter.{TotalCounter}
+use Rattle.wiring_table.specs.Below.chart_plans.declared.plans.counter.TotalCounter.{TotalCounter}
 
 -- A counter is that of the total of an amount at a level.
 pub record IsCounterOf (lines : List Line) (plan : Lists) (name : List ℕ) (level : ℕ) (counter : TotalCounter) : Type 0 where

@@ -1,12 +1,12 @@
 -- A panel that is wired for a chart, and the ways of impulses in it.
 use Rattle.std.specs.Prelude.{◌≡◌, Bool, true, List, Some}
-use Rattle.wiring_table.specs.Below.plans.Plans.{Lists, ServesChart}
+use Rattle.wiring_table.specs.Below.chart_plans.PlansWords.Plans.{Lists, ServesChart}
 use Rattle.wiring_table.specs.Below.chart_rules.Rules.{IsLawful}
-use Rattle.wiring_table.specs.Below.charts.Chart.{Chart}
-use Rattle.wiring_table.specs.Below.charts.declared.chart.Line.{Line}
-use Rattle.wiring_table.specs.Below.setups.Wiring.{Wiring}
-use Rattle.machine.specs.Below.hubs.declared.hub.Hub.{Hub}
-use Rattle.machine.specs.Below.net.Panel.{contact_of}
+use Rattle.wiring_table.specs.Below.chart_lines.ChartsWords.Chart.{Chart}
+use Rattle.wiring_table.specs.Below.chart_lines.declared.charts.chart.Line.{Line}
+use Rattle.wiring_table.specs.Below.hubs.SetupsWords.Wiring.{Wiring}
+use Rattle.proof_cycles.specs.Below.hubs.declared.hub.Hub.{Hub}
+use Rattle.proof_cycles.specs.Below.net.Panel.{contact_of}
 use Rattle.wiring_table.specs.Wires.{ChartWire}
 use Rattle.wiring_table.specs.WiredFor.{WiredFor}
 

@@ -1,31 +1,31 @@
 -- A cycle of a panel that is wired for a chart, by the pictures of its points: what arrives at its entries, and what its units hold.
 use Rattle.std.specs.Prelude.{◌≡◌, ℕ, ◌≤◌, ◌+◌, ◌<◌, nat_le, Bool, true, false, List, Contains, Option, Some, None, ◌==◌}
-use Rattle.wiring_table.specs.Below.plans.Plans.{Lists}
-use Rattle.machine.specs.Below.card_code.CardCode.{has_row}
-use Rattle.machine.specs.Below.card_code.Rows.{row_number}
-use Rattle.machine.specs.Below.card_code.declared.row.Row.{Row as CardRow}
-use Rattle.wiring_table.specs.Below.line_rules.FieldRules.Fields.{field_named}
+use Rattle.wiring_table.specs.Below.chart_plans.PlansWords.Plans.{Lists}
+use Rattle.proof_cycles.specs.Below.card_code.CardCode.{has_row}
+use Rattle.proof_cycles.specs.Below.card_code.Rows.{row_number}
+use Rattle.proof_cycles.specs.Below.card_code.declared.row.Row.{Row as CardRow}
+use Rattle.wiring_table.specs.Below.chart_line_rules.FieldRules.Fields.{field_named}
 use Rattle.wiring_table.specs.Below.chart_rules.ValidCard.{column_of, IsValidCard}
-use Rattle.wiring_table.specs.Below.charts.Chart.{Chart}
-use Rattle.wiring_table.specs.Below.charts.Field.{column_of_rule, columns_of}
-use Rattle.wiring_table.specs.Below.charts.Levels.{control_number, level_number}
-use Rattle.wiring_table.specs.Below.charts.declared.chart.Line.{Line}
-use Rattle.wiring_table.specs.Below.charts.declared.level.ControlLevel.{ControlLevel}
-use Rattle.wiring_table.specs.Below.charts.declared.level.Level.{Level}
-use Rattle.wiring_table.specs.Below.charts.declared.statement.Field.{Field}
-use Rattle.wiring_table.specs.Below.charts.declared.statement.SignRule.{SignRule}
-use Rattle.wiring_table.specs.Below.charts.declared.statement.Statement.TheVariants as says
-use Rattle.wiring_table.specs.Below.setups.Wiring.{Wiring}
-use Rattle.machine.specs.Below.hubs.declared.hub.Hub.{Hub}
-use Rattle.machine.specs.Below.hubs.declared.hub.Hub.TheVariants.{PX}
-use Rattle.machine.specs.Machine.{MachineState, closes}
-use Rattle.machine.specs.Below.net.Impulsed.{IsPicture}
-use Rattle.machine.specs.Below.net.declared.cycle.Cycle.{Cycle}
-use Rattle.machine.specs.Below.net.declared.cycle.Point.{Point}
-use Rattle.machine.specs.Below.net.declared.cycle.Point.TheVariants.{C, Row}
-use Rattle.machine.specs.Below.selectors.Indicate.{Latches, is_latch_set}
-use Rattle.machine.specs.Below.selectors.Pilots.{PilotStates, is_transferred}
-use Rattle.machine.specs.Below.storage_units.Storage.{StorageState, holds}
+use Rattle.wiring_table.specs.Below.chart_lines.ChartsWords.Chart.{Chart}
+use Rattle.wiring_table.specs.Below.chart_lines.ChartsWords.Field.{column_of_rule, columns_of}
+use Rattle.wiring_table.specs.Below.chart_lines.ChartsWords.Levels.{control_number, level_number}
+use Rattle.wiring_table.specs.Below.chart_lines.declared.charts.chart.Line.{Line}
+use Rattle.wiring_table.specs.Below.chart_lines.declared.charts.level.ControlLevel.{ControlLevel}
+use Rattle.wiring_table.specs.Below.chart_lines.declared.charts.level.Level.{Level}
+use Rattle.wiring_table.specs.Below.chart_lines.declared.charts.statement.Field.{Field}
+use Rattle.wiring_table.specs.Below.chart_lines.declared.charts.statement.SignRule.{SignRule}
+use Rattle.wiring_table.specs.Below.chart_lines.declared.charts.statement.Statement.TheVariants as says
+use Rattle.wiring_table.specs.Below.hubs.SetupsWords.Wiring.{Wiring}
+use Rattle.proof_cycles.specs.Below.hubs.declared.hub.Hub.{Hub}
+use Rattle.proof_cycles.specs.Below.hubs.declared.hub.Hub.TheVariants.{PX}
+use Rattle.proof_cycles.specs.Below.machine.Machine.{MachineState, closes}
+use Rattle.proof_cycles.specs.Below.net.Impulsed.{IsPicture}
+use Rattle.proof_cycles.specs.Below.net.declared.cycle.Cycle.{Cycle}
+use Rattle.proof_cycles.specs.Below.net.declared.cycle.Point.{Point}
+use Rattle.proof_cycles.specs.Below.net.declared.cycle.Point.TheVariants.{C, Row}
+use Rattle.proof_cycles.specs.Below.selectors.Indicate.{Latches, is_latch_set}
+use Rattle.proof_cycles.specs.Below.selectors.Pilots.{PilotStates, is_transferred}
+use Rattle.proof_cycles.specs.Below.storage_units.Storage.{StorageState, holds}
 use Rattle.proof_cycles.specs.WholeCycles.Between.{IsBetween}
 use Rattle.proof_cycles.specs.WholeCycles.WholeCycles.{control_emits, row_emits, closing_emits}
 use Rattle.wiring_table.specs.Figures.{IsText, rule_of}

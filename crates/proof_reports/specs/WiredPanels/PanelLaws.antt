@@ -1,15 +1,15 @@
 -- Laws of the units of a panel that is wired for a chart: what a cycle leaves in the pilots, the storage units and the program unit.
 use Rattle.std.specs.Prelude.{◌≡◌, ◌≢◌, ℕ, true, false, List, Option, Some}
-use Rattle.wiring_table.specs.Below.plans.Plans.{Lists}
+use Rattle.wiring_table.specs.Below.chart_plans.PlansWords.Plans.{Lists}
 use Rattle.wiring_table.specs.Below.chart_rules.ValidCard.{IsValidCard}
-use Rattle.wiring_table.specs.Below.charts.Chart.{Chart, NumbersRise}
-use Rattle.wiring_table.specs.Below.setups.Wiring.{Wiring}
-use Rattle.machine.specs.Machine.{MachineState}
-use Rattle.machine.specs.Below.net.declared.cycle.Cycle.{Cycle}
-use Rattle.machine.specs.Below.net.declared.cycle.Cycle.TheVariants.{Card}
-use Rattle.machine.specs.Below.program_unit.CycleOrder.{levels_to}
-use Rattle.wiring_table.specs.Below.report.Breaks.{highest}
-use Rattle.machine.specs.Below.selectors.Pilots.{moves_pilots}
+use Rattle.wiring_table.specs.Below.chart_lines.ChartsWords.Chart.{Chart, NumbersRise}
+use Rattle.wiring_table.specs.Below.hubs.SetupsWords.Wiring.{Wiring}
+use Rattle.proof_cycles.specs.Below.machine.Machine.{MachineState}
+use Rattle.proof_cycles.specs.Below.net.declared.cycle.Cycle.{Cycle}
+use Rattle.proof_cycles.specs.Below.net.declared.cycle.Cycle.TheVariants.{Card}
+use Rattle.program_unit.specs.CycleOrder.{levels_to}
+use Rattle.report_definition.specs.Breaks.{highest}
+use Rattle.proof_cycles.specs.Below.selectors.Pilots.{moves_pilots}
 use Rattle.proof_cycles.specs.WholeCycles.Between.{IsBetween}
 use Rattle.proof_cycles.specs.WholeCycles.WholeCycles.{WholeCycle}
 use Rattle.proof_reports.specs.WiredPanels.Panel.{IsPanel}

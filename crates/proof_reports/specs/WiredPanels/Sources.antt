@@ -1,21 +1,21 @@
 -- What emits at a point of a whole cycle, told by exits.
 use Rattle.std.specs.Prelude.{◌≡◌, ℕ, ◌≤◌, ◌-◌, Bool, true, List, Contains, Some, length, slice_index}
-use Rattle.machine.specs.Below.card_code.Rows.{row_number}
-use Rattle.machine.specs.Below.card_code.declared.row.Row.{Row as CardRow}
-use Rattle.machine.specs.Below.counters.Counters.{Counter}
-use Rattle.machine.specs.Below.hubs.declared.hub.Hub.{Hub}
-use Rattle.machine.specs.Below.hubs.declared.hub.Hub.TheVariants.{FR, SR, GX, SX, EM, CC, PX, HX, RO, SO}
-use Rattle.machine.specs.Machine.{MachineState}
-use Rattle.machine.specs.Below.net.Cycles.{level_number, ordinal_number}
-use Rattle.machine.specs.Below.net.declared.cycle.Cycle.{Cycle}
-use Rattle.machine.specs.Below.net.declared.cycle.Cycle.TheVariants.{RunIn, Card, Prog, Head}
-use Rattle.machine.specs.Below.net.declared.cycle.ProgramLevel.{ProgramLevel}
-use Rattle.machine.specs.Below.net.declared.cycle.Ordinal.{Ordinal}
-use Rattle.machine.specs.Below.net.declared.cycle.Point.{Point}
-use Rattle.machine.specs.Below.net.declared.cycle.Point.TheVariants.{C}
-use Rattle.machine.specs.Below.print_unit.Emitters.{emitter_of}
-use Rattle.machine.specs.Below.stations.Punches.{is_punched_at}
-use Rattle.machine.specs.Below.storage_units.Storage.{StorageState, holds}
+use Rattle.proof_cycles.specs.Below.card_code.Rows.{row_number}
+use Rattle.proof_cycles.specs.Below.card_code.declared.row.Row.{Row as CardRow}
+use Rattle.proof_cycles.specs.Below.counters.Counters.{Counter}
+use Rattle.proof_cycles.specs.Below.hubs.declared.hub.Hub.{Hub}
+use Rattle.proof_cycles.specs.Below.hubs.declared.hub.Hub.TheVariants.{FR, SR, GX, SX, EM, CC, PX, HX, RO, SO}
+use Rattle.proof_cycles.specs.Below.machine.Machine.{MachineState}
+use Rattle.proof_cycles.specs.Below.net.Cycles.{level_number, ordinal_number}
+use Rattle.proof_cycles.specs.Below.net.declared.cycle.Cycle.{Cycle}
+use Rattle.proof_cycles.specs.Below.net.declared.cycle.Cycle.TheVariants.{RunIn, Card, Prog, Head}
+use Rattle.proof_cycles.specs.Below.net.declared.cycle.ProgramLevel.{ProgramLevel}
+use Rattle.proof_cycles.specs.Below.net.declared.cycle.Ordinal.{Ordinal}
+use Rattle.proof_cycles.specs.Below.net.declared.cycle.Point.{Point}
+use Rattle.proof_cycles.specs.Below.net.declared.cycle.Point.TheVariants.{C}
+use Rattle.print_unit.specs.Emitters.{emitter_of}
+use Rattle.proof_cycles.specs.Below.stations.Punches.{is_punched_at}
+use Rattle.proof_cycles.specs.Below.storage_units.Storage.{StorageState, holds}
 
 -- The exit that emits at the control point of a cycle.
 pub data EmitsAtControl : Cycle → Hub → Type 0 where

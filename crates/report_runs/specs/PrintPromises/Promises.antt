@@ -1,16 +1,16 @@
 -- What it is for a setup to print a chart's reports, and to begin them.
 use Rattle.std.specs.Prelude.{◌≡◌, ℕ, ◌≤◌, List, ◌∷◌, ◌++◌, length, All}
-use Rattle.report_definition.specs.Below.card_code.MostCards.{most_cards}
-use Rattle.report_definition.specs.Below.page_text.declared.placed_lines.placed_line.PlacedLine.{PlacedLine}
-use Rattle.report_definition.specs.Below.chart_rules.ValidCard.{IsValidCard}
-use Rattle.report_definition.specs.Below.charts.Chart.{Chart}
+use Rattle.card_code.specs.MostCards.{most_cards}
+use Rattle.page_text.specs.declared.placed_lines.placed_line.PlacedLine.{PlacedLine}
+use Rattle.chart_rules.specs.ValidCard.{IsValidCard}
+use Rattle.chart_lines.specs.ChartsWords.Chart.{Chart}
 use Rattle.report_definition.specs.FollowedDecks.FitBefore.{FitBefore}
 use Rattle.report_definition.specs.FollowedDecks.Stands.{report_before}
-use Rattle.machine.specs.Below.setups.Wiring.{Wiring}
+use Rattle.hubs.specs.SetupsWords.Wiring.{Wiring}
 use Rattle.machine.specs.Feeds.{FedLines}
 use Rattle.machine.specs.Machine.{MachineState, machine_at_start}
 use Rattle.machine.specs.Runs.{MachineLines}
-use Rattle.report_definition.specs.Below.page_text.Pages.{Pages}
+use Rattle.page_text.specs.Pages.{Pages}
 use Rattle.report_definition.specs.ChartForm.{form_of}
 use Rattle.report_definition.specs.Report.{Report}
 use Rattle.report_definition.specs.Totals.{Fits}

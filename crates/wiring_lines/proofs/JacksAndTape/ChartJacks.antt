@@ -14,7 +14,7 @@ use Rattle.chart_lines.specs.declared.charts.statement.Statement.TheVariants as 
 use Rattle.hubs.specs.SetupsWords.Wiring.{Wiring}
 use Rattle.hubs.specs.declared.jack.Jack.{Jack}
 use Rattle.hubs.specs.declared.jack.Jack.TheVariants as jack
-use Rattle.wiring_table.specs.Below.report.ChartForm.{heading_count, is_total_item, prints_details, prints_totals}
+use Rattle.wiring_table.specs.Below.report_definition.ChartForm.{heading_count, is_total_item, prints_details, prints_totals}
 use Rattle.chart_lines.proofs.ChartsWords.Listed.{any-passing}
 use Rattle.wiring_lines.proofs.JacksAndTape.Plugging.{plugs-as, plugs-both, plugs-none}
 use Rattle.wiring_lines.specs.JacksAndTape.HelperJacks.{FigureJacks, links, suppresses, symbols, JacksBefore, LineJacks, Plugs, Ranged, ranged, TotalsBelow, level}

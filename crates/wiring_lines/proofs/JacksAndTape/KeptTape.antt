@@ -4,9 +4,9 @@ use Rattle.std.specs.List.{Contains}
 use Rattle.chart_rules.specs.Rules.{IsLawful}
 use Rattle.chart_lines.specs.ChartsWords.Chart.{Chart}
 use Rattle.hubs.specs.SetupsWords.Tapes.{IsFormed, IsStop}
-use Rattle.wiring_table.specs.Below.report.ChartForm.{form_of, stops_of}
-use Rattle.wiring_table.proofs.Below.report.LawfulForms.{IsGoodTape, room_of, stops-good}
-use Rattle.wiring_table.proofs.Below.report.NextStops.{listed_stop, on_form, rising}
+use Rattle.wiring_table.specs.Below.report_definition.ChartForm.{form_of, stops_of}
+use Rattle.wiring_table.proofs.Below.report_definition.LawfulForms.{IsGoodTape, room_of, stops-good}
+use Rattle.wiring_table.proofs.Below.report_definition.NextStops.{listed_stop, on_form, rising}
 use Rattle.chart_lines.proofs.ChartsWords.Listed.{listed-none}
 use Rattle.wiring_lines.specs.JacksAndTape.HelperJacks.{HasTape}
 

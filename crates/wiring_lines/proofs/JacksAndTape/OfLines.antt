@@ -15,7 +15,7 @@ use Rattle.hubs.specs.declared.jack.Jack.{Jack}
 use Rattle.hubs.specs.declared.jack.Jack.TheVariants as jack
 use Rattle.chart_line_rules.specs.PrintRules.Forms.{heading_count, heading_of}
 use Rattle.chart_line_rules.specs.declared.print_rules.items.Figure.{Figure}
-use Rattle.wiring_table.specs.Below.report.ChartForm.{is_print_detail, is_total_item}
+use Rattle.wiring_table.specs.Below.report_definition.ChartForm.{is_print_detail, is_total_item}
 use Rattle.wiring_table.specs.Jacks.{ChartJack, HasFigure}
 use Rattle.wiring_table.specs.Jacks as chart
 use Rattle.wiring_lines.proofs.JacksAndTape.ChartJacks.{of-figure}

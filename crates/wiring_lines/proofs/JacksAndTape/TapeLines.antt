@@ -13,8 +13,8 @@ use Rattle.chart_rules.specs.declared.rule.Rule.TheVariants as rule
 use Rattle.chart_rules.proofs.Laws.{kept-line, said-once}
 use Rattle.chart_line_rules.specs.FieldRules.Repeats.{repeats}
 use Rattle.chart_line_rules.specs.PrintRules.Tapes.{are_within, breaks_tape, form_lines, rise_above}
-use Rattle.wiring_table.specs.Below.report.ChartForm.{stops_from, stops_of}
-use Rattle.wiring_table.proofs.Below.report.Said.{SaysTape, tape-said}
+use Rattle.wiring_table.specs.Below.report_definition.ChartForm.{stops_from, stops_of}
+use Rattle.wiring_table.proofs.Below.report_definition.Said.{SaysTape, tape-said}
 use Rattle.wiring_lines.specs.JacksAndTape.OfLine.{HasLineStop, LineStop}
 
 -- the channel of a TAPE line of a lawful chart is 2 to 11

@@ -7,7 +7,7 @@ use Rattle.std.specs.List.{All, Contains}
 use Rattle.std.proofs.Math.Bool.{or-true}
 use Rattle.chart_lines.specs.declared.charts.chart.Line.{Line}
 use Rattle.hubs.specs.SetupsWords.Tapes.{AddsStop, CarriageTape, HasStops, has_stop}
-use Rattle.wiring_table.specs.Below.report.ChartForm.{form_of, stops_of}
+use Rattle.wiring_table.specs.Below.report_definition.ChartForm.{form_of, stops_of}
 use Rattle.wiring_lines.specs.JacksAndTape.HelperJacks.{HasTape, Punches, StopsBefore}
 use Rattle.wiring_table.specs.WiredFor.{IsTapeOf}
 

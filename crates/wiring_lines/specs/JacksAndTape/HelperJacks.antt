@@ -12,7 +12,7 @@ use Rattle.hubs.specs.declared.jack.Jack.{Jack}
 use Rattle.hubs.specs.declared.jack.Jack.TheVariants as jack
 use Rattle.wiring_lines.specs.declared.jacks_and_tape.panel_jacks.WheelJack.{WheelJack}
 use Rattle.wiring_lines.specs.declared.jacks_and_tape.panel_jacks.WheelJack.TheVariants as of_wheel
-use Rattle.wiring_table.specs.Below.report.ChartForm.{form_of, prints_totals, stops_of}
+use Rattle.wiring_table.specs.Below.report_definition.ChartForm.{form_of, prints_totals, stops_of}
 use Rattle.wiring_table.specs.Figures.{IsFigure, mark_wheel, free_digits}
 
 -- the new setup has the old one's jacks and some more, and the old one's wires and tape

@@ -8,7 +8,7 @@ use Rattle.chart_lines.specs.declared.charts.statement.Statement.{Statement}
 use Rattle.chart_lines.specs.declared.charts.statement.Statement.TheVariants as says
 use Rattle.hubs.specs.declared.jack.Jack.{Jack}
 use Rattle.hubs.specs.declared.jack.Jack.TheVariants as jack
-use Rattle.wiring_table.specs.Below.report.ChartForm.{form_of}
+use Rattle.wiring_table.specs.Below.report_definition.ChartForm.{form_of}
 use Rattle.hubs.specs.SetupsWords.Tapes.{CarriageTape, has_stop}
 use Rattle.wiring_lines.specs.JacksAndTape.HelperJacks.{LineJacks, Ranged}
 

@@ -3,7 +3,7 @@ use Rattle.std.specs.Prelude.{◌↔◌, ℕ, Contains}
 use Rattle.chart_lines.specs.ChartsWords.Chart.{Chart}
 use Rattle.chart_rules.specs.Rules.{IsLawful}
 use Rattle.hubs.specs.declared.jack.Jack.{Jack}
-use Rattle.wiring_table.specs.Below.report.ChartForm.{stops_of}
+use Rattle.wiring_table.specs.Below.report_definition.ChartForm.{stops_of}
 use Rattle.wiring_table.specs.Jacks.{ChartJack}
 use Rattle.wiring_lines.specs.JacksAndTape.OfLine.{HasLineJack, HasLineStop}
 

@@ -1,7 +1,7 @@
 //! The carriage tape of a chart.
 
 ghost use Rattle.std.specs.Prelude.{◌≡◌, ◌≤◌, All, Contains};
-ghost use Rattle.wiring_table.specs.Below.report.ChartForm as form;
+ghost use Rattle.wiring_table.specs.Below.report_definition.ChartForm as form;
 ghost use Rattle.wiring_lines.specs.JacksAndTape.HelperJacks.{HasTape, Punches};
 ghost use Rattle.wiring_table.specs.WiredFor.{IsTapeOf};
 

@@ -3,7 +3,7 @@
 ghost use Rattle.std.specs.Prelude.{◌≡◌, [], Contains};
 ghost use Rattle.chart_lines.specs.ChartsWords.Levels.{level_number};
 ghost use Rattle.hubs.specs.declared.jack.Jack.TheVariants as jack;
-ghost use Rattle.wiring_table.specs.Below.report.ChartForm.{form_of};
+ghost use Rattle.wiring_table.specs.Below.report_definition.ChartForm.{form_of};
 ghost use Rattle.hubs.specs.SetupsWords.Tapes.{HasStops};
 ghost use Rattle.wiring_lines.specs.JacksAndTape.HelperJacks.{FiguresAre, Plugs};
 ghost use Rattle.wiring_lines.specs.JacksAndTape.OfLine.{IsTapeOfLine, LineJack, PrintJack};

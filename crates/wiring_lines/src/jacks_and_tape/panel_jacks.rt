@@ -2,7 +2,7 @@
 
 ghost use Rattle.std.specs.Prelude.{◌≡◌, ◌+◌, ◌≤◌, ℕ, Some, slice_get, length, true};
 ghost use Rattle.hubs.specs.declared.jack.Jack.TheVariants as jack;
-ghost use Rattle.wiring_table.specs.Below.report.ChartForm as form;
+ghost use Rattle.wiring_table.specs.Below.report_definition.ChartForm as form;
 ghost use Rattle.wiring_lines.specs.JacksAndTape.HelperJacks.{FigureJacks, FiguresAre, IsGoodFigure, JacksBefore, LineJacks, Plugs, Ranged, TotalsBelow, jack_of};
 ghost use Rattle.hubs.specs.Jacks.{is_jack_in_range};
 ghost use Rattle.wiring_table.specs.Jacks.{ChartJack};

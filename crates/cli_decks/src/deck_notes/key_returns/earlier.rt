@@ -1,8 +1,8 @@
 //! The keys that stood before a card.
 
 ghost use Rattle.std.specs.Prelude.{◌≡◌, ◌≤◌, ℕ, List, [], IfOk, OnOk, nat_lt};
-ghost use Rattle.chart_rules.specs.Below.charts.Levels.{control_number};
-ghost use Rattle.chart_rules.specs.Below.charts.declared.chart.Line.{Line};
+ghost use Rattle.chart_lines.specs.ChartsWords.Levels.{control_number};
+ghost use Rattle.chart_lines.specs.declared.charts.chart.Line.{Line};
 ghost use Rattle.cli_decks.specs.DeckNotes.KeyReturns.HelperKept.{AreEarlier, AreFirst, at_level};
 ghost use Rattle.cli_decks.specs.DeckNotes.KeyReturns.Returns.{Earlier, Numbered, cut, earlier_with, none_earlier, stood, stood_among, with_card};
 

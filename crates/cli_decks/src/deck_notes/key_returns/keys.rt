@@ -1,7 +1,7 @@
 //! The keys of cards, and the breaks between cards.
 
 ghost use Rattle.std.specs.Prelude.{◌≡◌, ◌++◌, ◌≤◌, ℕ, List, IfOk, OnOk};
-ghost use Rattle.chart_rules.specs.Below.charts.Levels.{control_number};
+ghost use Rattle.chart_lines.specs.ChartsWords.Levels.{control_number};
 ghost use Rattle.chart_rules.specs.Controls.{controls_of};
 ghost use Rattle.chart_rules.specs.HelperOnCard.{AreOnCard, IsOnCard};
 ghost use Rattle.cli_decks.specs.DeckNotes.KeyReturns.Keys.{AreSetsOf, key_on, punches_on};

@@ -2,7 +2,7 @@
 
 ghost use Rattle.std.specs.Prelude.{◌≡◌, ◌++◌, OnOk};
 ghost use Rattle.std.specs.List.{flat_map};
-ghost use Rattle.chart_rules.specs.Below.charts.Levels.{control_number};
+ghost use Rattle.chart_lines.specs.ChartsWords.Levels.{control_number};
 ghost use Rattle.chart_rules.specs.Controls.{controls_of};
 ghost use Rattle.chart_rules.specs.HelperOnCard.{IsOnCard};
 ghost use Rattle.cli_decks.specs.DeckNotes.KeyReturns.Words as told;

@@ -2,7 +2,7 @@
 
 ghost use Rattle.std.specs.Prelude.{◌≡◌, ◌≢◌, ◌≤◌, ◌⊎◌, ◌++◌, IfErr, IfNone, IfOk, IfSome, OnOk};
 ghost use Rattle.card_code.specs.Deck.{IsCardOf};
-ghost use Rattle.chart_rules.specs.Below.line_rules.FieldRules.Fields.{fields_of};
+ghost use Rattle.chart_line_rules.specs.FieldRules.Fields.{fields_of};
 ghost use Rattle.fault_lines.specs.FaultsWords.Lines.{IsTold, fault_line};
 ghost use Rattle.fault_lines.specs.FaultsWords.Status.{status_of};
 ghost use Rattle.fault_lines.specs.FaultsWords.ToldFaults.{deck_told, of_card, run_told};

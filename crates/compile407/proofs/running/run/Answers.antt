@@ -1,6 +1,6 @@
 use Rattle.std.proofs.Common.{ap, ◌∙◌}
 use Rattle.page_text.specs.Pages.{Pages}
-use Rattle.report_misfits.specs.Below.report.Report.{report_lines}
+use Rattle.report_misfits.specs.Below.report_definition.Report.{report_lines}
 use Rattle.compile407.proofs.Headline.{compiled_lines}
 use Rattle.compile407.proofs.running.run.Goals as goal
 

@@ -1,5 +1,5 @@
 use Rattle.std.proofs.Common.{◌∙◌, ◌≡◌, ◌+◌, ◌-◌, ◌<◌, ◌≤◌, ℕ, ap, arith}
-use Rattle.net.proofs.Below.bit_sets.BitLemmas.{is_bit-shr}
+use Rattle.net.proofs.Below.machine_sets.BitSets.BitLemmas.{is_bit-shr}
 use Rattle.net.specs.HubSets.{is_bit}
 use Rattle.counters.proofs.ControlHubs.{controls_of-row}
 use Rattle.counters.proofs.sensing.controls_in.Goals as goal

@@ -1,4 +1,4 @@
-use Rattle.net.proofs.Below.bit_sets.BitLemmas.{is_bit-shr}
+use Rattle.net.proofs.Below.machine_sets.BitSets.BitLemmas.{is_bit-shr}
 use Rattle.counters.proofs.sensing.from_bit.Goals as goal
 
 pub returns : goal.returns

@@ -1,4 +1,4 @@
-use Rattle.net.proofs.Below.bit_sets.BitLemmas.{is_bit-low_word}
+use Rattle.net.proofs.Below.machine_sets.BitSets.BitLemmas.{is_bit-low_word}
 use Rattle.counters.proofs.sensing.low_half.Goals as goal
 
 pub returns : goal.returns

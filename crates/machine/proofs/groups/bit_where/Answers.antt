@@ -1,5 +1,5 @@
 use Rattle.std.proofs.Common.{◌∙◌, ap, ◌*◌, ◌%◌, ◌^◌}
-use Rattle.net.proofs.Below.bit_sets.BitLemmas.{is_bit-where}
+use Rattle.net.proofs.Below.machine_sets.BitSets.BitLemmas.{is_bit-where}
 use Rattle.net.specs.HubSets.{is_bit}
 use Rattle.machine.proofs.groups.bit_where.Goals as goal
 

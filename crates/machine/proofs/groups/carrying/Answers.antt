@@ -2,7 +2,7 @@ use Rattle.std.proofs.Common.{◌∙◌, false, ◌&&◌, ◌||◌, ap, sym, ref
 use Rattle.std.proofs.Math.Bool.{or-false}
 use Rattle.counters.specs.Counters.{wheels_in}
 use Rattle.counters.specs.Wheels.{carries_out}
-use Rattle.net.proofs.Below.bit_sets.BitLemmas.{is_bit-or, is_bit-zero}
+use Rattle.net.proofs.Below.machine_sets.BitSets.BitLemmas.{is_bit-or, is_bit-zero}
 use Rattle.net.specs.HubSets.{is_bit}
 use Rattle.machine.specs.Steady.{carries_of}
 use Rattle.machine.proofs.CarryExits.{busy-carries, carry-more, carry-past}

@@ -1,5 +1,5 @@
 use Rattle.std.proofs.Common.{arith}
-use Rattle.net.proofs.Below.bit_sets.BitLemmas.{taken_lower}
+use Rattle.net.proofs.Below.machine_sets.BitSets.BitLemmas.{taken_lower}
 use Rattle.print_unit.proofs.Hiding.{hides-all, hides-beyond, hides-lowest, hides-none}
 use Rattle.print_unit.proofs.line.hide_half.Goals.{else-from-bit-lt-WHEELS, then-from-bit-lt-WHEELS}
 use Rattle.print_unit.proofs.line.hide_half.Goals as goal

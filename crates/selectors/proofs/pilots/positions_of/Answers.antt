@@ -1,5 +1,5 @@
 use Rattle.std.proofs.Common.{ℕ, ◌*◌, ◌<◌, arith}
-use Rattle.net.proofs.Below.bit_sets.BitLemmas.{taken_lower}
+use Rattle.net.proofs.Below.machine_sets.BitSets.BitLemmas.{taken_lower}
 use Rattle.selectors.proofs.PositionLemmas.{lowest-left, positions-all, positions-more, positions-none}
 use Rattle.selectors.proofs.pilots.positions_of.Goals as goal
 

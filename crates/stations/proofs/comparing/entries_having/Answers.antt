@@ -1,5 +1,5 @@
 use Rattle.std.proofs.Common.{◌≡◌, ◌∙◌, ◌+◌, ◌&&◌, ap, arith, nat_lt, slice_index_or, ℕ}
-use Rattle.net.proofs.Below.bit_sets.MaskLemmas.{rows-masked}
+use Rattle.net.proofs.Below.machine_sets.BitSets.MaskLemmas.{rows-masked}
 use Rattle.net.specs.HubSets.{is_bit}
 use Rattle.stations.proofs.CollectedWords.{thirty-read}
 use Rattle.stations.proofs.comparing.entries_having.Goals as goal

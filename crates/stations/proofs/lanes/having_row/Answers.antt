@@ -1,5 +1,5 @@
 use Rattle.std.proofs.Common.{arith}
-use Rattle.net.proofs.Below.bit_sets.MaskLemmas.{rows-masked}
+use Rattle.net.proofs.Below.machine_sets.BitSets.MaskLemmas.{rows-masked}
 use Rattle.stations.proofs.lanes.having_row.Goals as goal
 
 pub returns : goal.returns

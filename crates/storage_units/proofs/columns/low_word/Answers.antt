@@ -1,6 +1,6 @@
 use Rattle.std.proofs.Common.{◌≡◌, nat_lt, arith}
 use Rattle.std.proofs.lemmas.Bool.Decides.{nat_tests}
-use Rattle.net.proofs.Below.bit_sets.BitLemmas.{is_bit-and, is_bit-ones}
+use Rattle.net.proofs.Below.machine_sets.BitSets.BitLemmas.{is_bit-and, is_bit-ones}
 use Rattle.net.specs.HubSets.{is_bit}
 use Rattle.storage_units.proofs.columns.low_word.Goals as goal
 

@@ -1,7 +1,7 @@
 use Rattle.std.proofs.Common.{rules}
 use Rattle.std.proofs.lemmas.Result.{on_ok_weaker}
 use Rattle.wiring_lines.proofs.LineWires.Steps.{adds-both, adds-by, adds-no_value, adds-some}
-use Rattle.wiring_table.specs.Parts.{top_group}
+use Rattle.wiring_lines.specs.Below.wiring_table.Parts.{top_group}
 use Rattle.wiring_totals.specs.HelperTotalRows.{TotalMark}
 use Rattle.wiring_totals.proofs.total.wire_signed_total.Goals as goal
 

@@ -1,6 +1,6 @@
 use Rattle.hubs.specs.declared.hub.Hub.TheVariants.{W}
 use Rattle.std.proofs.Common.{◌+◌}
-use Rattle.wiring_table.specs.Figures.{digit_wheel}
+use Rattle.wiring_lines.specs.Below.wiring_table.Figures.{digit_wheel}
 use Rattle.wiring_lines.specs.LineWires.HelperAdds.{Adds, One, Upto}
 use Rattle.wiring_totals.specs.HelperCounters.{exit_of, place_of}
 use Rattle.wiring_totals.proofs.total.wire_total_digits.Given as goal

@@ -2,7 +2,7 @@ use Rattle.hubs.specs.declared.hub.Hub.TheVariants.{BAC, BAT}
 use Rattle.std.proofs.Common.{arith, ◌+◌}
 use Rattle.std.proofs.lemmas.Option.{slice_get-get_or}
 use Rattle.wiring_lines.proofs.LineWires.Steps.{adds-both, adds-by, adds-some, upto-all, upto-more, upto-none}
-use Rattle.wiring_table.specs.Figures.{mark_text}
+use Rattle.wiring_lines.specs.Below.wiring_table.Figures.{mark_text}
 use Rattle.wiring_lines.specs.LineWires.HelperRows.{MarkWires}
 use Rattle.wiring_totals.proofs.total.wire_total_mark.Goals as goal
 

@@ -1,5 +1,5 @@
 use Rattle.std.proofs.Common.{ℕ, ◌<◌}
-use Rattle.wiring_table.specs.Parts.{HasTotal}
+use Rattle.wiring_lines.specs.Below.wiring_table.Parts.{HasTotal}
 use Rattle.wiring_totals.proofs.transfer.is_lowest.Given as goal
 
 abbrev pub invariant-loop-lower : goal.invariant-loop-lower

@@ -1,6 +1,6 @@
 use Rattle.std.proofs.Common.{List, subst, sym}
 use Rattle.std.specs.Prelude.{Contains}
-use Rattle.chart_rules.specs.Below.charts.declared.statement.Field.{Field}
+use Rattle.chart_lines.specs.declared.charts.statement.Field.{Field}
 use Rattle.cli_sheets.proofs.SheetsWords.Readable.{readable}
 use Rattle.cli_sheets.proofs.sheets.fields.write_fields.Goals as goal
 

@@ -1,6 +1,6 @@
 use Rattle.std.proofs.Common.{◌≡◌, ◌++◌, take}
 use Rattle.std.specs.List.{flat_map}
-use Rattle.chart_rules.specs.Below.line_rules.FieldRules.Fields.{fields_of}
+use Rattle.chart_line_rules.specs.FieldRules.Fields.{fields_of}
 use Rattle.cli_sheets.specs.SheetsWords.Fields.{field_told}
 use Rattle.cli_sheets.proofs.sheets.fields.write_fields.Given as goal
 

@@ -1,6 +1,6 @@
 use Rattle.std.proofs.Common.{◌≡◌, ◌-◌, ◌++◌, map}
 use Rattle.std.specs.List.{range_with_len}
-use Rattle.chart_rules.specs.Below.card_code.CardCode.{print_character}
+use Rattle.card_code.specs.CardCode.{print_character}
 use Rattle.chart_rules.specs.ValidCard.{column_of}
 use Rattle.cli_sheets.proofs.sheets.fields.write_text.Given as goal
 

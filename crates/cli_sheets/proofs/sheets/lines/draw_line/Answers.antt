@@ -1,6 +1,6 @@
 use Rattle.std.proofs.Common.{◌≡◌, ◌∙◌, ◌-◌, ◌++◌, ap, sym, arith, get_or, length, List, ℕ, Some, option_map}
-use Rattle.chart_rules.specs.Below.charts.Literals.{literal_in}
-use Rattle.chart_rules.specs.Below.charts.declared.chart.Line.{Line}
+use Rattle.chart_lines.specs.ChartsWords.Literals.{literal_in}
+use Rattle.chart_lines.specs.declared.charts.chart.Line.{Line}
 use Rattle.report_definition.specs.BodyLines.{piece_at}
 use Rattle.cli_sheets.specs.SheetsWords.Layout.{drawn, drawn_piece}
 use Rattle.cli_sheets.proofs.SheetsWords.Drawing.{none-drawn, piece-some}

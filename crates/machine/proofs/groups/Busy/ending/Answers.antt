@@ -1,4 +1,4 @@
-use Rattle.net.proofs.Below.bit_sets.BitLemmas.{is_bit-or}
+use Rattle.net.proofs.Below.machine_sets.BitSets.BitLemmas.{is_bit-or}
 use Rattle.machine.proofs.groups.Busy.ending.Goals as goal
 
 pub returns : goal.returns

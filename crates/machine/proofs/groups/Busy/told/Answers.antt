@@ -1,6 +1,6 @@
 use Rattle.std.proofs.Common.{◌∙◌, ◌-◌, refl, arith}
 use Rattle.hubs.specs.declared.hub.Hub.TheVariants.{RO, BT}
-use Rattle.net.proofs.Below.bit_sets.BitLemmas.{is_bit-shr}
+use Rattle.net.proofs.Below.machine_sets.BitSets.BitLemmas.{is_bit-shr}
 use Rattle.net.specs.Panel.{unit_of}
 use Rattle.machine.proofs.Rest.{control-unmarked, four_parts, neither, told-marked}
 use Rattle.machine.proofs.groups.Busy.told.Goals as goal

@@ -1,4 +1,4 @@
-use Rattle.wiring_table.specs.Below.report.ChartForm.{form_of}
+use Rattle.wiring_table.specs.Below.report_definition.ChartForm.{form_of}
 use Rattle.std.proofs.Common.{drop, ◌≡◌}
 use Rattle.wiring_lines.proofs.jacks_and_tape.chart_tape.form_of.Given as goal
 

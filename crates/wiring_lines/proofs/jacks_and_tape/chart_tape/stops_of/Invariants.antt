@@ -1,4 +1,4 @@
-use Rattle.wiring_table.specs.Below.report.ChartForm.{stops_of}
+use Rattle.wiring_table.specs.Below.report_definition.ChartForm.{stops_of}
 use Rattle.std.proofs.Common.{drop, ◌≡◌}
 use Rattle.wiring_lines.proofs.jacks_and_tape.chart_tape.stops_of.Given as goal
 

@@ -1,6 +1,6 @@
 use Rattle.std.proofs.Common.{subst, sym}
 use Rattle.chart_rules.proofs.ControlFields.{controls-on_card}
-use Rattle.chart_rules.specs.Below.charts.Levels.{control_number}
+use Rattle.chart_lines.specs.ChartsWords.Levels.{control_number}
 use Rattle.chart_rules.specs.HelperOnCard.{AreOnCard}
 use Rattle.cli_decks.proofs.deck_notes.key_returns.keys.key_of.Goals as goal
 

@@ -1,7 +1,7 @@
 use Rattle.std.proofs.Common.{length, refl, subst, sym}
 use Rattle.std.proofs.lemmas.Option.{slice_get_read}
 use Rattle.chart_rules.proofs.ControlFields.{controls-on_card}
-use Rattle.chart_rules.specs.Below.charts.Levels.{control_number}
+use Rattle.chart_lines.specs.ChartsWords.Levels.{control_number}
 use Rattle.chart_rules.specs.HelperOnCard.{AreOnCard}
 use Rattle.cli_decks.proofs.deck_notes.key_returns.words.write_level.Goals as goal
 

@@ -1,6 +1,6 @@
 use Rattle.std.proofs.Common.{◌≡◌, ◌++◌, take}
 use Rattle.std.specs.List.{flat_map}
-use Rattle.chart_rules.specs.Below.charts.Levels.{control_number}
+use Rattle.chart_lines.specs.ChartsWords.Levels.{control_number}
 use Rattle.chart_rules.specs.Controls.{controls_of}
 use Rattle.cli_decks.specs.DeckNotes.KeyReturns.Words.{field_words}
 use Rattle.cli_decks.proofs.deck_notes.key_returns.words.write_level.Given as goal

@@ -1,7 +1,7 @@
 use Rattle.std.proofs.Common.{◌≡◌, ◌∙◌, ap, sym, ℕ, List, [], ◌∷◌, nat_eq, is_some, Some}
 use Rattle.std.specs.Cmp.Lexicographic.{pointwise}
 use Rattle.std.specs.Map.{lookup}
-use Rattle.chart_rules.specs.Below.charts.Levels.{control_number}
+use Rattle.chart_lines.specs.ChartsWords.Levels.{control_number}
 use Rattle.indexmap.proofs.CallerLemmas.{insert_entry-new}
 use Rattle.cli_decks.specs.DeckNotes.KeyReturns.HelperKept.{AreFirst}
 use Rattle.cli_decks.specs.DeckNotes.KeyReturns.Returns.{Numbered, stood_among}

@@ -1,0 +1,1 @@
+pub use Rattle.chart_text.proofs as chart_text

@@ -1,0 +1,1 @@
+pub use Rattle.card_code.specs as card_code

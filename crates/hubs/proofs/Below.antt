@@ -1,1 +1,0 @@
-pub use Rattle.hubs.proofs.HubTable as hub_table

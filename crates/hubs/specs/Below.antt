@@ -1,1 +1,0 @@
-pub use Rattle.hubs.specs.HubTable as hub_table

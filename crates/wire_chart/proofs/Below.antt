@@ -1,1 +1,0 @@
-pub use Rattle.wiring_text.proofs as wiring_text

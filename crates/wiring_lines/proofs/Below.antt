@@ -1,0 +1,1 @@
+pub use Rattle.wiring_table.proofs as wiring_table

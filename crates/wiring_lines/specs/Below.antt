@@ -1,0 +1,1 @@
+pub use Rattle.wiring_table.specs as wiring_table
