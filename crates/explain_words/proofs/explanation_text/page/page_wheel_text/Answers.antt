@@ -14,7 +14,7 @@ returns-clause-told c deck number is =
     subst (λ (l : ℕ). Explains setup asked deck number l c.args.wheel text) c.in-Some.ensures.numbered
     (subst (λ (p : ℕ). Explains setup asked deck p line.found.kept.line.line c.args.wheel text) here.1
     (record {
-      told = c.in_ok-told_wheel.field-0.told;
+      told = c.in_ok-told_wheel.field-0.why;
       is = rw c.into_words.ensures (c.in_ok-told_wheel.ensures deck here.0);
     }))
 

@@ -17,5 +17,5 @@ returns-clause-told c =
     let at_line = subst (λ (f : Option FoundLine). IfSome f (λ f. f.kept.line.line ≡ c.args.line)) c.in-Some.is clauses.line in
     let same = c.in_ok-ways.ensures.line in
     explained_there setup c.args.asked.now deck c.in_ok-ways.ways.found found c.args.page c.args.line c.args.wheel
-    c.in_ok-told_wheel.field-0.told (string_bytes c.in_ok-told_wheel.field-0.text) same at_page at_line
+    c.in_ok-told_wheel.field-0.why (string_bytes c.in_ok-told_wheel.field-0.words) same at_page at_line
     (c.in_ok-told_wheel.ensures deck (subst (IsFound setup deck) (sym same) is))
