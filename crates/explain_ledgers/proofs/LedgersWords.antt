@@ -6,11 +6,9 @@ pub mod Places
 pub mod Whole
 pub mod Coupled
 pub mod Summaries
-pub mod Running
 pub mod Loops
 pub mod Keeping
 pub mod KeptLedgers
 pub mod SoughtLines
-pub mod InCycle
 pub mod CycleReadOuts
 pub mod LedgerText

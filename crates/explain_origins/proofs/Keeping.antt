@@ -4,57 +4,57 @@ use Rattle.std.specs.Prelude.{IfSome}
 use Rattle.hubs.specs.SetupsWords.Wiring.{Wiring}
 use Rattle.net.specs.declared.cycle.Cycle.{Cycle}
 use Rattle.machine.specs.Machine.{MachineState}
-use Rattle.machine.specs.Stepped.{Stepped}
-use Rattle.explain_ledgers.specs.LedgersWords.Ledgers.{Along, ComesTo, Goes, along_after, along_at_start, at_start, card_in, on}
-use Rattle.explain_ledgers.specs.LedgersWords.Running.{HasCycle, Stands, along_of}
+use Rattle.explain_wheels.specs.RunsWords.{Ends, IsBegun, IsIn, along_of}
+use Rattle.explain_wheels.specs.declared.runs.DeckRun.{DeckRun}
+use Rattle.explain_wheels.proofs.RunsWords.DeckRuns.{StandsBehind, behind-more, behind-none}
+use Rattle.explain_ledgers.specs.LedgersWords.Ledgers.{Along, ComesTo, at_start, card_in, on}
+use Rattle.explain_ledgers.specs.LedgersWords.Running.{HasCycle}
 use Rattle.explain_origins.specs.Changes.{IsLast, IsLastBefore, begun, passed_cycle, last_with, more}
 use Rattle.explain_origins.specs.declared.changes.PassedCycle.{PassedCycle}
 
--- A stepped machine in a run, and the last cycle up to there that did something.
-pub record Keeps (wiring : Wiring) (deck : List (List ℕ)) (card passed : ℕ) (stepped : Stepped) (hopper : List (List ℕ))
-    (does : Cycle → MachineState → Bool) (last : Option PassedCycle) : Type 0 where
-  pub stands : Stands wiring deck card passed stepped hopper
-  pub is : IsLast wiring deck does (along_of card passed stepped hopper) last
+-- A run, and the last cycle up to there that did something.
+pub record Keeps (wiring : Wiring) (deck : List (List ℕ)) (passed : ℕ) (run : DeckRun) (does : Cycle → MachineState → Bool)
+    (last : Option PassedCycle) : Type 0 where
+  pub behind : StandsBehind wiring deck passed run
+  pub is : IsLast wiring deck does (along_of run) last
 
 -- none yet
-pub keeps-begun : (wiring : Wiring) (deck : List (List ℕ)) (stepped : Stepped) (hopper : List (List ℕ))
-    (does : Cycle → MachineState → Bool) → Stands wiring deck 0 0 stepped hopper → along_of 0 0 stepped hopper ≡ along_at_start wiring deck
-    → Keeps wiring deck 0 0 stepped hopper does None
-keeps-begun wiring deck stepped hopper does stands at = record {
-  stands = stands;
-  is = subst (λ (a : Along). IsLast wiring deck does a None) (sym at) begun;
+pub keeps-begun : (wiring : Wiring) (deck : List (List ℕ)) (run : DeckRun) (does : Cycle → MachineState → Bool) → IsBegun wiring deck run
+    → Keeps wiring deck 0 run does None
+keeps-begun wiring deck run does begins = record {
+  behind = behind-none wiring deck run begins;
+  is = subst (λ (a : Along). IsLast wiring deck does a None) (sym begins.start) begun;
 }
 
 -- one cycle more
-pub keeps-more : (wiring : Wiring) (deck : List (List ℕ)) (stepped after : Stepped) (card passed next : ℕ) (hopper left : List (List ℕ))
-    (cycle : Cycle) (behind : MachineState) (does : Cycle → MachineState → Bool) (done : Bool) (old new : Option PassedCycle)
-    → Keeps wiring deck card passed stepped hopper does old
-    → Goes wiring cycle (along_of card passed stepped hopper) behind
-    → Stands wiring deck next (passed + 1) after left
-    → along_after cycle behind (along_of card passed stepped hopper) ≡ along_of next (passed + 1) after left
-    → next ≡ card_in cycle card → done ≡ does cycle behind
-    → new ≡ last_with done (record { cycle = cycle; card = next; passed = passed }) old
-    → Keeps wiring deck next (passed + 1) after left does new
-keeps-more wiring deck stepped after card passed next hopper left cycle behind does done old new keeps goes stands same numbered is_done taken =
-    let along : Along = along_of card passed stepped hopper in
-    let last : new ≡ last_with (does cycle behind) (passed_cycle cycle along) old =
+pub keeps-more : (wiring : Wiring) (deck : List (List ℕ)) (passed : ℕ) (cycle : Cycle) (run inside after : DeckRun)
+    (does : Cycle → MachineState → Bool) (done : Bool) (old new : Option PassedCycle)
+    → Keeps wiring deck passed run does old
+    → IsIn wiring deck cycle (along_of run) inside
+    → Ends wiring deck cycle (along_of run) inside.machine.machine after
+    → done ≡ does cycle inside.machine.machine
+    → new ≡ last_with done (record { cycle = cycle; card = inside.card; passed = passed }) old
+    → Keeps wiring deck (passed + 1) after does new
+keeps-more wiring deck passed cycle run inside after does done old new keeps is ends is_done taken =
+    let last : new ≡ last_with (does cycle inside.machine.machine) (passed_cycle cycle (along_of run)) old =
     taken
-    ∙ ap (λ (n : ℕ). last_with done (record { cycle = cycle; card = n; passed = passed }) old) numbered
-    ∙ ap (λ (b : Bool). last_with b (passed_cycle cycle along) old) is_done in
+    ∙ ap (λ (n : ℕ). last_with done (record { cycle = cycle; card = n; passed = passed }) old) is.card
+    ∙ ap (λ (n : ℕ). last_with done (record { cycle = cycle; card = card_in cycle run.card; passed = n }) old) (sym keeps.behind.counted)
+    ∙ ap (λ (b : Bool). last_with b (passed_cycle cycle (along_of run)) old) is_done in
     record {
-      stands = stands;
+      behind = behind-more wiring deck cycle passed run inside after keeps.behind ends;
       is =
-          subst (λ (any : Option PassedCycle). IsLast wiring deck does (along_of next (passed + 1) after left) any) (sym last)
-          (subst (λ (a : Along). IsLast wiring deck does a (last_with (does cycle behind) (passed_cycle cycle along) old)) same
-          (more cycle along old behind keeps.is goes));
+          subst (λ (any : Option PassedCycle). IsLast wiring deck does (along_of after) any) (sym last)
+          (subst (λ (a : Along). IsLast wiring deck does a
+          (last_with (does cycle inside.machine.machine) (passed_cycle cycle (along_of run)) old)) ends.along
+          (more cycle (along_of run) old inside.machine.machine keeps.is is.goes));
     }
 
-pub kept-over : (wiring : Wiring) (deck : List (List ℕ)) (card passed count : ℕ) (stepped : Stepped) (hopper : List (List ℕ))
-    (does : Cycle → MachineState → Bool) (last : Option PassedCycle) → Keeps wiring deck card passed stepped hopper does last → passed ≡ count
-    → IsLastBefore wiring deck count does last
-kept-over wiring deck card passed count stepped hopper does last keeps counted = record {
-  along = along_of card passed stepped hopper;
-  counted = counted;
+pub kept-over : (wiring : Wiring) (deck : List (List ℕ)) (passed count : ℕ) (run : DeckRun) (does : Cycle → MachineState → Bool)
+    (last : Option PassedCycle) → Keeps wiring deck passed run does last → passed ≡ count → IsLastBefore wiring deck count does last
+kept-over wiring deck passed count run does last keeps counted = record {
+  along = along_of run;
+  counted = keeps.behind.counted ∙ counted;
   is = keeps.is;
 }
 

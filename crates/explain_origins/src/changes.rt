@@ -10,7 +10,7 @@ ghost use Rattle.selectors.specs.Pilots.{moves_pilots};
 use crate::holders::Holder;
 use crate::holding::hold_same;
 use card_code::Card;
-use explain_ledgers::ledgers::{card_in, make_ready, move_on};
+use explain_wheels::runs::DeckRun;
 use hubs::setups::Setup;
 use machine::SteppedMachine;
 use net::Cycle;
@@ -81,24 +81,17 @@ pub fn last_move(
     ensures last { IfOk result (IsLastBefore setup.now cards.now count (moves holder)) }
     ensures has { IfOk result (λ last. IfSome last (λ since. HasCycle setup.now cards.now since.passed)) }
 {
-    let mut machine = SteppedMachine::new(alloc, setup)?;
+    let mut run = DeckRun::begin(alloc, setup, cards)?;
     let mut last = None;
-    let mut hopper = move_on(&mut machine, cards);
-    let mut card = 0;
     for passed in 0..count {
-        let Some(cycle) = machine.cycle_due() else {
-            unreachable!();
-        };
-        hopper = make_ready(&mut machine, cycle, hopper);
-        card = card_in(cycle, card);
-        machine.run_points(cycle);
+        let cycle = run.enter_due(setup, cards);
         let here = PassedCycle {
             cycle,
-            card,
+            card: run.card,
             passed,
         };
-        last = last_with(here, moves(holder, cycle, &machine), last);
-        machine.end_cycle(cycle);
+        last = last_with(here, moves(holder, cycle, &run.machine), last);
+        run.leave(cycle);
     }
     Ok(last)
 }

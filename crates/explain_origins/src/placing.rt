@@ -8,10 +8,10 @@ ghost use Rattle.explain_origins.specs.Placing.{IsLineBefore, IsPlacing, begun_w
 use crate::asks::{write_overflow, write_page, write_skip, write_spacing};
 use crate::changes::PassedCycle;
 use card_code::Card;
+use explain_ledgers::ledgers::FoundCycle;
 use explain_ledgers::ledgers::ledger_text::write_cycle;
-use explain_ledgers::ledgers::{FoundCycle, card_in, make_ready, move_on};
+use explain_wheels::runs::DeckRun;
 use hubs::setups::Setup;
-use machine::SteppedMachine;
 use net::Cycle;
 use page_text::placed_lines::PlacedLine;
 use std::alloc::{AllocError, Global};
@@ -48,24 +48,17 @@ fn line_before(
     requires has { HasCycle setup.now cards.now count }
     ensures { IfOk result (IsLineBefore setup.now cards.now count) }
 {
-    let mut machine = SteppedMachine::new(alloc, setup)?;
+    let mut run = DeckRun::begin(alloc, setup, cards)?;
     let mut last = None;
-    let mut hopper = move_on(&mut machine, cards);
-    let mut card = 0;
     for passed in 0..count {
-        let Some(cycle) = machine.cycle_due() else {
-            unreachable!();
-        };
-        hopper = make_ready(&mut machine, cycle, hopper);
-        card = card_in(cycle, card);
-        machine.run_points(cycle);
-        machine.end_cycle(cycle);
+        let cycle = run.enter_due(setup, cards);
+        run.leave(cycle);
         let here = PassedCycle {
             cycle,
-            card,
+            card: run.card,
             passed,
         };
-        last = line_with(here, machine.line(), last);
+        last = line_with(here, run.machine.line(), last);
     }
     Ok(last)
 }

@@ -1,2 +1,3 @@
 pub mod WaysWords
 pub mod ExplanationsWords
+pub mod RunsWords

@@ -3,11 +3,11 @@ use Rattle.std.proofs.Common.{◌≡◌, ◌∙◌, sym, ap, subst, refl, ℕ, �
 use Rattle.std.proofs.lemmas.Bool.Decides.{nat_tests}
 use Rattle.std.proofs.lemmas.List.{get_or-map, get_or-set_same, get_or-set_other, get_or_append_left, get_or_push, length-map, length-set, same_lists}
 use Rattle.counters.specs.Counters.{Counter}
-use Rattle.machine.specs.Stepped.{Stepped}
+use Rattle.explain_wheels.specs.declared.runs.DeckRun.{DeckRun}
 use Rattle.hubs.specs.SetupsWords.Wiring.{Wiring}
 use Rattle.explain_ledgers.specs.LedgersWords.CycleReadOuts.{AreReadOuts, TellReadOuts, read_outs_of}
 use Rattle.explain_ledgers.specs.declared.ledgers.read_outs.ReadOuts.{ReadOuts}
-use Rattle.explain_ledgers.proofs.LedgersWords.InCycle.{StandsBehind}
+use Rattle.explain_wheels.proofs.RunsWords.DeckRuns.{StandsBehind}
 use Rattle.explain_ledgers.proofs.LedgersWords.Summaries.{length-one}
 
 -- of the first groups it is noted whether they are read out
@@ -45,10 +45,9 @@ notes-all groups place read_outs all long notes =
     (many ∙ sym long ∙ sym (length-map groups (λ (g : Counter). g.controls.read_out)))
     (λ k d low. notes.each k d (omega (arith, low, all, many)))
 
--- a stepped machine in a run, and which groups are read out in the cycles so far
-pub record ReadsTo (wiring : Wiring) (deck : List (List ℕ)) (passed : ℕ) (stepped : Stepped) (hopper : List (List ℕ)) (all : List ReadOuts)
-    : Type 0 where
-  pub behind : StandsBehind wiring deck passed stepped hopper
+-- a run, and which groups are read out in the cycles so far
+pub record ReadsTo (wiring : Wiring) (deck : List (List ℕ)) (passed : ℕ) (run : DeckRun) (all : List ReadOuts) : Type 0 where
+  pub behind : StandsBehind wiring deck passed run
   pub many : length all ≡ passed
   pub told : TellReadOuts wiring deck all
 

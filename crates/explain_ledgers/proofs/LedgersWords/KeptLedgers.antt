@@ -9,19 +9,21 @@ use Rattle.std.specs.Ordering.{nat_cmp, ord_max}
 use Rattle.counters.specs.Counters.{Counter}
 use Rattle.machine.specs.Machine.{MachineState}
 use Rattle.machine.specs.Runs.{cycle_due}
-use Rattle.machine.specs.Stepped.{Stepped}
 use Rattle.net.specs.declared.cycle.Cycle.{Cycle}
 use Rattle.hubs.specs.SetupsWords.Wiring.{Wiring}
 use Rattle.explain_ledgers.specs.LedgersWords.Accounts.{IsAccount, movement_of}
 use Rattle.explain_ledgers.specs.LedgersWords.KeptLedgers.{CanTake, empty_ledger, kept_after}
 use Rattle.explain_ledgers.specs.LedgersWords.Ledgers.{Along, ComesTo, Goes, IsLedger, along_after, along_at_start, begun, card_in, more}
 use Rattle.explain_ledgers.specs.LedgersWords.Entries.{ledger_after}
-use Rattle.explain_ledgers.specs.LedgersWords.Running.{HasCycle, IsKept, IsKeptLedger, Stands, along_of, asked_of}
+use Rattle.explain_ledgers.specs.LedgersWords.Running.{HasCycle, IsKept, IsKeptLedger, asked_of}
+use Rattle.explain_wheels.specs.RunsWords.{Ends, IsBegun, IsIn, along_of}
+use Rattle.explain_wheels.specs.declared.runs.DeckRun.{DeckRun}
 use Rattle.explain_ledgers.specs.LedgersWords.Summaries.{summary_after, summary_of}
 use Rattle.explain_ledgers.specs.declared.ledgers.entry.Entry.{Entry}
 use Rattle.explain_ledgers.specs.declared.ledgers.entry.Movement.{Movement}
 use Rattle.explain_ledgers.specs.declared.ledgers.kept.AskedLedger.{AskedLedger}
 use Rattle.explain_ledgers.specs.declared.ledgers.kept.KeptLedger.{KeptLedger}
+use Rattle.explain_wheels.proofs.RunsWords.DeckRuns.{StandsBehind, behind-more, behind-none}
 use Rattle.explain_ledgers.proofs.LedgersWords.Keeping.{left-out-few}
 use Rattle.explain_ledgers.proofs.LedgersWords.Loops.{All-unmap}
 use Rattle.explain_ledgers.proofs.LedgersWords.Places.{still-due}
@@ -36,12 +38,12 @@ pub record IsKeptTo (wiring : Wiring) (deck : List (List ℕ)) (ends : ℕ) (her
   pub is : IsLedger wiring deck kept.asked.account at entries
   pub told_is : kept.ledger ≡ summary_of kept.asked.account ends entries
 
--- A stepped machine in a run, and the ledgers that are kept up to there.
-pub record KeepsAll (wiring : Wiring) (deck : List (List ℕ)) (ends : ℕ) (asked : List AskedLedger) (card passed : ℕ) (stepped : Stepped)
-    (hopper : List (List ℕ)) (kept : List KeptLedger) : Type 0 where
-  pub stands : Stands wiring deck card passed stepped hopper
+-- A run, and the ledgers that are kept up to there.
+pub record KeepsAll (wiring : Wiring) (deck : List (List ℕ)) (ends : ℕ) (asked : List AskedLedger) (passed : ℕ) (run : DeckRun)
+    (kept : List KeptLedger) : Type 0 where
+  pub behind : StandsBehind wiring deck passed run
   pub same : map asked_of kept ≡ asked
-  pub each : All (IsKeptTo wiring deck ends (along_of card passed stepped hopper)) kept
+  pub each : All (IsKeptTo wiring deck ends (along_of run)) kept
 
 module _ (wiring : Wiring) (deck : List (List ℕ)) (ends : ℕ) where
   -- no entry yet
@@ -56,16 +58,15 @@ module _ (wiring : Wiring) (deck : List (List ℕ)) (ends : ℕ) where
     told_is = refl;
   }
 
-  pub keeps-begun : (asked : List AskedLedger) (stepped : Stepped) (hopper : List (List ℕ)) (kept : List KeptLedger)
-      → Stands wiring deck 0 0 stepped hopper → along_of 0 0 stepped hopper ≡ along_at_start wiring deck
-      → kept ≡ map (empty_ledger ends) asked → KeepsAll wiring deck ends asked 0 0 stepped hopper kept
-  keeps-begun asked stepped hopper kept stands at empty = record {
-    stands = stands;
+  pub keeps-begun : (asked : List AskedLedger) (run : DeckRun) (kept : List KeptLedger) → IsBegun wiring deck run
+      → kept ≡ map (empty_ledger ends) asked → KeepsAll wiring deck ends asked 0 run kept
+  keeps-begun asked run kept begins empty = record {
+    behind = behind-none wiring deck run begins;
     same = ap (map asked_of) empty ∙ map-map asked_of (empty_ledger ends) asked ∙ map-id asked;
     each =
-        All-same (IsKeptTo wiring deck ends (along_of 0 0 stepped hopper)) kept (map (empty_ledger ends) asked) empty
-        (All-map (IsKeptTo wiring deck ends (along_of 0 0 stepped hopper)) (empty_ledger ends) asked
-        (λ k d low. nothing-yet (along_of 0 0 stepped hopper) (get_or asked k d) at));
+        All-same (IsKeptTo wiring deck ends (along_of run)) kept (map (empty_ledger ends) asked) empty
+        (All-map (IsKeptTo wiring deck ends (along_of run)) (empty_ledger ends) asked
+        (λ k d low. nothing-yet (along_of run) (get_or asked k d) begins.start));
   }
 
   -- one cycle more
@@ -111,31 +112,30 @@ module _ (wiring : Wiring) (deck : List (List ℕ)) (ends : ℕ) where
             told_is = keeps.told_is;
           }
 
-  pub keeps-more : (asked : List AskedLedger) (stepped after : Stepped) (card passed next : ℕ) (hopper left : List (List ℕ)) (cycle : Cycle)
-      (behind : MachineState) (groups : List Counter) (old new : List KeptLedger)
-      → KeepsAll wiring deck ends asked card passed stepped hopper old
-      → Goes wiring cycle (along_of card passed stepped hopper) behind
-      → Stands wiring deck next (passed + 1) after left
-      → along_after cycle behind (along_of card passed stepped hopper) ≡ along_of next (passed + 1) after left
-      → next ≡ card_in cycle card → groups ≡ behind.groups
-      → new ≡ map (kept_after cycle next passed groups) old
-      → KeepsAll wiring deck ends asked next (passed + 1) after left new
-  keeps-more asked stepped after card passed next hopper left cycle behind groups old new keeps goes stands same numbered grouped taken =
-      record {
-        stands = stands;
-        same = ap (map asked_of) taken ∙ map-map asked_of (kept_after cycle next passed groups) old ∙ keeps.same;
-        each =
-            All-same (IsKeptTo wiring deck ends (along_of next (passed + 1) after left)) new
-            (map (kept_after cycle (card_in cycle card) passed behind.groups) old)
-            (taken
-            ∙ ap (λ (n : ℕ). map (kept_after cycle n passed groups) old) numbered
-            ∙ ap (λ (gs : List Counter). map (kept_after cycle (card_in cycle card) passed gs) old) grouped)
-            (All-map (IsKeptTo wiring deck ends (along_of next (passed + 1) after left))
-            (kept_after cycle (card_in cycle card) passed behind.groups) old
-            (λ k d low.
-            one-more (along_of card passed stepped hopper) (along_of next (passed + 1) after left) cycle behind (get_or old k d)
-            (keeps.each k d low) goes same));
-      }
+  pub keeps-more : (asked : List AskedLedger) (passed : ℕ) (cycle : Cycle) (run inside after : DeckRun) (groups : List Counter)
+      (old new : List KeptLedger)
+      → KeepsAll wiring deck ends asked passed run old
+      → IsIn wiring deck cycle (along_of run) inside
+      → Ends wiring deck cycle (along_of run) inside.machine.machine after
+      → groups ≡ inside.machine.machine.groups
+      → new ≡ map (kept_after cycle inside.card passed groups) old
+      → KeepsAll wiring deck ends asked (passed + 1) after new
+  keeps-more asked passed cycle run inside after groups old new keeps is left grouped taken = record {
+    behind = behind-more wiring deck cycle passed run inside after keeps.behind left;
+    same = ap (map asked_of) taken ∙ map-map asked_of (kept_after cycle inside.card passed groups) old ∙ keeps.same;
+    each =
+        All-same (IsKeptTo wiring deck ends (along_of after)) new
+        (map (kept_after cycle (card_in cycle run.card) run.begun inside.machine.machine.groups) old)
+        (taken
+        ∙ ap (λ (n : ℕ). map (kept_after cycle n passed groups) old) is.card
+        ∙ ap (λ (n : ℕ). map (kept_after cycle (card_in cycle run.card) n groups) old) (sym keeps.behind.counted)
+        ∙ ap (λ (gs : List Counter). map (kept_after cycle (card_in cycle run.card) run.begun gs) old) grouped)
+        (All-map (IsKeptTo wiring deck ends (along_of after))
+        (kept_after cycle (card_in cycle run.card) run.begun inside.machine.machine.groups) old
+        (λ k d low.
+        one-more (along_of run) (along_of after) cycle inside.machine.machine (get_or old k d) (keeps.each k d low) is.goes
+        left.along));
+  }
 
   -- each can take a cycle
   within : (here : Along) (kept : KeptLedger) (keeps : IsKeptTo wiring deck ends here kept) → keeps.at.passed ≤ here.passed
@@ -159,27 +159,28 @@ module _ (wiring : Wiring) (deck : List (List ℕ)) (ends : ℕ) where
         let here_at = within here kept keeps in omega (arith, less, here_at, few);
   }
 
-  pub all-can : (asked : List AskedLedger) (card passed : ℕ) (stepped : Stepped) (hopper : List (List ℕ)) (kept : List KeptLedger)
-      → KeepsAll wiring deck ends asked card passed stepped hopper kept → All (λ (one : AskedLedger). IsAccount one.account) asked
-      → passed + 1 < 2 ^ 64 → All CanTake kept
-  all-can asked card passed stepped hopper kept keeps accounts few = λ k d low.
-      can-take (along_of card passed stepped hopper) (get_or kept k d) (keeps.each k d low)
+  pub all-can : (asked : List AskedLedger) (passed : ℕ) (run : DeckRun) (kept : List KeptLedger)
+      → KeepsAll wiring deck ends asked passed run kept → All (λ (one : AskedLedger). IsAccount one.account) asked
+      → run.begun + 1 < 2 ^ 64 → All CanTake kept
+  all-can asked passed run kept keeps accounts few = λ k d low.
+      can-take (along_of run) (get_or kept k d) (keeps.each k d low)
       (All-unmap (λ (one : AskedLedger). IsAccount one.account) asked_of kept
       (subst (All (λ (one : AskedLedger). IsAccount one.account)) (sym keeps.same) accounts) k d low)
       few
 
   -- each is told, once its cycles are over
-  pub all-kept : (asked : List AskedLedger) (card passed : ℕ) (stepped : Stepped) (hopper : List (List ℕ)) (kept : List KeptLedger)
-      → KeepsAll wiring deck ends asked card passed stepped hopper kept → All (λ (one : AskedLedger). one.passed ≤ passed) asked
+  pub all-kept : (asked : List AskedLedger) (passed : ℕ) (run : DeckRun) (kept : List KeptLedger)
+      → KeepsAll wiring deck ends asked passed run kept → All (λ (one : AskedLedger). one.passed ≤ passed) asked
       → All (IsKept wiring deck ends) kept
-  all-kept asked card passed stepped hopper kept keeps past = λ k d low.
+  all-kept asked passed run kept keeps past = λ k d low.
       let one = keeps.each k d low in
       record {
         along = one.at;
         counted =
             one.over
+            (subst (λ (n : ℕ). (get_or kept k d).asked.passed ≤ n) (sym keeps.behind.counted)
             (All-unmap (λ (one : AskedLedger). one.passed ≤ passed) asked_of kept
-            (subst (All (λ (one : AskedLedger). one.passed ≤ passed)) (sym keeps.same) past) k d low);
+            (subst (All (λ (one : AskedLedger). one.passed ≤ passed)) (sym keeps.same) past) k d low));
         entries = one.entries;
         is = one.is;
         told_is = one.told_is;

@@ -1,31 +1,36 @@
 -- Lines that are sought along a run.
-use Rattle.std.proofs.Common.{◌≡◌, ◌∙◌, sym, ap, subst, refl, ℕ, ◌+◌, Bool, true, false, List, [], ◌∷◌, ◌++◌, ◌<◌, Option, Some, None, length, map, take, drop, get_or, arith, if◌then◌else◌, is_some, ◌&&◌, eqb}
+use Rattle.std.proofs.Common.{◌≡◌, ◌∙◌, sym, ap, subst, refl, ℕ, Bool, true, false, List, [], ◌∷◌, ◌++◌, ◌<◌, Option, Some, None, length, map, take, drop, get_or, arith, if◌then◌else◌, is_some, ◌&&◌, eqb}
 use Rattle.std.proofs.lemmas.Bool.{false≢true}
 use Rattle.std.proofs.lemmas.Bool.Decides.{nat_tests}
-use Rattle.std.proofs.lemmas.List.Elements.{All-cons, All-map, All-nil, All-same}
+use Rattle.std.proofs.lemmas.List.Elements.{All-append, All-cons, All-map, All-nil, All-same}
 use Rattle.std.proofs.lemmas.List.{get_or-map, length-map}
 use Rattle.std.proofs.lemmas.Simd.{map-map}
 use Rattle.std.specs.List.{All}
 use Rattle.std.specs.Option.{IfSome, option_to_list}
 use Rattle.explain_wheels.specs.ExplanationsWords.PlacedInRun.{PrintsNoneAt}
-use Rattle.machine.specs.Cycles.{Reached, line_of}
+use Rattle.machine.specs.Cycles.{CycleRun, line_of}
 use Rattle.machine.specs.Kept.{IsElsewhere}
-use Rattle.machine.specs.Machine.{ended}
-use Rattle.machine.specs.Runs.{cards_moved, cycle_due, made_ready}
-use Rattle.machine.specs.Stepped.{IsUnbegun, Stepped}
-use Rattle.net.specs.Nets.{IsNetOf}
+use Rattle.machine.specs.Runs.{RunsBy, cycle_due}
 use Rattle.net.specs.declared.cycle.Cycle.{Cycle}
 use Rattle.page_text.specs.declared.placed_lines.placed_line.PlacedLine.{PlacedLine}
 use Rattle.hubs.specs.SetupsWords.Wiring.{Wiring}
-use Rattle.explain_ledgers.specs.LedgersWords.Ledgers.{Along, card_in}
-use Rattle.explain_ledgers.specs.LedgersWords.Running.{IsFoundAt, IsPast, IsSought, PlacesAt, PlacesLine, Stands, along_of, sought_at}
+use Rattle.explain_wheels.specs.RunsWords.{Ends, IsBegun, IsBetween, IsIn, along_of}
+use Rattle.explain_wheels.specs.declared.runs.DeckRun.{DeckRun}
+use Rattle.explain_ledgers.specs.LedgersWords.Ledgers.{Along}
+use Rattle.explain_ledgers.specs.LedgersWords.Running.{IsFoundAt, IsSought, PlacesAt, PlacesLine, sought_at}
 use Rattle.explain_ledgers.specs.LedgersWords.SoughtLines.{IsUnfound, found_after, found_at, found_of, is_found, noted}
 use Rattle.explain_ledgers.specs.declared.ledgers.found.EndedCycle.{EndedCycle}
 use Rattle.explain_ledgers.specs.declared.ledgers.found.FoundCycle.{FoundCycle}
 use Rattle.explain_ledgers.specs.declared.ledgers.found.LinePlace.{LinePlace}
 use Rattle.explain_ledgers.specs.declared.ledgers.found.SoughtLine.{SoughtLine}
+use Rattle.explain_wheels.proofs.RunsWords.DeckRuns.{cycle-in}
 use Rattle.explain_ledgers.proofs.LedgersWords.Loops.{written-back}
-use Rattle.explain_ledgers.proofs.LedgersWords.Running.{past-begun, past-more, past-over, places-here, stands-begun, stands-more}
+
+-- no line of the cycles so far stands at a page and a line of it
+abbrev pub IsPast : Wiring → List (List ℕ) → ℕ → ℕ → Along → Type 0
+IsPast wiring deck page line along =
+    (cycles : List Cycle) (lines : List PlacedLine)
+    → RunsBy (CycleRun wiring) cycles along.run lines → All (IsElsewhere page line) lines → PrintsNoneAt wiring deck page line
 
 -- What is found at a place up to a place of the run: the cycle that placed a line there, or that none did so far.
 abbrev pub IsFoundTo : Wiring → List (List ℕ) → Along → LinePlace → Option FoundCycle → Type 0
@@ -35,89 +40,106 @@ IsFoundTo wiring deck along at None = IsPast wiring deck at.page at.line along
 abbrev pub IsSoughtTo : Wiring → List (List ℕ) → Along → SoughtLine → Type 0
 IsSoughtTo wiring deck along sought = IsFoundTo wiring deck along sought.at sought.found
 
--- A stepped machine in a run, and the lines that are sought up to there.
-pub record Seeks (wiring : Wiring) (deck : List (List ℕ)) (places : List LinePlace) (card passed : ℕ) (stepped : Stepped)
-    (hopper : List (List ℕ)) (sought : List SoughtLine) : Type 0 where
-  pub stands : Stands wiring deck card passed stepped hopper
+-- A run, and the lines that are sought up to there.
+pub record Seeks (wiring : Wiring) (deck : List (List ℕ)) (places : List LinePlace) (run : DeckRun) (sought : List SoughtLine) : Type 0 where
+  pub between : IsBetween wiring deck run
   pub same : map sought_at sought ≡ places
-  pub each : All (IsSoughtTo wiring deck (along_of card passed stepped hopper)) sought
+  pub each : All (IsSoughtTo wiring deck (along_of run)) sought
+
+-- no line stands anywhere before any cycle
+past-begun : (wiring : Wiring) (deck : List (List ℕ)) (page line : ℕ) (run : DeckRun) → IsBegun wiring deck run
+    → IsPast wiring deck page line (along_of run)
+past-begun wiring deck page line run begins =
+    subst (IsPast wiring deck page line) (sym begins.start)
+    (λ cycles lines runs elsewhere. record { lines = lines; run = (cycles, runs); elsewhere = elsewhere })
+
+-- no cycle is due any more
+past-over : (wiring : Wiring) (deck : List (List ℕ)) (page line : ℕ) (along : Along) → IsPast wiring deck page line along
+    → cycle_due along.run.machine ≡ None → PrintsNoneAt wiring deck page line
+unfolding RunsBy
+past-over wiring deck page line along past over = past [] [] (over, refl) (All-nil (IsElsewhere page line))
 
 -- nothing is found before any cycle
-pub seeks-begun : (wiring : Wiring) (deck : List (List ℕ)) (unbegun loaded : Stepped) (hopper : List (List ℕ)) (sought : List SoughtLine)
-    → IsUnbegun wiring unbegun → (along_of 0 0 loaded hopper).run ≡ cards_moved unbegun.machine deck → loaded.net ≡ unbegun.net
-    → All IsUnfound sought → Seeks wiring deck (map sought_at sought) 0 0 loaded hopper sought
-seeks-begun wiring deck unbegun loaded hopper sought start moved net none = record {
-  stands = stands-begun wiring deck unbegun loaded hopper start moved net;
+pub seeks-begun : (wiring : Wiring) (deck : List (List ℕ)) (run : DeckRun) (sought : List SoughtLine) → IsBegun wiring deck run
+    → All IsUnfound sought → Seeks wiring deck (map sought_at sought) run sought
+seeks-begun wiring deck run sought begins none = record {
+  between = begins.between;
   same = refl;
   each = λ k d low.
       let one : SoughtLine = get_or sought k d in
-      subst (IsFoundTo wiring deck (along_of 0 0 loaded hopper) one.at) (sym (none k d low))
-      (past-begun wiring deck one.at.page one.at.line unbegun loaded hopper start moved);
+      subst (IsFoundTo wiring deck (along_of run) one.at) (sym (none k d low))
+      (past-begun wiring deck one.at.page one.at.line run begins);
 }
 
 -- one cycle more
-module _ (wiring : Wiring) (deck : List (List ℕ)) (stepped made behind after : Stepped) (card passed : ℕ) (hopper left : List (List ℕ))
-    (cycle : Cycle) (stands : Stands wiring deck card passed stepped hopper)
-    (due : cycle_due stepped.machine ≡ Some cycle)
-    (is_made : (along_of 0 0 made left).run ≡ made_ready cycle (along_of 0 0 stepped hopper).run) (made_net : made.net ≡ stepped.net)
-    (reached : (w : Wiring) → IsNetOf w made.net → Reached w cycle 14 made.machine behind.machine)
-    (next : ℕ) (numbered : next ≡ card_in cycle card) (is_after : after.machine ≡ ended behind.machine cycle)
+module _ (wiring : Wiring) (deck : List (List ℕ)) (cycle : Cycle) (run inside after : DeckRun)
+    (is : IsIn wiring deck cycle (along_of run) inside)
+    (behind : Ends wiring deck cycle (along_of run) inside.machine.machine after)
   where
-    abbrev here : Along
-    here = along_of card passed stepped hopper
-
-    abbrev there : Along
-    there = along_of next (passed + 1) after left
-
     abbrev over : Option PlacedLine → EndedCycle
-    over placed = record { passed = passed; cycle = cycle; card = next; placed = placed }
+    over placed = record { passed = run.begun; cycle = cycle; card = after.card; placed = placed }
+
+    places-here : (line : PlacedLine) → line_of after.machine.machine ≡ line ∷ []
+        → PlacesLine wiring deck (record { passed = run.begun; cycle = cycle; card = after.card; line = line })
+    places-here line placed = record {
+      has = cycle-in wiring deck cycle (along_of run) inside is;
+      cycle = refl;
+      card = sym (ap (λ (a : Along). a.card) behind.along);
+      placed = ap (λ (a : Along). line_of a.run.machine) behind.along ∙ placed;
+    }
 
     -- the cycle placed no line at a place
-    goes-past : (at : LinePlace) → IsPast wiring deck at.page at.line here → All (IsElsewhere at.page at.line) (line_of after.machine)
-        → IsPast wiring deck at.page at.line there
-    goes-past at past elsewhere =
-        past-more wiring deck stepped made behind after card passed hopper left cycle stands due is_made made_net reached at.page at.line
-        past is_after elsewhere next
+    goes-past : (at : LinePlace) → IsPast wiring deck at.page at.line (along_of run)
+        → All (IsElsewhere at.page at.line) (line_of after.machine.machine) → IsPast wiring deck at.page at.line (along_of after)
+    unfolding RunsBy
+    goes-past at past elsewhere = λ cycles lines runs others.
+        past (cycle ∷ cycles) (line_of after.machine.machine ++ lines) (
+          after.machine.machine,
+          lines,
+          is.goes.due,
+          record { at_end = inside.machine.machine; reached = is.goes.reached; is_new = sym (ap (λ (a : Along). a.run.machine) behind.along) },
+          subst (λ (h : List (List ℕ)). RunsBy (CycleRun wiring) cycles (record { machine = after.machine.machine; hopper = h }) lines)
+              (sym (ap (λ (a : Along). a.run.hopper) behind.along)) runs,
+          refl,
+        )
+        (All-append (IsElsewhere at.page at.line) (line_of after.machine.machine) lines elsewhere others)
 
-    one-more : (at : LinePlace) (found : Option FoundCycle) (placed : Option PlacedLine) → option_to_list placed ≡ line_of after.machine
-        → IsFoundTo wiring deck here at found → IsFoundTo wiring deck there at (found_after (over placed) at found)
-    one-more at (Some found) placed lines is = is
+    one-more : (at : LinePlace) (found : Option FoundCycle) (placed : Option PlacedLine)
+        → option_to_list placed ≡ line_of after.machine.machine
+        → IsFoundTo wiring deck (along_of run) at found
+        → IsFoundTo wiring deck (along_of after) at (found_after (over placed) at found)
+    one-more at (Some found) placed lines found_is = found_is
     one-more at None None lines past =
         goes-past at past
         (subst (λ (l : List PlacedLine). All (IsElsewhere at.page at.line) l) lines (All-nil (IsElsewhere at.page at.line)))
     one-more at None (Some line) lines past = by (eqb line.page at.page) (eqb line.line at.line) refl refl
       where
-        else-where : (IsElsewhere at.page at.line line) → IsPast wiring deck at.page at.line there
+        else-where : (IsElsewhere at.page at.line line) → IsPast wiring deck at.page at.line (along_of after)
         else-where other =
             goes-past at past
             (subst (λ (l : List PlacedLine). All (IsElsewhere at.page at.line) l) lines
             (All-cons (IsElsewhere at.page at.line) line [] other (All-nil (IsElsewhere at.page at.line))))
 
         by : (b d : Bool) → eqb line.page at.page ≡ b → eqb line.line at.line ≡ d
-            → IsFoundTo wiring deck there at (if b && d then Some (found_of (over (Some line)) line) else None)
+            → IsFoundTo wiring deck (along_of after) at (if b && d then Some (found_of (over (Some line)) line) else None)
         by true true same_page same_line = record {
-          places =
-              places-here wiring deck stepped made behind after card passed hopper left cycle stands due is_made made_net reached next line
-              numbered is_after (sym lines);
+          places = places-here line (sym lines);
           at_page = grind (arith, nat_tests, same_page);
           at_line = grind (arith, nat_tests, same_line);
         }
-        by true false same_page same_line = else-where (λ both. let is = both.1 in grind (arith, nat_tests, same_line, is))
-        by false true same_page same_line = else-where (λ both. let is = both.0 in grind (arith, nat_tests, same_page, is))
-        by false false same_page same_line = else-where (λ both. let is = both.0 in grind (arith, nat_tests, same_page, is))
+        by true false same_page same_line = else-where (λ both. let there = both.1 in grind (arith, nat_tests, same_line, there))
+        by false true same_page same_line = else-where (λ both. let there = both.0 in grind (arith, nat_tests, same_page, there))
+        by false false same_page same_line = else-where (λ both. let there = both.0 in grind (arith, nat_tests, same_page, there))
 
     pub seeks-more : (places : List LinePlace) (old new : List SoughtLine) (placed : Option PlacedLine)
-        → Seeks wiring deck places card passed stepped hopper old → behind.net ≡ made.net → after.net ≡ behind.net
-        → option_to_list placed ≡ line_of after.machine → new ≡ map (noted (over placed)) old
-        → Seeks wiring deck places next (passed + 1) after left new
-    seeks-more places old new placed seeks behind_net after_net lines told = record {
-      stands =
-          stands-more wiring deck stepped made behind after card passed hopper left cycle stands due is_made made_net reached next numbered
-          is_after behind_net after_net;
+        → Seeks wiring deck places run old → option_to_list placed ≡ line_of after.machine.machine
+        → new ≡ map (noted (over placed)) old → Seeks wiring deck places after new
+    seeks-more places old new placed seeks lines told = record {
+      between = behind.between;
       same = ap (map sought_at) told ∙ map-map sought_at (noted (over placed)) old ∙ seeks.same;
       each =
-          All-same (IsSoughtTo wiring deck there) new (map (noted (over placed)) old) told
-          (All-map (IsSoughtTo wiring deck there) (noted (over placed)) old
+          All-same (IsSoughtTo wiring deck (along_of after)) new (map (noted (over placed)) old) told
+          (All-map (IsSoughtTo wiring deck (along_of after)) (noted (over placed)) old
           (λ k d low.
           let one : SoughtLine = get_or old k d in one-more one.at one.found placed lines (seeks.each k d low)));
     }

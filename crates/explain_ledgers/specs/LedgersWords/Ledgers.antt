@@ -1,15 +1,13 @@
 -- The ledger of an account in a run of the machine over a deck: the cycles since its number last stood cleared, or since the start, in
 -- which something came to it.
-use Rattle.std.specs.Prelude.{◌≡◌, ℕ, ◌+◌, ◌-◌, ◌*◌, ◌^◌, ◌<◌, Bool, List, [], ◌∷◌, Some, All, sum_by}
+use Rattle.std.specs.Prelude.{◌≡◌, ℕ, ◌+◌, ◌-◌, ◌*◌, ◌^◌, ◌<◌, Bool, List, [], ◌∷◌, All, sum_by}
 use Rattle.counters.specs.Counters.{Counter, width_of}
 use Rattle.counters.specs.Laws.{carry_number}
 use Rattle.counters.specs.Numbers.{number}
 use Rattle.hubs.specs.SetupsWords.Wiring.{Wiring}
 use Rattle.net.specs.declared.cycle.Cycle.{Cycle}
-use Rattle.net.specs.declared.cycle.Cycle.TheVariants.{Card}
-use Rattle.machine.specs.Cycles.{Reached}
-use Rattle.machine.specs.Machine.{MachineState, ended}
-use Rattle.machine.specs.Runs.{InRun, cycle_due, made_ready, run_at_start}
+use Rattle.machine.specs.Machine.{MachineState}
+pub use Rattle.explain_wheels.specs.RunsWords.{Along, ComesTo, Goes, along_after, along_at_start, at_start, card_in, on, ready}
 use Rattle.explain_ledgers.specs.LedgersWords.Accounts.{counter_at, movement_of}
 use Rattle.explain_ledgers.specs.LedgersWords.Entries.{ledger_after}
 use Rattle.explain_ledgers.specs.declared.ledgers.account.Account.{Account}
@@ -17,45 +15,6 @@ use Rattle.explain_ledgers.specs.declared.ledgers.account.Account.TheVariants.{O
 use Rattle.explain_ledgers.specs.declared.ledgers.entry.Change.{Change}
 use Rattle.explain_ledgers.specs.declared.ledgers.entry.Change.TheVariants.{Plus, Minus, Turned, Carry, Apart}
 use Rattle.explain_ledgers.specs.declared.ledgers.entry.Entry.{Entry}
-
--- A run over a deck between two of its cycles: how many cards were read, how many cycles are over, and the machine with its hopper.
-pub record Along : Type 0 where
-  pub card : ℕ
-  pub passed : ℕ
-  pub run : InRun
-
--- before any cycle
-abbrev pub along_at_start : Wiring → List (List ℕ) → Along
-along_at_start wiring deck = record { card = 0; passed = 0; run = run_at_start wiring deck }
-
--- a card cycle reads the next card
-abbrev pub card_in : Cycle → ℕ → ℕ
-card_in Card card = card + 1
-card_in cycle card = card
-
--- the machine of a cycle, with its cards where they stand in it
-abbrev pub ready : Cycle → Along → MachineState
-ready cycle along = (made_ready cycle along.run).machine
-
--- behind a cycle, by the machine behind its points
-abbrev pub along_after : Cycle → MachineState → Along → Along
-along_after cycle behind along = record {
-  card = card_in cycle along.card;
-  passed = along.passed + 1;
-  run = record { machine = ended behind cycle; hopper = (made_ready cycle along.run).hopper };
-}
-
--- One cycle of a run: it is due, and its fourteen points lead to the machine behind them.
-pub record Goes (wiring : Wiring) (cycle : Cycle) (along : Along) (behind : MachineState) : Type 0 where
-  pub due : cycle_due along.run.machine ≡ Some cycle
-  pub reached : Reached wiring cycle 14 (ready cycle along) behind
-
--- A run over a deck comes to a place between two of its cycles: to the start, and from a place to that behind the cycle that is due there.
-pub data ComesTo (wiring : Wiring) (deck : List (List ℕ)) : Along → Type 0 where
-  at_start : ComesTo wiring deck (along_at_start wiring deck)
-  on :
-      (cycle : Cycle) (along : Along) (behind : MachineState) → ComesTo wiring deck along → Goes wiring cycle along behind
-      → ComesTo wiring deck (along_after cycle behind along)
 
 -- a counter group of a machine by its place; unit 3 has place 0
 abbrev pub group_at : MachineState → ℕ → Counter

@@ -1,16 +1,11 @@
 -- The cycles of a run by how many are over before them, and what is kept of the ledger of an account there.
-use Rattle.std.specs.Prelude.{◌≡◌, ℕ, ◌≤◌, List, [], ◌∷◌, All, Option, Some, None}
+use Rattle.std.specs.Prelude.{◌≡◌, ℕ, List, [], ◌∷◌, Option, Some, None}
 use Rattle.explain_wheels.specs.ExplanationsWords.PlacedInRun.{PrintsNoneAt}
-use Rattle.machine.specs.Cycles.{CycleRun, line_of}
-use Rattle.machine.specs.Kept.{IsElsewhere}
-use Rattle.machine.specs.Machine.{MachineState, ended}
-use Rattle.machine.specs.Runs.{RunsBy}
-use Rattle.machine.specs.Stepped.{Stepped}
-use Rattle.net.specs.Nets.{IsNetOf}
-use Rattle.net.specs.declared.cycle.Cycle.{Cycle}
-use Rattle.page_text.specs.declared.placed_lines.placed_line.PlacedLine.{PlacedLine}
+use Rattle.machine.specs.Cycles.{line_of}
+use Rattle.machine.specs.Machine.{ended}
 use Rattle.hubs.specs.SetupsWords.Wiring.{Wiring}
-use Rattle.explain_ledgers.specs.LedgersWords.Ledgers.{Along, ComesTo, Goes, IsLedger, card_in}
+pub use Rattle.explain_wheels.specs.RunsWords.{HasCycle}
+use Rattle.explain_ledgers.specs.LedgersWords.Ledgers.{Along, IsLedger, card_in}
 use Rattle.explain_ledgers.specs.LedgersWords.Summaries.{Summary, summary_of}
 use Rattle.explain_ledgers.specs.declared.ledgers.account.Account.{Account}
 use Rattle.explain_ledgers.specs.declared.ledgers.entry.Entry.{Entry}
@@ -19,15 +14,6 @@ use Rattle.explain_ledgers.specs.declared.ledgers.found.LinePlace.{LinePlace}
 use Rattle.explain_ledgers.specs.declared.ledgers.found.SoughtLine.{SoughtLine}
 use Rattle.explain_ledgers.specs.declared.ledgers.kept.AskedLedger.{AskedLedger}
 use Rattle.explain_ledgers.specs.declared.ledgers.kept.KeptLedger.{KeptLedger}
-
--- A run has a cycle behind so many others.
-pub record HasCycle (wiring : Wiring) (deck : List (List ℕ)) (passed : ℕ) : Type 0 where
-  pub along : Along
-  pub comes : ComesTo wiring deck along
-  pub counted : along.passed ≡ passed
-  pub cycle : Cycle
-  pub behind : MachineState
-  pub goes : Goes wiring cycle along behind
 
 -- A cycle of a run placed a line: it is the one behind so many others, and so many cards were read then.
 pub record PlacesLine (wiring : Wiring) (deck : List (List ℕ)) (found : FoundCycle) : Type 0 where
@@ -69,20 +55,3 @@ asked_of kept = kept.asked
 -- a ledger is the one that was asked for
 abbrev pub IsKept : Wiring → List (List ℕ) → (ends : ℕ) → KeptLedger → Type 0
 IsKept wiring deck ends kept = IsKeptLedger wiring deck kept.asked.passed ends kept.asked.account kept.ledger
-
--- Helper words of the code: a stepped machine as it stands in a run. So many cards were read, so many cycles are over, and these cards are
--- in the hopper.
-abbrev pub along_of : ℕ → ℕ → Stepped → List (List ℕ) → Along
-along_of card passed stepped hopper = record { card = card; passed = passed; run = record { machine = stepped.machine; hopper = hopper } }
-
--- a stepped machine in a run
-pub record Stands (wiring : Wiring) (deck : List (List ℕ)) (card passed : ℕ) (stepped : Stepped) (hopper : List (List ℕ)) : Type 0 where
-  pub net : IsNetOf wiring stepped.net
-  pub few : card ≤ passed
-  pub comes : ComesTo wiring deck (along_of card passed stepped hopper)
-
--- no line of the cycles so far stands at a page and a line of it
-abbrev pub IsPast : Wiring → List (List ℕ) → ℕ → ℕ → Along → Type 0
-IsPast wiring deck page line along =
-    (cycles : List Cycle) (lines : List PlacedLine)
-    → RunsBy (CycleRun wiring) cycles along.run lines → All (IsElsewhere page line) lines → PrintsNoneAt wiring deck page line

@@ -6,10 +6,9 @@ ghost use Rattle.explain_wheels.specs.ExplanationsWords.PlacedInRun.{PrintsNoneA
 ghost use Rattle.explain_ledgers.specs.LedgersWords.Running.{IsSought, PlacesLine, sought_at};
 ghost use Rattle.explain_ledgers.specs.LedgersWords.SoughtLines.{IsUnfound, found_at, is_found, noted, unfound};
 
-use crate::ledgers::run::{card_in, make_ready, move_on};
 use card_code::Card;
+use explain_wheels::runs::DeckRun;
 use hubs::setups::Setup;
-use machine::SteppedMachine;
 use net::Cycle;
 use page_text::placed_lines::PlacedLine;
 use std::alloc::{AllocError, Global};
@@ -150,26 +149,20 @@ fn seek(
     ensures places { OnOk result (map sought_at sought.new ≡ map sought_at sought.old) }
     ensures found { OnOk result (All (IsSought setup.now cards.now) sought.new) }
 {
-    let mut machine = SteppedMachine::new(alloc, setup)?;
-    let mut hopper = move_on(&mut machine, cards);
-    let mut card = 0;
-    let mut passed = 0;
-    while let Some(cycle) = machine.cycle_due() {
-        if are_found(sought) {
+    let mut run = DeckRun::begin(alloc, setup, cards)?;
+    while !are_found(sought) {
+        let passed = run.begun;
+        let Some(cycle) = run.enter(setup, cards) else {
             return Ok(());
-        }
-        hopper = make_ready(&mut machine, cycle, hopper);
-        card = card_in(cycle, card);
-        machine.run_points(cycle);
-        machine.end_cycle(cycle);
+        };
+        run.leave(cycle);
         let one = EndedCycle {
             passed,
             cycle,
-            card,
-            placed: machine.line(),
+            card: run.card,
+            placed: run.machine.line(),
         };
         note_all(sought, &one);
-        passed += 1;
     }
     Ok(())
 }

@@ -9,13 +9,11 @@ ghost use Rattle.explain_ledgers.specs.LedgersWords.Running.{HasCycle, IsKept, I
 ghost use Rattle.explain_ledgers.specs.declared.ledgers.kept.AskedLedger.{AskedLedger};
 
 use crate::ledgers::account::Account;
-use crate::ledgers::in_cycle::next_cycle;
 use crate::ledgers::ledger::Ledger;
-use crate::ledgers::run::{card_in, make_ready, move_on};
 use card_code::Card;
 use counters::Group;
+use explain_wheels::runs::DeckRun;
 use hubs::setups::Setup;
-use machine::SteppedMachine;
 use net::Cycle;
 use std::alloc::{AllocError, Global};
 
@@ -152,18 +150,13 @@ pub fn ledgers_before(
     ensures asked { IfOk result (λ kept. map asked_of kept.items ≡ asked.now) }
     ensures kept { IfOk result (λ kept. All (IsKept setup.now cards.now ends) kept.items) }
 {
-    let mut machine = SteppedMachine::new(alloc, setup)?;
+    let mut run = DeckRun::begin(alloc, setup, cards)?;
     let mut kept = empty_ledgers(alloc, asked, ends)?;
-    let mut hopper = move_on(&mut machine, cards);
-    let mut card = 0;
     let last = last_of(asked);
     for passed in 0..last {
-        let cycle = next_cycle(&machine);
-        hopper = make_ready(&mut machine, cycle, hopper);
-        card = card_in(cycle, card);
-        machine.run_points(cycle);
-        take_all(&mut kept, cycle, card, passed, machine.groups())?;
-        machine.end_cycle(cycle);
+        let cycle = run.enter_due(setup, cards);
+        take_all(&mut kept, cycle, run.card, passed, run.machine.groups())?;
+        run.leave(cycle);
     }
     Ok(kept)
 }

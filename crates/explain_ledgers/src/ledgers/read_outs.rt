@@ -5,12 +5,10 @@ ghost use Rattle.card_code.specs.MostCards.{most_cards};
 ghost use Rattle.explain_ledgers.specs.LedgersWords.CycleReadOuts.{TellReadOuts, read_outs_of};
 ghost use Rattle.explain_ledgers.specs.LedgersWords.Running.{HasCycle};
 
-use crate::ledgers::in_cycle::next_cycle;
-use crate::ledgers::run::{make_ready, move_on};
 use card_code::Card;
 use counters::Group;
+use explain_wheels::runs::DeckRun;
 use hubs::setups::Setup;
-use machine::SteppedMachine;
 use std::alloc::{AllocError, Global};
 
 /// Which counter groups are read out in a cycle.
@@ -45,15 +43,12 @@ pub fn read_outs_before(
     ensures all { IfOk result (λ all. length all.items ≡ count) }
     ensures told { IfOk result (λ all. TellReadOuts setup.now cards.now all.items) }
 {
-    let mut machine = SteppedMachine::new(alloc, setup)?;
-    let mut hopper = move_on(&mut machine, cards);
+    let mut run = DeckRun::begin(alloc, setup, cards)?;
     let mut all = Vec::new(alloc);
     for _passed in 0..count {
-        let cycle = next_cycle(&machine);
-        hopper = make_ready(&mut machine, cycle, hopper);
-        machine.run_points(cycle);
-        all.push(read_outs_of(machine.groups()))?;
-        machine.end_cycle(cycle);
+        let cycle = run.enter_due(setup, cards);
+        all.push(read_outs_of(run.machine.groups()))?;
+        run.leave(cycle);
     }
     Ok(all)
 }

@@ -2,23 +2,24 @@
 
 ghost use Rattle.std.specs.Prelude.{◌≡◌, ◌≤◌, ◌++◌, ℕ, All, IfOk, length, option_map};
 ghost use Rattle.card_code.specs.MostCards.{most_cards};
-ghost use Rattle.explain_ledgers.specs.CycleWays.Points.{ArePointsOf, Follows};
+ghost use Rattle.explain_ledgers.specs.CycleWays.Points.{ArePointsOf};
 ghost use Rattle.explain_ledgers.specs.LedgersWords.Accounts.{IsAccount};
 ghost use Rattle.explain_ledgers.specs.LedgersWords.LedgerText.Entries.{entry_line, gap_lines};
 ghost use Rattle.explain_ledgers.specs.LedgersWords.LedgerText.Tellings.{heading_line};
 ghost use Rattle.explain_ledgers.specs.LedgersWords.LedgerText.Titles.{words_of};
 ghost use Rattle.explain_ledgers.specs.LedgersWords.Running.{HasCycle};
+ghost use Rattle.explain_wheels.specs.RunsWords.{IsBetween};
 ghost use Rattle.explain_wheel_ledgers.specs.LedgerHoles.Down.{AreEntered, AreEntriesDown, IsEntryDown, IsLedgerDown};
 
 use crate::ledger_holes::controls::account_lines;
 use crate::ledger_holes::digits::digit_lines;
 use crate::texts::put_together;
 use card_code::Card;
-use explain_ledgers::cycle_ways::FollowedRun;
 use explain_ledgers::ledgers::ledger_text::{
     Title, positions_of, write_entry, write_gaps, write_heading,
 };
 use explain_ledgers::ledgers::{Account, Change, Entry, Ledger, LeftOut};
+use explain_wheels::runs::DeckRun;
 use hubs::setups::Setup;
 use machine::KeptPoint;
 use net::Cycle;
@@ -98,17 +99,17 @@ fn entry_down<'a>(
     alloc: Global,
     setup: &Setup,
     cards: &'a [Card],
-    run: &mut FollowedRun<'a>,
+    run: &mut DeckRun<'a>,
     title: &Option<Title>,
     account: Account,
     entry: &Entry,
 ) -> Result<Vec<u8>, AllocError>
     requires few { length cards.now ≤ most_cards }
     requires account { IsAccount account }
-    requires follows { Follows setup.now cards.now run.old }
+    requires between { IsBetween setup.now cards.now run.old }
     requires has { HasCycle setup.now cards.now entry.now.passed }
     ensures told { IfOk result (λ text. IsEntryDown setup.now cards.now (option_map words_of title.now) account entry.now text.items) }
-    ensures follows { Follows setup.now cards.now run.new }
+    ensures between { IsBetween setup.now cards.now run.new }
 {
     let points = run.cycle_behind(alloc, setup, cards, entry.passed)?;
     entry_by(alloc, setup, cards, &points, title, account, entry)
@@ -119,17 +120,17 @@ fn entries_down<'a>(
     alloc: Global,
     setup: &Setup,
     cards: &'a [Card],
-    run: &mut FollowedRun<'a>,
+    run: &mut DeckRun<'a>,
     title: &Option<Title>,
     account: Account,
     entries: &[Entry],
 ) -> Result<Vec<u8>, AllocError>
     requires few { length cards.now ≤ most_cards }
     requires account { IsAccount account }
-    requires follows { Follows setup.now cards.now run.old }
+    requires between { IsBetween setup.now cards.now run.old }
     requires has { All (λ entry. HasCycle setup.now cards.now entry.passed) entries.now }
     ensures told { IfOk result (λ text. AreEntriesDown setup.now cards.now (option_map words_of title.now) account entries.now text.items) }
-    ensures follows { Follows setup.now cards.now run.new }
+    ensures between { IsBetween setup.now cards.now run.new }
 {
     let mut text = Vec::new(alloc);
     for entry in entries {
@@ -182,7 +183,7 @@ pub fn tell_ledger_down(
         IsLedgerDown setup.now cards.now ledger.now cycle card (option_map words_of title.now) text.items) }
 {
     let account = ledger.account();
-    let mut run = FollowedRun::begin(alloc, setup, cards)?;
+    let mut run = DeckRun::begin(alloc, setup, cards)?;
     let heading = heading(alloc, account, cycle, card)?;
     let first = entries_down(
         alloc,

@@ -1,12 +1,13 @@
 -- A part of a trace takes up a cycle.
-use Rattle.std.proofs.Common.{◌≡◌, ◌∙◌, sym, ap, refl, arith, Bool, true, false, ℕ, ◌+◌, ◌<◌, ◌≤◌, ◌⊎◌, List, [], ◌∷◌, ◌++◌, append-nil, length, take}
+use Rattle.std.proofs.Common.{◌≡◌, ◌∙◌, sym, ap, refl, arith, Bool, true, false, ℕ, ◌+◌, ◌<◌, ◌≤◌, List, [], ◌∷◌, ◌++◌, append-nil, length, take}
 use Rattle.std.specs.Prelude.{if◌then◌else◌, ◌&&◌, nat_le, nat_lt}
 use Rattle.std.specs.List.{filter, flat_map}
 use Rattle.std.proofs.lemmas.Bool.{leb-false, leb-true, le-leb, lt-leb, lt-ltb, ltb-true}
 use Rattle.std.proofs.lemmas.Grind.{flat_map-append}
 use Rattle.std.proofs.lemmas.List.{length-append, length-take-le, take-append-le, take_all}
 use Rattle.std.proofs.lemmas.List.Elements.{filter-append}
-use Rattle.explain_words.specs.TracesWords.Parts.{IsPartOf, ToldCycle, chosen, is_before, is_within, told_line}
+use Rattle.explain_words.specs.TracesWords.Parts.{IsPartOf, chosen, is_before, is_within}
+use Rattle.explain_words.specs.TracesWords.Traces.{ToldCycle, told_line}
 use Rattle.explain_words.specs.declared.traces.parts.CycleChoice.{CycleChoice}
 use Rattle.explain_words.specs.declared.traces.parts.TracePart.{TracePart}
 

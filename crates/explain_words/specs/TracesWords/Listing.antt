@@ -1,6 +1,7 @@
 -- Helper words: one cycle more of a part of a trace.
 use Rattle.std.specs.Prelude.{◌≡◌, ℕ, ◌≤◌, ◌+◌, List, [], ◌∷◌, ◌++◌}
-use Rattle.explain_words.specs.TracesWords.Parts.{IsPartOf, ToldCycle}
+use Rattle.explain_words.specs.TracesWords.Parts.{IsPartOf}
+use Rattle.explain_words.specs.TracesWords.Traces.{ToldCycle}
 use Rattle.explain_words.specs.declared.traces.parts.CycleChoice.{CycleChoice}
 use Rattle.explain_words.specs.declared.traces.parts.TracePart.{TracePart}
 

@@ -1,31 +1,43 @@
--- The trace of a run of the machine over a deck: a line for each of its cycles, in their order.
-use Rattle.std.specs.Prelude.{◌≡◌, ℕ, ◌+◌, List, [], ◌++◌, Some, None}
-use Rattle.explain_ledgers.specs.LedgersWords.Ledgers.{card_in}
+-- The cycles of a run of the machine over a deck, each with the line that tells of it, and the trace: these lines in their order.
+use Rattle.std.specs.Prelude.{◌≡◌, ℕ, List, [], ◌∷◌, ◌++◌, None}
+use Rattle.std.specs.List.{flat_map}
+use Rattle.explain_wheels.specs.RunsWords.{Along, Goes, along_after, along_at_start, card_in}
 use Rattle.hubs.specs.SetupsWords.Wiring.{Wiring}
 use Rattle.net.specs.declared.cycle.Cycle.{Cycle}
-use Rattle.machine.specs.Cycles.{Reached}
-use Rattle.machine.specs.Machine.{MachineState, ended}
-use Rattle.machine.specs.Runs.{InRun, cycle_due, made_ready, run_at_start}
+use Rattle.machine.specs.Machine.{MachineState}
+use Rattle.machine.specs.Runs.{cycle_due}
 use Rattle.explain_words.specs.TracesWords.Lines.{cycle_line}
 
--- the run behind a cycle: its machine behind the end, and the cards that are left
-abbrev pub behind_cycle : Cycle → InRun → MachineState → InRun
-behind_cycle cycle run machine = record { machine = ended machine cycle; hopper = (made_ready cycle run).hopper }
+-- a cycle of a run: the number of the card that was read last, 0 before the first card cycle, and the line that tells of the cycle
+pub record ToldCycle : Type 0 where
+  pub card : ℕ
+  pub line : List ℕ
 
--- A run over a deck up to a place between two of its cycles: how many cards were read, the run there, and the trace so far. At the start
--- there is no line. Then each cycle that is due goes through its fourteen points, and its line comes behind the others.
-pub data TracedTo (wiring : Wiring) (deck : List (List ℕ)) : ℕ → InRun → List ℕ → Type 0 where
-  begun : TracedTo wiring deck 0 (run_at_start wiring deck) []
-  more :
-      (cycle : Cycle) (card : ℕ) (run : InRun) (trace : List ℕ) (machine : MachineState)
-      → TracedTo wiring deck card run trace
-      → cycle_due run.machine ≡ Some cycle
-      → Reached wiring cycle 14 (made_ready cycle run).machine machine
-      → TracedTo wiring deck (card_in cycle card) (behind_cycle cycle run machine) (trace ++ cycle_line cycle (card_in cycle card) machine)
+-- the line of a cycle
+abbrev pub told_line : ToldCycle → List ℕ
+told_line cycle = cycle.line
 
--- The trace of a deck on a panel: that of a run up to where no cycle is due any more.
+-- a cycle by the number of the card that was read last and the machine behind its points
+abbrev pub told_cycle : Cycle → ℕ → MachineState → ToldCycle
+told_cycle cycle card behind = record { card = card; line = cycle_line cycle card behind }
+
+-- The cycles of a run over a deck up to a place between two of them, in their order, each told.
+pub data CyclesTo (wiring : Wiring) (deck : List (List ℕ)) : Along → List ToldCycle → Type 0 where
+  none : CyclesTo wiring deck (along_at_start wiring deck) []
+  next :
+      (cycle : Cycle) (along : Along) (cycles : List ToldCycle) (behind : MachineState)
+      → CyclesTo wiring deck along cycles
+      → Goes wiring cycle along behind
+      → CyclesTo wiring deck (along_after cycle behind along) (cycles ++ told_cycle cycle (card_in cycle along.card) behind ∷ [])
+
+-- All cycles of a run over a deck: up to where none is due any more.
+pub record AreCycles (wiring : Wiring) (deck : List (List ℕ)) (cycles : List ToldCycle) : Type 0 where
+  pub along : Along
+  pub told : CyclesTo wiring deck along cycles
+  pub over : cycle_due along.run.machine ≡ None
+
+-- The trace of a deck on a panel: the lines of all cycles.
 pub record IsTrace (wiring : Wiring) (deck : List (List ℕ)) (trace : List ℕ) : Type 0 where
-  pub cards : ℕ
-  pub run : InRun
-  pub traced : TracedTo wiring deck cards run trace
-  pub over : cycle_due run.machine ≡ None
+  pub cycles : List ToldCycle
+  pub are_cycles : AreCycles wiring deck cycles
+  pub lines : trace ≡ flat_map told_line cycles

@@ -6,11 +6,10 @@ ghost use Rattle.explain_words.specs.TracesWords.Listing.{IsBounded, TakesCycle}
 ghost use Rattle.explain_words.specs.TracesWords.Parts.{IsPartOf, IsTracePart};
 ghost use Rattle.explain_words.specs.declared.traces.parts.CycleChoice.{CycleChoice};
 
-use crate::traces::tracing::run_cycle;
+use crate::traces::tracing::tell_cycle;
 use card_code::Card;
-use explain_ledgers::ledgers::{card_in, make_ready, move_on};
+use explain_wheels::runs::DeckRun;
 use hubs::setups::Setup;
-use machine::SteppedMachine;
 use page_text::placed_lines::PlacedLine;
 use std::alloc::{AllocError, Global};
 use std::io;
@@ -106,17 +105,19 @@ pub fn trace_part(
     ensures part { IfOk result (IsTracePart setup.now cards.now choice) }
     ensures few { IfOk result (λ part. part.before < 2 ^ 32) }
 {
-    let mut machine = SteppedMachine::new(alloc, setup)?;
+    let mut run = DeckRun::begin(alloc, setup, cards)?;
     let mut told = Vec::new(alloc);
     let mut line = Vec::new(alloc);
     let mut part = no_cycles(alloc);
-    let mut hopper = move_on(&mut machine, cards);
-    let mut card = 0;
-    while let Some(cycle) = machine.cycle_due() {
-        hopper = make_ready(&mut machine, cycle, hopper);
-        card = card_in(cycle, card);
-        run_cycle(&mut machine, cycle, card, &mut told, &mut line)?;
-        take_cycle(&mut part, choice, card, line.as_slice(), &machine.line())?;
+    while let Some(cycle) = run.enter(setup, cards) {
+        tell_cycle(&mut run, cycle, &mut told, &mut line)?;
+        take_cycle(
+            &mut part,
+            choice,
+            run.card,
+            line.as_slice(),
+            &run.machine.line(),
+        )?;
     }
     Ok(part)
 }

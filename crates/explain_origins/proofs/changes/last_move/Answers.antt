@@ -1,8 +1,7 @@
-use Rattle.std.proofs.Common.{◌∙◌, sym, arith, refl}
-use Rattle.explain_ledgers.specs.LedgersWords.Running.{along_of}
+use Rattle.std.proofs.Common.{arith, refl}
+use Rattle.explain_wheels.specs.RunsWords.{along_of}
+use Rattle.explain_wheels.proofs.RunsWords.DeckRuns.{is-due}
 use Rattle.explain_ledgers.proofs.LedgersWords.Keeping.{groups-many}
-use Rattle.explain_ledgers.proofs.LedgersWords.Places.{comes-within, still-due}
-use Rattle.explain_ledgers.proofs.LedgersWords.Running.{begins-at, goes-on, same-along, stands-begun, stands-more}
 use Rattle.explain_origins.specs.Changes.{moves}
 use Rattle.explain_origins.proofs.Keeping.{keeps-begun, keeps-more, kept-over, last-has}
 use Rattle.explain_origins.proofs.Storing.{four-units, goes-many}
@@ -10,75 +9,42 @@ use Rattle.explain_origins.proofs.changes.last_move.Goals as goal
 
 pub loop-passed-init : goal.loop-passed-init
 loop-passed-init c =
-    keeps-begun c.args.setup.now c.args.cards.now c.move_on-hopper.new.machine c.move_on-hopper.result.now (moves c.args.holder)
-    (stands-begun c.args.setup.now c.args.cards.now c.in_ok-machine.machine c.move_on-hopper.new.machine c.move_on-hopper.result.now
-    c.in_ok-machine.ensures c.move_on-hopper.ensures.moved c.move_on-hopper.ensures.net)
-    (begins-at c.args.setup.now c.args.cards.now c.in_ok-machine.machine c.move_on-hopper.new.machine c.move_on-hopper.result.now
-    c.in_ok-machine.ensures c.move_on-hopper.ensures.moved)
+    keeps-begun c.args.setup.now c.args.cards.now c.in_ok-run.run' (moves c.args.holder) c.in_ok-run.ensures
 
-pub unreachable-requires : goal.unreachable-requires
-unreachable-requires c =
+pub enter_due-cycle-requires-clause-between : goal.enter_due-cycle-requires-clause-between
+enter_due-cycle-requires-clause-between c = c.loop-passed.invariant.behind.between
+
+pub enter_due-cycle-requires-clause-due : goal.enter_due-cycle-requires-clause-due
+enter_due-cycle-requires-clause-due c =
     let low = c.loop-passed-test.true in
-    still-due c.args.setup.now c.args.cards.now
-    (along_of c.loop-passed.card c.loop-passed.passed c.loop-passed.machine c.loop-passed.hopper.now) c.args.count
-    c.loop-passed.invariant.stands.comes c.requires.has (omega (arith, low)) (sym c.cycle_due.ensures ∙ c.in_default.is)
-
-pub card_in-card-requires : goal.card_in-card-requires
-card_in-card-requires c =
-    let within = comes-within c.args.setup.now c.args.cards.now c.loop-passed.invariant.stands.comes in
-    let few = within.few in let card = within.card in let cards = c.requires.few in omega (arith, few, card, cards)
+    is-due c.args.setup.now c.args.cards.now c.loop-passed.passed c.args.count c.loop-passed.run c.loop-passed.invariant.behind
+    c.requires.has (omega (arith, low))
 
 pub moves-requires-clause-storage : goal.moves-requires-clause-storage
 moves-requires-clause-storage c =
-    goes-many c.args.setup.now c.in-Some.cycle
-    (along_of c.loop-passed.card c.loop-passed.passed c.loop-passed.machine c.loop-passed.hopper.now) c.run_points.new.self.machine
-    (four-units c.args.setup.now c.args.cards.now c.loop-passed.invariant.stands.comes)
-    (goes-on c.args.setup.now c.args.cards.now c.loop-passed.machine c.make_ready-hopper.new.machine c.run_points.new.self
-    c.run_points.new.self c.loop-passed.card c.loop-passed.passed c.loop-passed.hopper.now c.make_ready-hopper.result.now c.in-Some.cycle
-    c.loop-passed.invariant.stands (sym c.cycle_due.ensures ∙ c.in-Some.is) c.make_ready-hopper.ensures.ready
-    c.make_ready-hopper.ensures.net c.run_points.ensures.reached)
+    goes-many c.args.setup.now c.enter_due-cycle.result (along_of c.loop-passed.run) c.enter_due-cycle.new.self.machine.machine
+    (four-units c.args.setup.now c.args.cards.now c.enter_due-cycle.ensures.comes) c.enter_due-cycle.ensures.goes
 
 pub moves-requires-clause-groups : goal.moves-requires-clause-groups
 moves-requires-clause-groups c =
-    groups-many c.args.setup.now c.args.cards.now c.in-Some.cycle
-    (along_of c.loop-passed.card c.loop-passed.passed c.loop-passed.machine c.loop-passed.hopper.now) c.run_points.new.self.machine
-    c.run_points.new.self.machine.groups c.loop-passed.invariant.stands.comes
-    (goes-on c.args.setup.now c.args.cards.now c.loop-passed.machine c.make_ready-hopper.new.machine c.run_points.new.self
-    c.run_points.new.self c.loop-passed.card c.loop-passed.passed c.loop-passed.hopper.now c.make_ready-hopper.result.now c.in-Some.cycle
-    c.loop-passed.invariant.stands (sym c.cycle_due.ensures ∙ c.in-Some.is) c.make_ready-hopper.ensures.ready
-    c.make_ready-hopper.ensures.net c.run_points.ensures.reached)
-    refl
+    groups-many c.args.setup.now c.args.cards.now c.enter_due-cycle.result (along_of c.loop-passed.run)
+    c.enter_due-cycle.new.self.machine.machine c.enter_due-cycle.new.self.machine.machine.groups c.enter_due-cycle.ensures.comes
+    c.enter_due-cycle.ensures.goes refl
 
 pub loop-passed-preserved : goal.loop-passed-preserved
 loop-passed-preserved c =
-    let goes =
-    goes-on c.args.setup.now c.args.cards.now c.loop-passed.machine c.make_ready-hopper.new.machine c.run_points.new.self
-    c.end_cycle.new.self c.loop-passed.card c.loop-passed.passed c.loop-passed.hopper.now c.make_ready-hopper.result.now c.in-Some.cycle
-    c.loop-passed.invariant.stands (sym c.cycle_due.ensures ∙ c.in-Some.is) c.make_ready-hopper.ensures.ready
-    c.make_ready-hopper.ensures.net c.run_points.ensures.reached in
-    keeps-more c.args.setup.now c.args.cards.now c.loop-passed.machine c.end_cycle.new.self c.loop-passed.card c.loop-passed.passed
-    c.card_in-card.result c.loop-passed.hopper.now c.make_ready-hopper.result.now c.in-Some.cycle c.run_points.new.self.machine
-    (moves c.args.holder) c.moves.result c.loop-passed.last c.last_with-last.result
-    c.loop-passed.invariant goes
-    (stands-more c.args.setup.now c.args.cards.now c.loop-passed.machine c.make_ready-hopper.new.machine c.run_points.new.self
-    c.end_cycle.new.self c.loop-passed.card c.loop-passed.passed c.loop-passed.hopper.now c.make_ready-hopper.result.now c.in-Some.cycle
-    c.loop-passed.invariant.stands (sym c.cycle_due.ensures ∙ c.in-Some.is) c.make_ready-hopper.ensures.ready
-    c.make_ready-hopper.ensures.net c.run_points.ensures.reached c.card_in-card.result c.card_in-card.ensures c.end_cycle.ensures.machine
-    c.run_points.ensures.net c.end_cycle.ensures.net)
-    (same-along c.args.setup.now c.args.cards.now c.loop-passed.machine c.make_ready-hopper.new.machine c.run_points.new.self
-    c.end_cycle.new.self c.loop-passed.card c.loop-passed.passed c.loop-passed.hopper.now c.make_ready-hopper.result.now c.in-Some.cycle
-    c.loop-passed.invariant.stands (sym c.cycle_due.ensures ∙ c.in-Some.is) c.make_ready-hopper.ensures.ready
-    c.make_ready-hopper.ensures.net c.run_points.ensures.reached c.card_in-card.result c.card_in-card.ensures c.end_cycle.ensures.machine)
-    c.card_in-card.ensures
-    c.moves.ensures
+    keeps-more c.args.setup.now c.args.cards.now c.loop-passed.passed c.enter_due-cycle.result c.loop-passed.run
+    c.enter_due-cycle.new.self c.leave.new.self (moves c.args.holder) c.moves.result c.loop-passed.last c.last_with-last.result
+    c.loop-passed.invariant c.enter_due-cycle.ensures
+    (c.leave.ensures c.args.setup.now c.args.cards.now (along_of c.loop-passed.run) c.enter_due-cycle.ensures) c.moves.ensures
     c.last_with-last.ensures
 
 pub returns-clause-last : goal.returns-clause-last
 returns-clause-last c =
     let less = c.loop-passed-test.false in
     let end = c.loop-passed.auto.passed-end in
-    kept-over c.args.setup.now c.args.cards.now c.loop-passed.card c.loop-passed.passed c.args.count c.loop-passed.machine
-    c.loop-passed.hopper.now (moves c.args.holder) c.loop-passed.last c.loop-passed.invariant (omega (arith, less, end))
+    kept-over c.args.setup.now c.args.cards.now c.loop-passed.passed c.args.count c.loop-passed.run (moves c.args.holder) c.loop-passed.last
+    c.loop-passed.invariant (omega (arith, less, end))
 
 pub returns-clause-has : goal.returns-clause-has
 returns-clause-has c = last-has c.args.setup.now c.args.cards.now (moves c.args.holder) c.loop-passed.invariant.is

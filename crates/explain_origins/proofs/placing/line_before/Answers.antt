@@ -1,54 +1,32 @@
-use Rattle.std.proofs.Common.{◌∙◌, sym, arith}
-use Rattle.explain_ledgers.specs.LedgersWords.Running.{along_of}
-use Rattle.explain_ledgers.proofs.LedgersWords.Places.{comes-within, still-due}
-use Rattle.explain_ledgers.proofs.LedgersWords.Running.{begins-at, goes-on, same-along, stands-begun, stands-more}
+use Rattle.std.proofs.Common.{arith}
+use Rattle.explain_wheels.specs.RunsWords.{along_of}
+use Rattle.explain_wheels.proofs.RunsWords.DeckRuns.{is-due}
 use Rattle.explain_origins.proofs.Printing.{printed-over, prints-begun, prints-more}
 use Rattle.explain_origins.proofs.placing.line_before.Goals as goal
 
 pub loop-passed-init : goal.loop-passed-init
-loop-passed-init c =
-    prints-begun c.args.setup.now c.args.cards.now c.move_on-hopper.new.machine c.move_on-hopper.result.now
-    (stands-begun c.args.setup.now c.args.cards.now c.in_ok-machine.machine c.move_on-hopper.new.machine c.move_on-hopper.result.now
-    c.in_ok-machine.ensures c.move_on-hopper.ensures.moved c.move_on-hopper.ensures.net)
-    (begins-at c.args.setup.now c.args.cards.now c.in_ok-machine.machine c.move_on-hopper.new.machine c.move_on-hopper.result.now
-    c.in_ok-machine.ensures c.move_on-hopper.ensures.moved)
+loop-passed-init c = prints-begun c.args.setup.now c.args.cards.now c.in_ok-run.run' c.in_ok-run.ensures
 
-pub unreachable-requires : goal.unreachable-requires
-unreachable-requires c =
+pub enter_due-cycle-requires-clause-between : goal.enter_due-cycle-requires-clause-between
+enter_due-cycle-requires-clause-between c = c.loop-passed.invariant.behind.between
+
+pub enter_due-cycle-requires-clause-due : goal.enter_due-cycle-requires-clause-due
+enter_due-cycle-requires-clause-due c =
     let low = c.loop-passed-test.true in
-    still-due c.args.setup.now c.args.cards.now
-    (along_of c.loop-passed.card c.loop-passed.passed c.loop-passed.machine c.loop-passed.hopper.now) c.args.count
-    c.loop-passed.invariant.stands.comes c.requires.has (omega (arith, low)) (sym c.cycle_due.ensures ∙ c.in_default.is)
-
-pub card_in-card-requires : goal.card_in-card-requires
-card_in-card-requires c =
-    let within = comes-within c.args.setup.now c.args.cards.now c.loop-passed.invariant.stands.comes in
-    let few = within.few in let card = within.card in let cards = c.requires.few in omega (arith, few, card, cards)
+    is-due c.args.setup.now c.args.cards.now c.loop-passed.passed c.args.count c.loop-passed.run c.loop-passed.invariant.behind
+    c.requires.has (omega (arith, low))
 
 pub loop-passed-preserved : goal.loop-passed-preserved
 loop-passed-preserved c =
-    let goes =
-    goes-on c.args.setup.now c.args.cards.now c.loop-passed.machine c.make_ready-hopper.new.machine c.run_points.new.self
-    c.end_cycle.new.self c.loop-passed.card c.loop-passed.passed c.loop-passed.hopper.now c.make_ready-hopper.result.now c.in-Some.cycle
-    c.loop-passed.invariant.stands (sym c.cycle_due.ensures ∙ c.in-Some.is) c.make_ready-hopper.ensures.ready
-    c.make_ready-hopper.ensures.net c.run_points.ensures.reached in
-    prints-more c.args.setup.now c.args.cards.now c.loop-passed.machine c.end_cycle.new.self c.loop-passed.card c.loop-passed.passed
-    c.card_in-card.result c.loop-passed.hopper.now c.make_ready-hopper.result.now c.in-Some.cycle c.run_points.new.self.machine
-    _ c.loop-passed.last c.line_with-last.result c.loop-passed.invariant goes
-    (stands-more c.args.setup.now c.args.cards.now c.loop-passed.machine c.make_ready-hopper.new.machine c.run_points.new.self
-    c.end_cycle.new.self c.loop-passed.card c.loop-passed.passed c.loop-passed.hopper.now c.make_ready-hopper.result.now c.in-Some.cycle
-    c.loop-passed.invariant.stands (sym c.cycle_due.ensures ∙ c.in-Some.is) c.make_ready-hopper.ensures.ready
-    c.make_ready-hopper.ensures.net c.run_points.ensures.reached c.card_in-card.result c.card_in-card.ensures c.end_cycle.ensures.machine
-    c.run_points.ensures.net c.end_cycle.ensures.net)
-    (same-along c.args.setup.now c.args.cards.now c.loop-passed.machine c.make_ready-hopper.new.machine c.run_points.new.self
-    c.end_cycle.new.self c.loop-passed.card c.loop-passed.passed c.loop-passed.hopper.now c.make_ready-hopper.result.now c.in-Some.cycle
-    c.loop-passed.invariant.stands (sym c.cycle_due.ensures ∙ c.in-Some.is) c.make_ready-hopper.ensures.ready
-    c.make_ready-hopper.ensures.net c.run_points.ensures.reached c.card_in-card.result c.card_in-card.ensures c.end_cycle.ensures.machine)
-    c.card_in-card.ensures c.line.ensures c.end_cycle.ensures.machine c.line_with-last.ensures
+    prints-more c.args.setup.now c.args.cards.now c.loop-passed.passed c.enter_due-cycle.result c.loop-passed.run
+    c.enter_due-cycle.new.self c.leave.new.self _ c.loop-passed.last c.line_with-last.result c.loop-passed.invariant
+    c.enter_due-cycle.ensures
+    (c.leave.ensures c.args.setup.now c.args.cards.now (along_of c.loop-passed.run) c.enter_due-cycle.ensures) c.line.ensures
+    c.line_with-last.ensures
 
 pub returns : goal.returns
 returns c =
     let less = c.loop-passed-test.false in
     let end = c.loop-passed.auto.passed-end in
-    printed-over c.args.setup.now c.args.cards.now c.loop-passed.card c.loop-passed.passed c.args.count c.loop-passed.machine
-    c.loop-passed.hopper.now c.loop-passed.last c.loop-passed.invariant (omega (arith, less, end))
+    printed-over c.args.setup.now c.args.cards.now c.loop-passed.passed c.args.count c.loop-passed.run c.loop-passed.last
+    c.loop-passed.invariant (omega (arith, less, end))

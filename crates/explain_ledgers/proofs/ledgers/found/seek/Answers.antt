@@ -1,49 +1,37 @@
-use Rattle.std.proofs.Common.{◌∙◌, sym, map, arith}
-use Rattle.explain_ledgers.specs.LedgersWords.Running.{along_of, sought_at}
-use Rattle.explain_ledgers.proofs.LedgersWords.Places.{comes-within}
-use Rattle.explain_ledgers.proofs.LedgersWords.Running.{stands-falls}
+use Rattle.std.proofs.Common.{map}
+use Rattle.explain_wheels.specs.RunsWords.{along_of}
+use Rattle.explain_wheels.proofs.RunsWords.DeckRuns.{run-falls}
+use Rattle.explain_ledgers.specs.LedgersWords.Running.{sought_at}
 use Rattle.explain_ledgers.proofs.LedgersWords.SoughtLines.{all-found, all-sought, seeks-begun, seeks-more}
 use Rattle.explain_ledgers.proofs.ledgers.found.seek.Goals as goal
 
-pub loop-cycle-init : goal.loop-cycle-init
-loop-cycle-init c =
-    seeks-begun c.args.setup.now c.args.cards.now c.in_ok-machine.machine c.move_on-hopper.new.machine c.move_on-hopper.result.now
-    c.args.sought.now c.in_ok-machine.ensures c.move_on-hopper.ensures.moved c.move_on-hopper.ensures.net c.requires.unfound
+pub loop-passed-init : goal.loop-passed-init
+loop-passed-init c =
+    seeks-begun c.args.setup.now c.args.cards.now c.in_ok-run.run' c.args.sought.now c.in_ok-run.ensures c.requires.unfound
 
-pub loop-cycle-smaller : goal.loop-cycle-smaller
-loop-cycle-smaller c =
-    stands-falls c.args.setup.now c.args.cards.now c.loop-cycle.machine c.make_ready-hopper.new.machine c.run_points.new.self
-    c.end_cycle.new.self c.loop-cycle.card c.loop-cycle.passed c.loop-cycle.hopper.now c.make_ready-hopper.result.now
-    c.in-Some.cycle c.loop-cycle.invariant.stands (sym c.cycle_due.ensures ∙ c.in-Some.is) c.make_ready-hopper.ensures.ready
-    c.make_ready-hopper.ensures.net c.run_points.ensures.reached c.end_cycle.ensures.machine
+pub enter-requires-clause-between : goal.enter-requires-clause-between
+enter-requires-clause-between c = c.loop-passed.invariant.between
 
-pub loop-cycle-preserved : goal.loop-cycle-preserved
-loop-cycle-preserved c =
-    seeks-more c.args.setup.now c.args.cards.now c.loop-cycle.machine c.make_ready-hopper.new.machine c.run_points.new.self
-    c.end_cycle.new.self c.loop-cycle.card c.loop-cycle.passed c.loop-cycle.hopper.now c.make_ready-hopper.result.now c.in-Some.cycle
-    c.loop-cycle.invariant.stands (sym c.cycle_due.ensures ∙ c.in-Some.is) c.make_ready-hopper.ensures.ready
-    c.make_ready-hopper.ensures.net c.run_points.ensures.reached c.card_in-card.result c.card_in-card.ensures c.end_cycle.ensures.machine
-    (map sought_at c.args.sought.now) c.loop-cycle.sought c.note_all.new.sought c.line.result c.loop-cycle.invariant
-    c.run_points.ensures.net c.end_cycle.ensures.net c.line.ensures c.note_all.ensures
+pub loop-passed-smaller : goal.loop-passed-smaller
+loop-passed-smaller c =
+    run-falls c.args.setup.now c.args.cards.now c.in-Some.cycle (along_of c.loop-passed.run) c.enter.new.self c.leave.new.self
+    c.in-Some.ensures.enters
+    (c.leave.ensures c.args.setup.now c.args.cards.now (along_of c.loop-passed.run) c.in-Some.ensures.enters)
 
-pub returns-then-are_found-clause-found : goal.returns-then-are_found-clause-found
-returns-then-are_found-clause-found c =
-    all-found c.args.setup.now c.args.cards.now
-    (along_of c.loop-cycle.card c.loop-cycle.passed c.loop-cycle.machine c.loop-cycle.hopper.now) c.loop-cycle.sought
-    c.loop-cycle.invariant.each (c.are_found.ensures c.if-are_found.true)
+pub loop-passed-preserved : goal.loop-passed-preserved
+loop-passed-preserved c =
+    seeks-more c.args.setup.now c.args.cards.now c.in-Some.cycle c.loop-passed.run c.enter.new.self c.leave.new.self
+    c.in-Some.ensures.enters
+    (c.leave.ensures c.args.setup.now c.args.cards.now (along_of c.loop-passed.run) c.in-Some.ensures.enters)
+    (map sought_at c.args.sought.now) c.loop-passed.sought c.note_all.new.sought c.line.result c.loop-passed.invariant
+    c.line.ensures c.note_all.ensures
 
 pub returns-clause-found : goal.returns-clause-found
 returns-clause-found c =
-    all-sought c.args.setup.now c.args.cards.now
-    (along_of c.loop-cycle.card c.loop-cycle.passed c.loop-cycle.machine c.loop-cycle.hopper.now) c.loop-cycle.sought
-    c.loop-cycle.invariant.each (sym c.cycle_due.ensures ∙ c.in_default.is)
+    all-found c.args.setup.now c.args.cards.now (along_of c.loop-passed.run) c.loop-passed.sought c.loop-passed.invariant.each
+    (c.are_found.ensures c.loop-passed-test.false)
 
-pub card_in-card-requires : goal.card_in-card-requires
-card_in-card-requires c =
-    let within = comes-within c.args.setup.now c.args.cards.now c.loop-cycle.invariant.stands.comes in
-    let few = within.few in let card = within.card in let cards = c.requires.few in omega (arith, few, card, cards)
-
-pub overflow_add-passed : goal.overflow_add-passed
-overflow_add-passed c =
-    let within = comes-within c.args.setup.now c.args.cards.now c.loop-cycle.invariant.stands.comes in
-    let few = within.few in let cards = c.requires.few in omega (arith, few, cards)
+pub returns-in_default-clause-found : goal.returns-in_default-clause-found
+returns-in_default-clause-found c =
+    all-sought c.args.setup.now c.args.cards.now (along_of c.loop-passed.run) c.loop-passed.sought c.loop-passed.invariant.each
+    (c.enter.ensures.over c.in_default.is)

@@ -1,6 +1,6 @@
 use Rattle.explain_ledgers.proofs.LedgersWords.KeptLedgers.{KeepsAll}
 use Rattle.explain_ledgers.proofs.ledgers.kept.ledgers_before.Given as goal
 
--- the machine stands in the run over the deck, and the ledgers are kept up to here
+-- the run stands between two cycles, and the ledgers are kept up to here
 abbrev pub invariant-loop-passed : goal.invariant-loop-passed
-invariant-loop-passed l = KeepsAll l.setup l.cards l.ends l.asked l.card l.passed l.machine l.hopper l.kept.items
+invariant-loop-passed l = KeepsAll l.setup l.cards l.ends l.asked l.passed l.run l.kept.items

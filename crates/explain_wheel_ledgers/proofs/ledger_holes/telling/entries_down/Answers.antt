@@ -8,7 +8,7 @@ pub loop-entry-init : goal.loop-entry-init
 loop-entry-init c = (
   entries-none c.args.setup.now c.args.cards.now (option_map words_of c.args.title.now) c.args.account c.args.entries.now
       c.new-text.result.items c.new-text.ensures.items,
-  c.requires.follows,
+  c.requires.between,
 )
 
 pub loop-entry-preserved : goal.loop-entry-preserved
@@ -17,7 +17,7 @@ loop-entry-preserved c = (
       c.loop-entry.entry-index _ _ c.loop-entry.text.items c.in_ok-next.next.items c.extend_from_slice.new.self.items
       c.loop-entry-test.true refl c.loop-entry.invariant.0 c.in_ok-next.ensures.told
       (c.in_ok-extend_from_slice.ensures.items ∙ ap (λ (l : List ℕ). c.loop-entry.text.items ++ l) c.as_slice.ensures.value),
-  c.entry_down.ensures.follows,
+  c.entry_down.ensures.between,
 )
 
 pub returns-clause-told : goal.returns-clause-told
