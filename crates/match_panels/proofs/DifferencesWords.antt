@@ -4,6 +4,7 @@ pub mod Wires
 pub mod Jacks
 pub mod Counts
 pub mod Counting
+pub mod RowWires
 pub mod Same
 pub mod Joined
 pub mod PanelProgress

@@ -1,23 +1,15 @@
--- The wires, jacks and stops of a setup, counted hub by hub, place by place and line by line.
+-- The jacks and stops of a setup, counted place by place and line by line.
 use Rattle.std.proofs.Common.{◌≡◌, ◌∙◌, ℕ, ◌+◌, ◌≤◌, inl, inr, Some, None, true, false, true≢false, refl, sym, ap, subst, arith}
 use Rattle.std.proofs.lemmas.Option.{none-some, same_Some}
-use Rattle.hubs.specs.Hubs.{number_of}
 use Rattle.hubs.specs.Jacks.{is_jack_in_range, jack_place}
-use Rattle.hubs.specs.declared.hub.Hub.{Hub}
 use Rattle.hubs.specs.declared.jack.Jack.{Jack}
-use Rattle.hubs.proofs.HubLemmas.{number_of-range}
 use Rattle.hubs.specs.SetupsWords.Tapes.{CarriageTape, IsCarriageTape, IsStopOf, has_stop}
-use Rattle.hubs.specs.SetupsWords.Wiring.{HasJack, HasWire, IsWireOf, Wiring}
+use Rattle.hubs.specs.SetupsWords.Wiring.{HasJack, Wiring}
 use Rattle.match_panels.specs.DifferencesWords.Differences.{AreMany}
-use Rattle.match_panels.specs.DifferencesWords.HelperSizes.{JackAt, JackBefore, StopAt, StopBefore, StopIn, StopInBefore, WireBefore, WireFrom, WireFromBefore, WireTo}
+use Rattle.match_panels.specs.DifferencesWords.HelperSizes.{JackAt, JackBefore, StopAt, StopBefore, StopIn, StopInBefore}
 use Rattle.match_panels.proofs.DifferencesWords.Counts.{many-as, many-both, many-none, many-one}
 use Rattle.match_panels.proofs.DifferencesWords.Jacks.{place_within, plugged_in_range}
 use Rattle.match_panels.proofs.DifferencesWords.Stops.{below_or_at}
-
--- a wire by its ends
-wire-is : (wire : Hub × Hub) (exit entry : Hub) → wire.0 ≡ exit → wire.1 ≡ entry → wire ≡ (exit, entry)
-wire-is wire exit entry e f =
-    ap (λ (a : Hub). let w : Hub × Hub = (a, wire.1) in w) e ∙ ap (λ (b : Hub). let w : Hub × Hub = (exit, b) in w) f
 
 -- a stop by its channel and its line
 stop-is : (stop : ℕ × ℕ) (channel line : ℕ) → stop.0 ≡ channel → stop.1 ≡ line → stop ≡ (channel, line)
@@ -25,85 +17,6 @@ stop-is stop channel line e f =
     ap (λ (a : ℕ). let s : ℕ × ℕ = (a, stop.1) in s) e ∙ ap (λ (b : ℕ). let s : ℕ × ℕ = (channel, b) in s) f
 
 module _ (setup : Wiring) where
-  pub to-one : {exit : Hub} {number : ℕ} (entry : Hub) → number_of entry ≡ Some number
-      → ((hub : Hub) → number_of hub ≡ Some number → Some entry ≡ Some hub) → HasWire setup exit entry → AreMany (WireTo setup exit number) 1
-  to-one {exit} {number} entry numbered found has =
-      many-one (exit, entry) (record { leaves = refl; numbered = numbered; there = has })
-      (λ wire is. wire-is wire exit entry is.leaves (sym (same_Some entry wire.1 (found wire.1 is.numbered))))
-
-  pub to-none : {exit : Hub} {number : ℕ} (entry : Hub)
-      → ((hub : Hub) → number_of hub ≡ Some number → Some entry ≡ Some hub) → (HasWire setup exit entry → ⊥) → AreMany (WireTo setup exit number) 0
-  to-none {exit} {number} entry found none = many-none (λ wire is.
-      let to : wire.1 ≡ entry = sym (same_Some entry wire.1 (found wire.1 is.numbered)) in
-      none (subst (λ h. HasWire setup h entry) is.leaves (subst (HasWire setup wire.0) to is.there)))
-
-  pub to-nowhere : {exit : Hub} {number : ℕ} → ((hub : Hub) → number_of hub ≡ Some number → None ≡ Some hub) → AreMany (WireTo setup exit number) 0
-  to-nowhere none = many-none (λ wire is. none-some wire.1 (none wire.1 is.numbered))
-
-  pub entries-none : {exit : Hub} → AreMany (WireBefore setup exit 0) 0
-  entries-none = many-none (λ wire is. omega (arith, is.before))
-
-  pub entries-more : {exit : Hub} {number m n : ℕ} → AreMany (WireBefore setup exit number) m → AreMany (WireTo setup exit number) n
-      → AreMany (WireBefore setup exit (number + 1)) (m + n)
-  entries-more {exit} {number} so_far next =
-      many-both (λ wire is. record { leaves = is.leaves; there = is.there; before = omega (arith, is.before) })
-      (λ wire is. record { leaves = is.leaves; there = is.there; before = omega (arith, same wire is) })
-      (λ wire is. elim (below_or_at is.there.to number is.before) [
-        | inl less ↦ inl (record { leaves = is.leaves; there = is.there; before = less })
-        | inr here ↦ inr (record { leaves = is.leaves; numbered = is.there.entry_numbered ∙ ap (λ (n : ℕ). Some n) here; there = is.there })
-      ])
-      (λ wire is also. omega (arith, is.before, apart wire is also)) so_far next
-    where
-      same : (wire : Hub × Hub) (is : WireTo setup exit number wire) → is.there.to ≡ number
-      same wire is = same_Some is.there.to number (sym is.there.entry_numbered ∙ is.numbered)
-
-      apart : (wire : Hub × Hub) (is : WireBefore setup exit number wire) → WireTo setup exit number wire → is.there.to ≡ number
-      apart wire is also = same_Some is.there.to number (sym is.there.entry_numbered ∙ also.numbered)
-
-  pub from-nowhere : {number : ℕ} → ((hub : Hub) → number_of hub ≡ Some number → None ≡ Some hub) → AreMany (WireFrom setup number) 0
-  from-nowhere none = many-none (λ wire is. none-some wire.0 (none wire.0 is.numbered))
-
-  pub from-none : {number : ℕ} (exit : Hub) → ((hub : Hub) → number_of hub ≡ Some number → Some exit ≡ Some hub)
-      → ((entry : Hub) → HasWire setup exit entry → ⊥) → AreMany (WireFrom setup number) 0
-  from-none exit found none = many-none (λ wire is.
-      none wire.1 (subst (λ h. HasWire setup h wire.1) (sym (same_Some exit wire.0 (found wire.0 is.numbered))) is.there))
-
-  pub from-all : {number bound m : ℕ} (exit : Hub) → number_of exit ≡ Some number
-      → ((hub : Hub) → number_of hub ≡ Some number → Some exit ≡ Some hub) → 1937 ≤ bound → AreMany (WireBefore setup exit bound) m
-      → AreMany (WireFrom setup number) m
-  from-all exit numbered found last many =
-      many-as (λ wire is. record { numbered = ap number_of is.leaves ∙ numbered; there = is.there })
-      (λ wire is. record {
-        leaves = sym (same_Some exit wire.0 (found wire.0 is.numbered));
-        there = is.there;
-        before = omega (arith, last, (number_of-range wire.1 is.there.to is.there.entry_numbered).1);
-      }) many
-
-  pub exits-none : AreMany (WireFromBefore setup 0) 0
-  exits-none = many-none (λ wire is. omega (arith, is.before))
-
-  pub exits-more : {number m n : ℕ} → AreMany (WireFromBefore setup number) m → AreMany (WireFrom setup number) n
-      → AreMany (WireFromBefore setup (number + 1)) (m + n)
-  exits-more {number} so_far next =
-      many-both (λ wire is. record { there = is.there; before = omega (arith, is.before) })
-      (λ wire is. record { there = is.there; before = omega (arith, same wire is) })
-      (λ wire is. elim (below_or_at is.there.number number is.before) [
-        | inl less ↦ inl (record { there = is.there; before = less })
-        | inr here ↦ inr (record { numbered = is.there.numbered ∙ ap (λ (n : ℕ). Some n) here; there = is.there })
-      ])
-      (λ wire is also. omega (arith, is.before, apart wire is also)) so_far next
-    where
-      same : (wire : Hub × Hub) (is : WireFrom setup number wire) → is.there.number ≡ number
-      same wire is = same_Some is.there.number number (sym is.there.numbered ∙ is.numbered)
-
-      apart : (wire : Hub × Hub) (is : WireFromBefore setup number wire) → WireFrom setup number wire → is.there.number ≡ number
-      apart wire is also = same_Some is.there.number number (sym is.there.numbered ∙ also.numbered)
-
-  pub exits-all : {bound m : ℕ} → 1937 ≤ bound → AreMany (WireFromBefore setup bound) m → AreMany (IsWireOf setup) m
-  exits-all last many =
-      many-as (λ wire is. is.there)
-      (λ wire is. record { there = is; before = omega (arith, last, (number_of-range wire.0 is.number is.numbered).1) }) many
-
   pub jack-one : {place : ℕ} (jack : Jack) → jack_place jack ≡ place
       → ((each : Jack) → is_jack_in_range each ≡ true → jack_place each ≡ place → Some jack ≡ Some each) → HasJack setup jack
       → AreMany (JackAt setup place) 1

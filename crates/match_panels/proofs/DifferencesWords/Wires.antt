@@ -3,10 +3,10 @@ use Rattle.std.proofs.Common.{◌≡◌, ◌↔◌, ◌∙◌, ℕ, ◌≤◌, L
 use Rattle.std.proofs.lemmas.Option.{get_or_from_slice_get, none-some, same_Some, slice_get_read}
 use Rattle.hubs.specs.Hubs.{number_of}
 use Rattle.hubs.specs.declared.hub.Hub.{Hub}
-use Rattle.hubs.proofs.HubLemmas.{number_of-range}
+use Rattle.hubs.proofs.HubLemmas.{is_exit-number}
 use Rattle.wiring_lines.specs.LineWires.HelperAdds.{Adds, OfSome, One, Upto, below, one as only, some}
 use Rattle.wiring_lines.proofs.LineWires.Steps.{adds-as, adds-none}
-use Rattle.hubs.specs.SetupsWords.Wiring.{HasWire, Wiring}
+use Rattle.hubs.specs.SetupsWords.Wiring.{HasWire, IsLawfulWiring, Wiring}
 use Rattle.match_panels.specs.DifferencesWords.Differences.{LacksWire}
 use Rattle.match_panels.specs.DifferencesWords.Helper.{LacksFrom, LacksTo}
 
@@ -68,14 +68,14 @@ from-all {one} {other} {number} {bound} exit entries numbered found value all ad
         (record { leaves = sym same; numbered = has.entry_numbered; lacking = by.wire.lacking }))
 
 -- all exits
-pub wires-all : {one other : Wiring} {bound : ℕ} {old new : Wiring} → 1937 ≤ bound → Adds (Upto bound (LacksFrom one other)) old new
-    → Adds (LacksWire one other) old new
-wires-all {one} {other} {bound} last added = adds-as there back added
+pub wires-all : {one other : Wiring} {bound : ℕ} {old new : Wiring} → IsLawfulWiring one → 1041 ≤ bound
+    → Adds (Upto bound (LacksFrom one other)) old new → Adds (LacksWire one other) old new
+wires-all {one} {other} {bound} lawful last added = adds-as there back added
   where
     there : (from to : Hub) → Upto bound (LacksFrom one other) from to → LacksWire one other from to
     there from to (below k less by) = by.wire
 
     back : (from to : Hub) → LacksWire one other from to → Upto bound (LacksFrom one other) from to
     back from to wire =
-        let range = number_of-range from wire.there.number wire.there.numbered in
-        below wire.there.number (omega (arith, last, range.1)) (record { numbered = wire.there.numbered; wire = wire })
+        let exit = (is_exit-number from wire.there.number wire.there.numbered).0 (lawful.leads from to wire.there).0 in
+        below wire.there.number (omega (arith, last, exit)) (record { numbered = wire.there.numbered; wire = wire })

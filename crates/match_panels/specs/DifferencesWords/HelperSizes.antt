@@ -1,5 +1,5 @@
 -- Helpers of the code: counting hub by hub, place by place and line by line.
-use Rattle.std.specs.Prelude.{◌≡◌, ℕ, ◌<◌, Some, true}
+use Rattle.std.specs.Prelude.{◌≡◌, ℕ, ◌<◌, List, Contains, Some, slice_get, take, true}
 use Rattle.hubs.specs.Hubs.{number_of}
 use Rattle.hubs.specs.Jacks.{jack_place}
 use Rattle.hubs.specs.declared.hub.Hub.{Hub}
@@ -7,17 +7,16 @@ use Rattle.hubs.specs.declared.jack.Jack.{Jack}
 use Rattle.hubs.specs.SetupsWords.Tapes.{CarriageTape, has_stop}
 use Rattle.hubs.specs.SetupsWords.Wiring.{Wiring, HasJack, HasWire}
 
--- a wire from an exit to the entry of a number
-pub record WireTo (wiring : Wiring) (exit : Hub) (number : ℕ) (wire : Hub × Hub) : Type 0 where
-  pub leaves : wire.0 ≡ exit
-  pub numbered : number_of wire.1 ≡ Some number
-  pub there : HasWire wiring wire.0 wire.1
+-- the number at a place of a list stands before it too
+pub record HasBefore (numbers : List ℕ) (place : ℕ) : Type 0 where
+  pub number : ℕ
+  pub here : slice_get numbers place ≡ Some number
+  pub before : Contains (take place numbers) number
 
--- a wire from an exit to an entry of a number before one
-pub record WireBefore (wiring : Wiring) (exit : Hub) (number : ℕ) (wire : Hub × Hub) : Type 0 where
-  pub leaves : wire.0 ≡ exit
-  pub there : HasWire wiring wire.0 wire.1
-  pub before : there.to < number
+-- a number stands at a place of a list and nowhere before it
+pub record IsNewAt (numbers : List ℕ) (place number : ℕ) : Type 0 where
+  pub here : slice_get numbers place ≡ Some number
+  pub new : ¬ Contains (take place numbers) number
 
 -- a wire from the exit of a number
 pub record WireFrom (wiring : Wiring) (number : ℕ) (wire : Hub × Hub) : Type 0 where

@@ -9,4 +9,4 @@ pub loop-number-preserved : goal.loop-number-preserved
 loop-number-preserved c = upto-more c.loop-number.invariant c.in_ok-add_from.ensures
 
 pub returns : goal.returns
-returns c = wires-all c.loop-number-test.false c.loop-number.invariant
+returns c = wires-all c.known-its.ensures.wires c.loop-number-test.false c.loop-number.invariant

@@ -1,5 +1,5 @@
 use Rattle.std.proofs.Common.{arith}
-use Rattle.match_panels.proofs.DifferencesWords.Counting.{exits-all, exits-more}
+use Rattle.match_panels.proofs.DifferencesWords.RowWires.{exits-all, exits-more}
 use Rattle.match_panels.proofs.differences.sizes.wires.Goals as goal
 
 pub loop-number-preserved : goal.loop-number-preserved
@@ -10,4 +10,4 @@ loop-number-preserved c = (
 )
 
 pub returns-clause-many : goal.returns-clause-many
-returns-clause-many c = exits-all c.args.setup.now c.loop-number-test.false c.loop-number.invariant.0
+returns-clause-many c = exits-all c.args.setup.now c.known-its.ensures.wires c.loop-number-test.false c.loop-number.invariant.0
