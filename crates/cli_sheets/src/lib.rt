@@ -6,3 +6,4 @@
 
 pub mod bad_columns;
 pub mod sheets;
+mod wording;

@@ -13,5 +13,6 @@
 pub mod fault_words;
 mod listing;
 mod tests;
+mod wording;
 
 pub use listing::{BrokenRule, broken_rules};

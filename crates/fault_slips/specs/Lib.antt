@@ -1,4 +1,5 @@
 pub mod Below
+pub mod Counts
 pub mod LineMarks
 pub mod LineSlips
 pub mod WordSlips

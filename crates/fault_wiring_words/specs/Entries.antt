@@ -14,6 +14,7 @@ use Rattle.wiring_text.specs.declared.fault.WiringFault.{WiringFault}
 use Rattle.wiring_text.specs.declared.fault.WiringFault.TheVariants as wiring
 use Rattle.fault_wiring_words.specs.Lines.{misplaced_told}
 use Rattle.fault_wiring_words.specs.Unfit.{form_place, form_wrong, twice_wrong, unfit_cure, unfit_name, unfit_place, unfit_wrong}
+use Rattle.fault_wiring_words.specs.declared.wording.TheConstants as wording
 
 -- whether a line is the first one of a wiring chart in version 2 of the language, or in version 1
 abbrev pub is_second_title : List ℕ → Bool
@@ -33,12 +34,12 @@ head_entry number line wrong cure = head_line number 72 (codes "NoFirstLine") ++
 -- the entry of a text that has another first line, or else no FORM on line 2
 unfoldable pub title_entry : List ℕ → List ℕ
 title_entry line =
-    head_entry 1 line (codes "the first line is WIRING407 1 or WIRING407 2, and nothing stands before it")
-    (codes "write it there, or look whether this is a chart or a deck")
+    head_entry 1 line wording.THE_FIRST_LINE_IS_THE_TITLE.now
+    wording.WRITE_IT_THERE.now
 
 unfoldable pub form_entry : List ℕ → List ℕ
 form_entry line =
-    head_entry 2 line (codes "line 2 is FORM with three numbers") (codes "FORM takes lines, first line and overflow line: FORM 66 6 60")
+    head_entry 2 line wording.LINE_2_IS_FORM_WITH_THREE_NUMBERS.now wording.WRITE_THE_FORM.now
 
 unfoldable pub first_entry : List ℕ → List ℕ
 first_entry source =
@@ -56,7 +57,7 @@ misplaced_entry source good number =
 unfoldable pub twice_told : List ℕ → List ℕ → List ℕ
 twice_told good line =
     shown line (span_of 1 line) ++ below (twice_wrong (first_line (meets meeting.Same line) good))
-    ++ codes "  take one of them out, or correct the one that was to be another\n"
+    ++ wording.TAKE_ONE_OF_THEM_OUT.now
 
 unfoldable pub twice_entry : List ℕ → List ℕ → ℕ → List ℕ
 twice_entry source good number = head_line number 74 (codes "LineTwice") ++ twice_told good (line_at source number)
@@ -65,7 +66,7 @@ twice_entry source good number = head_line number 74 (codes "LineTwice") ++ twic
 unfoldable pub form_told : List ℕ → List ℕ
 form_told line =
     shown line (span_of (form_place line) line) ++ below (form_wrong line)
-    ++ codes "  a form has 3 to 144 lines, and the other two numbers are lines of it; the lines below are looked at once it is right\n"
+    ++ wording.A_FORM_HAS_3_TO_144_LINES.now
 
 -- what is told of a line that the panel can't have
 unfoldable pub unfit_told : SetupFault → List ℕ → List ℕ → List ℕ → List ℕ
@@ -80,12 +81,12 @@ unfit_entry source good number cause =
 -- the entry of a fault, beside the text without the lines at fault
 abbrev pub wiring_entry : List ℕ → List ℕ → WiringFault → List ℕ
 wiring_entry source good wiring.TooLarge =
-    codes "fault 71 TooLarge\n  a wiring chart has 1,000,000 lines of 60 bytes at most\n  take out empty lines and spaces, or look whether this is another text\n"
+    wording.TOO_LARGE.now
 wiring_entry source good wiring.NoFirstLine = first_entry source
 wiring_entry source good (wiring.NotALine line) = misplaced_entry source good line
 wiring_entry source good (wiring.LineTwice line) = twice_entry source good line
 wiring_entry source good (wiring.Unfit line cause) = unfit_entry source good line cause
-wiring_entry source good wiring.NoEnd = codes "fault 76 NoEnd\n  no line has END alone\n  the last line of a wiring chart is END\n"
+wiring_entry source good wiring.NoEnd = wording.NO_END.now
 wiring_entry source good wiring.Memory = []
 
 -- the entries of faults, one after another
@@ -94,7 +95,7 @@ wiring_entries source good faults = flat_map (wiring_entry source good) faults
 
 -- what stands below 500 entries: no more are listed
 abbrev pub more_words : ℕ → List ℕ
-more_words count = if nat_le 500 count then codes "500 faults are listed, and there may be more\n" else []
+more_words count = if nat_le 500 count then wording.THERE_MAY_BE_MORE.now else []
 
 -- what is listed of the faults of a wiring chart
 unfoldable pub wiring_list : List ℕ → List ℕ → List WiringFault → List ℕ

@@ -12,43 +12,44 @@ use Rattle.fault_wiring_slips.specs.declared.line.LineSlip.{LineSlip}
 use Rattle.fault_wiring_slips.specs.declared.line.LineSlip.TheVariants as line
 use Rattle.fault_wiring_words.specs.Forms.{form_words, jack_words, near_jack, near_word}
 use Rattle.fault_wiring_words.specs.HubWords.{around, hub_cure, hub_wrong, six}
+use Rattle.fault_wiring_words.specs.declared.wording.TheConstants as wording
 
 -- what is wrong by a byte that no line has
 abbrev pub byte_words : Slip → List ℕ
 byte_words slip.Tab = tab_words
-byte_words slip.Comment = codes "a wiring chart has no comments"
-byte_words slip.Quotation = codes "a wiring chart has no quotation marks, and only ASCII characters"
-byte_words slip.Unclosed = codes "a wiring chart has no apostrophes"
-byte_words slip.Small = codes "a wiring chart has only capital letters"
-byte_words slip.Unprintable = codes "this character stands on no line: a wiring chart has capital letters, digits, points and spaces"
-byte_words slip.Other = codes "this is no line of a wiring chart"
+byte_words slip.Comment = wording.NO_COMMENTS.now
+byte_words slip.Quotation = wording.NO_QUOTATION_MARKS.now
+byte_words slip.Unclosed = wording.NO_APOSTROPHES.now
+byte_words slip.Small = wording.ONLY_CAPITAL_LETTERS.now
+byte_words slip.Unprintable = wording.THIS_CHARACTER_STANDS_ON_NO_LINE.now
+byte_words slip.Other = wording.THIS_IS_NO_LINE.now
 
 -- a word with which no line begins
 unfoldable pub no_word : List ℕ → List ℕ
-no_word first = around (codes "no line begins with ") first []
+no_word first = around wording.NO_LINE_BEGINS_WITH.now first []
 
 -- a word behind which others are wanting
 unfoldable pub alone_words : List ℕ → List ℕ
-alone_words first = around (codes "nothing stands behind ") first []
+alone_words first = around wording.NOTHING_STANDS_BEHIND.now first []
 
 -- what is wrong with a line
 unfoldable pub line_wrong : LineSlip → List ℕ → List ℕ
 line_wrong (line.Bytes bytes) text = byte_words bytes
-line_wrong line.TooFew text = codes "WIRE takes two hubs"
-line_wrong line.TwoInOne text = codes "two hubs stand in one word"
-line_wrong (line.TooMany place) text = codes "a word too many stands here"
+line_wrong line.TooFew text = wording.WIRE_TAKES_TWO_HUBS.now
+line_wrong line.TwoInOne text = wording.TWO_HUBS_STAND_IN_ONE_WORD.now
+line_wrong (line.TooMany place) text = wording.A_WORD_TOO_MANY_STANDS_HERE.now
 line_wrong (line.NoExit what) text = hub_wrong what (word 1 text)
 line_wrong (line.NoEntry what) text = hub_wrong what (word 2 text)
-line_wrong line.WiredCarry text = codes "in version 2 a carry has a line of its own"
-line_wrong line.Channel text = codes "the channel of a stop is 2 to 11"
-line_wrong line.StopLine text = codes "a stop stands at a line of the form"
-line_wrong line.NoJack text = around (codes "the panel has no jack ") (word 1 text) []
-line_wrong line.JackNumber text = codes "the panel has no such jack"
+line_wrong line.WiredCarry text = wording.A_CARRY_HAS_A_LINE_OF_ITS_OWN.now
+line_wrong line.Channel text = wording.THE_CHANNEL_OF_A_STOP_IS.now
+line_wrong line.StopLine text = wording.A_STOP_STANDS_AT_A_LINE.now
+line_wrong line.NoJack text = around wording.THE_PANEL_HAS_NO_JACK.now (word 1 text) []
+line_wrong line.JackNumber text = wording.THE_PANEL_HAS_NO_SUCH_JACK.now
 line_wrong line.Alone text = alone_words (word 0 text)
-line_wrong line.NewWord text = around [] (word 0 text) (codes " is a word of version 2")
-line_wrong line.Carry text = codes "these are not the numbers of a carry"
-line_wrong line.SecondForm text = codes "FORM stands on line 2 alone"
-line_wrong line.EndMore text = codes "something stands behind END"
+line_wrong line.NewWord text = around [] (word 0 text) wording.IS_A_WORD_OF_VERSION_2.now
+line_wrong line.Carry text = wording.NOT_THE_NUMBERS_OF_A_CARRY.now
+line_wrong line.SecondForm text = wording.FORM_STANDS_ON_LINE_2_ALONE.now
+line_wrong line.EndMore text = wording.SOMETHING_STANDS_BEHIND_END.now
 line_wrong line.NoWord text = no_word (word 0 text)
 
 -- what helps by a byte that no line has: the form of the line's first word, but for a tab a space
@@ -58,7 +59,7 @@ byte_cure what first = form_words first
 
 -- two hubs of which a wire may be meant
 unfoldable pub meant_wire : List ℕ → List ℕ → List ℕ
-meant_wire exit entry = six (codes "did you mean WIRE ") exit (codes " ") entry (codes "?") []
+meant_wire exit entry = six wording.DID_YOU_MEAN_WIRE.now exit (codes " ") entry (codes "?") []
 
 -- the two hubs of a word
 unfoldable pub two_words : List ℕ → List ℕ
@@ -73,15 +74,15 @@ line_cure (line.TooMany place) text = form_words (word 0 text)
 line_cure (line.NoExit what) text = hub_cure what (word 1 text)
 line_cure (line.NoEntry what) text = hub_cure what (word 2 text)
 line_cure line.WiredCarry text =
-    codes "write RING 3.1 for the carry of one group, and COUPLE 1 2 for a carry between two groups of 8 positions"
+    wording.WRITE_RING_OR_COUPLE.now
 line_cure line.Channel text = form_words (word 0 text)
 line_cure line.StopLine text = form_words (word 0 text)
 line_cure line.NoJack text = near_jack (word 1 text)
 line_cure line.JackNumber text = jack_words (word 1 text)
 line_cure line.Alone text = form_words (word 0 text)
-line_cure line.NewWord text = codes "write WIRING407 2 on line 1, or the carry as a WIRE from CO to CI"
+line_cure line.NewWord text = wording.WRITE_VERSION_2.now
 line_cure line.Carry text = form_words (word 0 text)
-line_cure line.SecondForm text = codes "take it out, or correct line 2"
+line_cure line.SecondForm text = wording.TAKE_IT_OUT_OR_CORRECT_LINE_2.now
 line_cure line.EndMore text = form_words (word 0 text)
 line_cure line.NoWord text = near_word (word 0 text)
 

@@ -2,6 +2,7 @@
 use Rattle.std.specs.Prelude.{ℕ, ◌&&◌, ◌||◌, Bool, false, List, [], ◌++◌, Option, Some, None, codes, decimal, nat_le, not, if◌then◌else◌}
 use Rattle.hubs.specs.HubTable.HubTable.{row_of}
 use Rattle.hubs.specs.HubTable.Ranges.{is_within}
+use Rattle.fault_slips.specs.Counts.{count_text}
 use Rattle.fault_slips.specs.LineMarks.Spans.{word}
 use Rattle.hubs.specs.declared.setups.fault.SetupFault.{SetupFault}
 use Rattle.hubs.specs.declared.setups.fault.SetupFault.TheVariants as panel
@@ -13,17 +14,18 @@ use Rattle.fault_wiring_slips.specs.declared.carry.CarrySlip.{CarrySlip}
 use Rattle.fault_wiring_slips.specs.declared.carry.CarrySlip.TheVariants as carry
 use Rattle.fault_wiring_slips.specs.declared.hub.HubWord.{HubWord}
 use Rattle.fault_wiring_slips.specs.declared.hub.HubWord.TheVariants as hub
-use Rattle.fault_wiring_words.specs.HubWords.{around, hub_cure, hub_wrong, six}
+use Rattle.fault_wiring_words.specs.HubWords.{around, hub_cure, hub_wrong}
 use Rattle.fault_wiring_words.specs.Lines.{meant_wire}
+use Rattle.fault_wiring_words.specs.declared.wording.TheConstants as wording
 
 -- a line that is met, by its number
 unfoldable pub met_words : Option ℕ → List ℕ
-met_words None = codes "another line"
+met_words None = wording.ANOTHER_LINE.now
 met_words (Some number) = codes "line " ++ decimal number
 
 -- what is wrong with a line that stood before
 unfoldable pub twice_wrong : Option ℕ → List ℕ
-twice_wrong met = met_words met ++ codes " says this already"
+twice_wrong met = met_words met ++ wording.SAYS_THIS_ALREADY.now
 
 -- whether a word is an exit of the panel
 abbrev pub is_exit_word : HubWord → Bool
@@ -32,27 +34,27 @@ is_exit_word other = false
 
 -- a group that there isn't
 unfoldable pub no_group : List ℕ → List ℕ
-no_group group = around (codes "there is no counter group ") group []
+no_group group = around wording.THERE_IS_NO_COUNTER_GROUP.now group []
 
 unfoldable pub no_couple : List ℕ → List ℕ
-no_couple number = around (codes "there is no counter group 8.") number []
+no_couple number = around wording.THERE_IS_NO_COUNTER_GROUP_OF_8.now number []
 
 -- what helps there
 abbrev pub group_cure : List ℕ
-group_cure = codes "a counter group has 3, 4, 6 or 8 positions, and there are 8 of each width"
+group_cure = wording.THE_COUNTER_GROUPS_ARE.now
 
 -- what helps where a wire goes the wrong way
 abbrev pub way_cure : List ℕ
-way_cure = codes "a wire leads from an exit to an entry: WIRE SR.1 W.1"
+way_cure = wording.A_WIRE_LEADS_FROM_EXIT_TO_ENTRY.now
 
 -- what is wrong with the first hub of a wire
 abbrev pub exit_wrong : HubWord → List ℕ → List ℕ
-exit_wrong (hub.There letters) exit = around [] exit (codes " is an entry, and a wire begins at an exit")
+exit_wrong (hub.There letters) exit = around [] exit wording.IS_AN_ENTRY.now
 exit_wrong other exit = hub_wrong other exit
 
 -- what is wrong with the second
 abbrev pub entry_wrong : HubWord → List ℕ → List ℕ
-entry_wrong (hub.There letters) entry = around [] entry (codes " is an exit, and a wire ends at an entry")
+entry_wrong (hub.There letters) entry = around [] entry wording.IS_AN_EXIT.now
 entry_wrong other entry = hub_wrong other entry
 
 -- what helps: the two hubs may have to be exchanged
@@ -86,14 +88,14 @@ no_entry_cure text = if begins_with text (codes "COUPLE") then group_cure else e
 
 -- what is wrong with a carry
 unfoldable pub carry_wrong : CarrySlip → List ℕ → List ℕ
-carry_wrong carry.Leads text = around [] (word 1 text) (codes " leads to a CI, and to nothing else")
-carry_wrong carry.Comes text = around [] (word 2 text) (codes " is fed by a CO, and by nothing else")
-carry_wrong carry.Groups text = codes "a carry stays in its group, or goes from one group of 8 positions to another"
-carry_wrong (carry.Meets met) text = met_words met ++ codes " wires the carry of one of these groups in another way"
+carry_wrong carry.Leads text = around [] (word 1 text) wording.LEADS_TO_A_CI.now
+carry_wrong carry.Comes text = around [] (word 2 text) wording.IS_FED_BY_A_CO.now
+carry_wrong carry.Groups text = wording.A_CARRY_STAYS_IN_ITS_GROUP.now
+carry_wrong (carry.Meets met) text = met_words met ++ wording.WIRES_THE_CARRY_IN_ANOTHER_WAY.now
 
 -- what helps
 abbrev pub carry_cure : List ℕ
-carry_cure = codes "a CO leads to one CI and a CI is fed by one CO, and three groups are never joined"
+carry_cure = wording.A_CO_LEADS_TO_ONE_CI.now
 
 -- the place of the word that is marked
 abbrev pub carry_place : CarrySlip → ℕ
@@ -117,21 +119,28 @@ form_place text =
     else if not (is_within (form_number 2 text) (form_number 1 text)) then 2
     else 3
 
--- what is wrong with a form
-unfoldable pub form_wrong : List ℕ → List ℕ
-form_wrong text =
-    six (codes "the form has ") (word 1 text) (codes " lines, its first line is ") (word 2 text) (codes " and its overflow line ") (word 3 text)
-
 -- how many lines a form has
 unfoldable pub form_lines : List ℕ → List ℕ
-form_lines lines = around (codes "the form has ") lines (codes " lines")
+form_lines form = count_text wording.THE_FORM_HAS.now (form_number 1 form) wording.ONE_LINE.now
+
+-- its first line
+unfoldable pub form_first : List ℕ → List ℕ
+form_first form = wording.ITS_FIRST_LINE_IS.now ++ decimal (form_number 2 form)
+
+-- its overflow line
+unfoldable pub form_overflow : List ℕ → List ℕ
+form_overflow form = wording.AND_ITS_OVERFLOW_LINE.now ++ decimal (form_number 3 form)
+
+-- what is wrong with a form
+unfoldable pub form_wrong : List ℕ → List ℕ
+form_wrong form = form_lines form ++ form_first form ++ form_overflow form
 
 -- what is wrong with what a line says, on a form that this line describes and beside the lines of a text
 unfoldable pub unfit_wrong : SetupFault → List ℕ → List ℕ → List ℕ → List ℕ
 unfit_wrong panel.NotExit form good text = no_exit_wrong text
 unfit_wrong panel.NotEntry form good text = no_entry_wrong text
 unfit_wrong panel.CarryRing form good text = carry_wrong (carry_slip text good) text
-unfit_wrong panel.TapeFault form good text = form_lines (word 1 form)
+unfit_wrong panel.TapeFault form good text = form_lines form
 unfit_wrong panel.Memory form good text = []
 
 -- what helps
@@ -139,7 +148,7 @@ unfoldable pub unfit_cure : SetupFault → List ℕ → List ℕ
 unfit_cure panel.NotExit text = no_exit_cure text
 unfit_cure panel.NotEntry text = no_entry_cure text
 unfit_cure panel.CarryRing text = carry_cure
-unfit_cure panel.TapeFault text = codes "move the stop to one of them, or give the form more lines"
+unfit_cure panel.TapeFault text = wording.MOVE_THE_STOP.now
 unfit_cure panel.Memory text = []
 
 -- the place of the word that is marked

@@ -9,6 +9,7 @@ use crate::unfit::{
     form_place, unfit_name, unfit_place, write_form, write_twice, write_unfit_cure,
     write_unfit_wrong,
 };
+use crate::wording;
 use chart_lines::tokens::is_title_line;
 use fault_slips::line_marks::{
     end_line, line_numbered, token_span, write_below, write_head, write_shown,
@@ -67,8 +68,8 @@ fn write_title<W: Write>(out: &mut W, line: &[u8]) -> io::Result<()>
         out,
         1,
         line,
-        b"the first line is WIRING407 1 or WIRING407 2, and nothing stands before it",
-        b"write it there, or look whether this is a chart or a deck",
+        wording::THE_FIRST_LINE_IS_THE_TITLE,
+        wording::WRITE_IT_THERE,
     )
 }
 
@@ -81,8 +82,8 @@ fn write_no_form<W: Write>(out: &mut W, line: &[u8]) -> io::Result<()>
         out,
         2,
         line,
-        b"line 2 is FORM with three numbers",
-        b"FORM takes lines, first line and overflow line: FORM 66 6 60",
+        wording::LINE_2_IS_FORM_WITH_THREE_NUMBERS,
+        wording::WRITE_THE_FORM,
     )
 }
 
@@ -127,7 +128,7 @@ fn write_twice_told<W: Write>(out: &mut W, good: &[u8], line: &[u8]) -> io::Resu
     out.write_all(b"  ")?;
     write_twice(out, first_met(Meeting::Same, line, good))?;
     out.write_all(b"\n")?;
-    out.write_all(b"  take one of them out, or correct the one that was to be another\n")
+    out.write_all(wording::TAKE_ONE_OF_THEM_OUT)
 }
 
 /// Writes the entry of a line that stood before.
@@ -153,9 +154,7 @@ fn write_form_told<W: Write>(out: &mut W, line: &[u8]) -> io::Result<()>
     out.write_all(b"  ")?;
     write_form(out, line)?;
     out.write_all(b"\n")?;
-    out.write_all(
-        b"  a form has 3 to 144 lines, and the other two numbers are lines of it; the lines below are looked at once it is right\n",
-    )
+    out.write_all(wording::A_FORM_HAS_3_TO_144_LINES)
 }
 
 /// Writes what is told of a line that the panel can't have.
@@ -208,16 +207,12 @@ fn write_entry<W: Write>(
     ensures { OnOk result (Appends (W.contents out.old) (W.contents out.new) (law.wiring_entry source.now good.now fault)) }
 {
     match fault {
-        WiringFault::TooLarge => out.write_all(
-            b"fault 71 TooLarge\n  a wiring chart has 1,000,000 lines of 60 bytes at most\n  take out empty lines and spaces, or look whether this is another text\n",
-        ),
+        WiringFault::TooLarge => out.write_all(wording::TOO_LARGE),
         WiringFault::NoFirstLine => write_first(out, source),
         WiringFault::NotALine { line } => write_misplaced_entry(out, source, good, line),
         WiringFault::LineTwice { line } => write_twice_entry(out, source, good, line),
         WiringFault::Unfit { line, fault } => write_unfit_entry(out, source, good, line, fault),
-        WiringFault::NoEnd => out.write_all(
-            b"fault 76 NoEnd\n  no line has END alone\n  the last line of a wiring chart is END\n",
-        ),
+        WiringFault::NoEnd => out.write_all(wording::NO_END),
         WiringFault::Memory => out.write_all(b""),
     }
 }
@@ -242,7 +237,7 @@ fn more_words(count: usize) -> &'static str
     ensures { result.now ≡ law.more_words count }
 {
     if count >= 500 {
-        "500 faults are listed, and there may be more\n"
+        wording::THERE_MAY_BE_MORE
     } else {
         ""
     }

@@ -3,6 +3,7 @@
 ghost use Rattle.std.specs.Prelude.{◌≡◌};
 ghost use Rattle.fault_wiring_words.specs.Forms as law;
 
+use crate::wording;
 use chart_lines::tokens::is;
 use fault_slips::line_slips::{is_near, is_word};
 
@@ -12,21 +13,21 @@ pub(crate) fn form_words(word: &[u8]) -> &'static str
     ensures { result.now ≡ law.form_words word.now }
 {
     if is_word(word, b"WIRE") {
-        "WIRE takes an exit and an entry, with a space between them: WIRE SR.1 W.1"
+        wording::WIRE_TAKES
     } else if is_word(word, b"STOP") {
-        "STOP takes a channel 2 to 11 and a line of the form: STOP 3 20"
+        wording::STOP_TAKES
     } else if is_word(word, b"JACK") {
-        "JACK takes LIST, TOTAL 1 to 4, HEAD 1 to 3, or LINK, SUPPRESS or SYMBOL and a wheel 1 to 120: JACK LINK 7"
+        wording::JACK_TAKES
     } else if is_word(word, b"RING") {
-        "RING takes a counter group, its width and its number: RING 3.1"
+        wording::RING_TAKES
     } else if is_word(word, b"COUPLE") {
-        "COUPLE takes the numbers of two different groups of 8 positions: COUPLE 1 2"
+        wording::COUPLE_TAKES
     } else if is_word(word, b"FORM") {
-        "FORM takes three numbers, lines, first line and overflow line: FORM 66 6 60"
+        wording::FORM_TAKES
     } else if is_word(word, b"END") {
-        "END stands alone, and nothing behind it"
+        wording::END_STANDS_ALONE
     } else {
-        "a line begins with STOP, JACK, WIRE or END, in version 2 with RING or COUPLE too"
+        wording::A_LINE_BEGINS_WITH
     }
 }
 
@@ -36,17 +37,17 @@ pub(crate) fn near_word(word: &[u8]) -> &'static str
     ensures { result.now ≡ law.near_word word.now }
 {
     if is_near(b"WIRE", word) {
-        "did you mean WIRE?"
+        wording::MEANT_WIRE
     } else if is_near(b"STOP", word) {
-        "did you mean STOP?"
+        wording::MEANT_STOP
     } else if is_near(b"JACK", word) {
-        "did you mean JACK?"
+        wording::MEANT_JACK
     } else if is_near(b"RING", word) {
-        "did you mean RING?"
+        wording::MEANT_RING
     } else if is_near(b"COUPLE", word) {
-        "did you mean COUPLE?"
+        wording::MEANT_COUPLE
     } else if is_near(b"END", word) {
-        "did you mean END?"
+        wording::MEANT_END
     } else {
         form_words(word)
     }
@@ -58,19 +59,19 @@ pub(crate) fn near_jack(name: &[u8]) -> &'static str
     ensures { result.now ≡ law.near_jack name.now }
 {
     if is_near(b"LIST", name) {
-        "did you mean LIST?"
+        wording::MEANT_LIST
     } else if is_near(b"TOTAL", name) {
-        "did you mean TOTAL?"
+        wording::MEANT_TOTAL
     } else if is_near(b"HEAD", name) {
-        "did you mean HEAD?"
+        wording::MEANT_HEAD
     } else if is_near(b"LINK", name) {
-        "did you mean LINK?"
+        wording::MEANT_LINK
     } else if is_near(b"SUPPRESS", name) {
-        "did you mean SUPPRESS?"
+        wording::MEANT_SUPPRESS
     } else if is_near(b"SYMBOL", name) {
-        "did you mean SYMBOL?"
+        wording::MEANT_SYMBOL
     } else {
-        "the jacks are LIST, TOTAL, HEAD, LINK, SUPPRESS and SYMBOL"
+        wording::THE_JACKS_ARE
     }
 }
 
@@ -80,10 +81,10 @@ pub(crate) fn jack_words(name: &[u8]) -> &'static str
     ensures { result.now ≡ law.jack_words name.now }
 {
     if is(name, b"TOTAL") {
-        "JACK TOTAL takes a level 1 to 4"
+        wording::JACK_TOTAL_TAKES
     } else if is(name, b"HEAD") {
-        "JACK HEAD takes a heading cycle 1 to 3"
+        wording::JACK_HEAD_TAKES
     } else {
-        "LINK, SUPPRESS and SYMBOL take a wheel 1 to 120"
+        wording::WHEEL_JACKS_TAKE
     }
 }

@@ -4,6 +4,7 @@ ghost use Rattle.std.specs.Prelude.{◌≡◌, OnOk};
 ghost use Rattle.std.specs.Io.KnownBytes.{Appends};
 ghost use Rattle.fault_wiring_words.specs.HubWords as law;
 
+use crate::wording;
 use fault_wiring_slips::{HubWord, is_there, is_unpointed, letters_in, tail_of};
 use hubs::hub_table::Letters;
 use std::io;
@@ -14,28 +15,26 @@ fn range_words(letters: Letters) -> &'static str
     ensures { result.now ≡ law.range_words letters }
 {
     match letters {
-        Letters::FR | Letters::SR => "columns 1 to 80",
-        Letters::CX | Letters::CA | Letters::CB => "comparing positions 1 to 30",
-        Letters::GX | Letters::GE =>
-            "a counter group, its width 3, 4, 6 or 8 and its number 1 to 8, and a position 1 to the width",
+        Letters::FR | Letters::SR => wording::COLUMNS,
+        Letters::CX | Letters::CA | Letters::CB => wording::COMPARING_POSITIONS,
+        Letters::GX | Letters::GE => wording::A_COUNTER_POSITION,
         Letters::CO | Letters::PL | Letters::MI | Letters::RO | Letters::BT | Letters::CI =>
-            "a counter group, its width 3, 4, 6 or 8 and its number 1 to 8",
-        Letters::BAN | Letters::BAT | Letters::BAC =>
-            "a counter group, its width 3, 4, 6 or 8 and its number 1 to 8, and a balance position 1 to 4",
-        Letters::PIN | Letters::PIT | Letters::PIC => "a pilot 1 to 16 and its position 1 to 3",
-        Letters::PIX => "pilots 1 to 16",
-        Letters::SX | Letters::SE => "a storage unit 1 to 4 and its column 1 to 16",
-        Letters::SI | Letters::SO => "storage units 1 to 4",
-        Letters::IX | Letters::IE => "a level 1 to 3 and an indicate position 1 to 30",
-        Letters::CSD | Letters::CSZ | Letters::CSE => "column splits 1 to 16",
-        Letters::EM => "an emitter 1 to 8 and a row 0 to 9, 11 or 12",
-        Letters::CC | Letters::RS => "no number",
-        Letters::PX => "a level 1 to 4 and a cycle 1 to 3",
-        Letters::HX => "heading cycles 1 to 3",
-        Letters::W => "wheels 1 to 120",
-        Letters::ST => "levels 1 to 3",
-        Letters::SP => "the hubs SP.2 and SP.3, for 2 and 3 lines",
-        Letters::SK => "channels 1 to 12",
+            wording::A_COUNTER_GROUP,
+        Letters::BAN | Letters::BAT | Letters::BAC => wording::A_BALANCE_POSITION,
+        Letters::PIN | Letters::PIT | Letters::PIC => wording::A_PILOT_POSITION,
+        Letters::PIX => wording::PILOTS,
+        Letters::SX | Letters::SE => wording::A_STORAGE_COLUMN,
+        Letters::SI | Letters::SO => wording::STORAGE_UNITS,
+        Letters::IX | Letters::IE => wording::AN_INDICATE_POSITION,
+        Letters::CSD | Letters::CSZ | Letters::CSE => wording::COLUMN_SPLITS,
+        Letters::EM => wording::AN_EMITTER_ROW,
+        Letters::CC | Letters::RS => wording::NO_NUMBER,
+        Letters::PX => wording::A_PROGRAM_CYCLE,
+        Letters::HX => wording::HEADING_CYCLES,
+        Letters::W => wording::WHEELS,
+        Letters::ST => wording::LEVELS,
+        Letters::SP => wording::SPACING_HUBS,
+        Letters::SK => wording::CHANNELS,
     }
 }
 
@@ -81,7 +80,7 @@ fn write_has<W: Write>(out: &mut W, letters: Letters) -> io::Result<()>
     write_around(
         out,
         letters.spelled().as_bytes(),
-        b" has ",
+        wording::HAS,
         range_words(letters).as_bytes(),
     )
 }
@@ -103,7 +102,15 @@ fn write_meant_hub<W: Write>(
 ) -> io::Result<()>
     ensures { OnOk result (Appends (W.contents out.old) (W.contents out.new) (law.meant_hub spelled.now missing.now tail.now)) }
 {
-    write_six(out, b"did you mean ", spelled, missing, tail, b"? ", b"")
+    write_six(
+        out,
+        wording::DID_YOU_MEAN,
+        spelled,
+        missing,
+        tail,
+        b"? ",
+        b"",
+    )
 }
 
 /// Writes these letters alone.
@@ -111,7 +118,7 @@ fn write_meant_hub<W: Write>(
 fn write_meant_letters<W: Write>(out: &mut W, spelled: &[u8]) -> io::Result<()>
     ensures { OnOk result (Appends (W.contents out.old) (W.contents out.new) (law.meant_letters spelled.now)) }
 {
-    write_around(out, b"did you mean ", spelled, b"? ")
+    write_around(out, wording::DID_YOU_MEAN, spelled, b"? ")
 }
 
 /// Writes the hub that may be meant, if the panel has it, or else its letters.
@@ -143,18 +150,13 @@ pub(crate) fn write_hub_wrong<W: Write>(out: &mut W, what: HubWord, word: &[u8])
     ensures { OnOk result (Appends (W.contents out.old) (W.contents out.new) (law.hub_wrong what word.now)) }
 {
     match what {
-        HubWord::There(_) => write_around(out, b"", word, b" is a hub of the panel"),
-        HubWord::OutOfRange(_) => write_around(out, b"the panel has no ", word, b""),
-        HubWord::Misnumbered(_) => write_around(
-            out,
-            b"",
-            word,
-            b" is no hub: a number is missing, one too many or written wrongly; each has a point before it, and no leading zero",
-        ),
+        HubWord::There(_) => write_around(out, b"", word, wording::IS_A_HUB_OF_THE_PANEL),
+        HubWord::OutOfRange(_) => write_around(out, wording::THE_PANEL_HAS_NO, word, b""),
+        HubWord::Misnumbered(_) => write_around(out, b"", word, wording::IS_MISNUMBERED),
         HubWord::Misspelt(_) => {
-            write_around(out, b"no hub has the letters ", letters_in(word), b"")
+            write_around(out, wording::NO_HUB_HAS_THE_LETTERS, letters_in(word), b"")
         }
-        HubWord::Unknown => write_around(out, b"", word, b" is no hub"),
+        HubWord::Unknown => write_around(out, b"", word, wording::IS_NO_HUB),
     }
 }
 
@@ -172,8 +174,6 @@ pub(crate) fn write_hub_cure<W: Write>(out: &mut W, what: HubWord, word: &[u8]) 
             write_meant(out, letters, tail_of(word))?;
             write_has(out, letters)
         }
-        HubWord::Unknown => out.write_all(
-            b"a hub is its letters and its numbers, a point before each: SR.17 or GX.4.1.2",
-        ),
+        HubWord::Unknown => out.write_all(wording::A_HUB_IS),
     }
 }

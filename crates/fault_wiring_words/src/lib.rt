@@ -12,5 +12,6 @@ mod forms;
 mod hub_words;
 mod lines;
 mod unfit;
+mod wording;
 
 pub use entries::write_wiring_list;

@@ -6,6 +6,7 @@ ghost use Rattle.fault_wiring_words.specs.Lines as law;
 
 use crate::forms::{form_words, jack_words, near_jack, near_word};
 use crate::hub_words::{write_around, write_hub_cure, write_hub_wrong, write_six};
+use crate::wording;
 use fault_slips::line_marks::{word, write_shown};
 use fault_slips::line_slips::{Slip, tab_cure, tab_words, write_behind};
 use fault_wiring_slips::{LineSlip, line_slip, line_span, second_place};
@@ -18,13 +19,12 @@ fn byte_words(slip: Slip) -> &'static str
 {
     match slip {
         Slip::Tab => tab_words(),
-        Slip::Comment => "a wiring chart has no comments",
-        Slip::Quotation => "a wiring chart has no quotation marks, and only ASCII characters",
-        Slip::Unclosed => "a wiring chart has no apostrophes",
-        Slip::Small => "a wiring chart has only capital letters",
-        Slip::Unprintable =>
-            "this character stands on no line: a wiring chart has capital letters, digits, points and spaces",
-        Slip::Other => "this is no line of a wiring chart",
+        Slip::Comment => wording::NO_COMMENTS,
+        Slip::Quotation => wording::NO_QUOTATION_MARKS,
+        Slip::Unclosed => wording::NO_APOSTROPHES,
+        Slip::Small => wording::ONLY_CAPITAL_LETTERS,
+        Slip::Unprintable => wording::THIS_CHARACTER_STANDS_ON_NO_LINE,
+        Slip::Other => wording::THIS_IS_NO_LINE,
     }
 }
 
@@ -33,7 +33,7 @@ fn byte_words(slip: Slip) -> &'static str
 fn write_no_word<W: Write>(out: &mut W, first: &[u8]) -> io::Result<()>
     ensures { OnOk result (Appends (W.contents out.old) (W.contents out.new) (law.no_word first.now)) }
 {
-    write_around(out, b"no line begins with ", first, b"")
+    write_around(out, wording::NO_LINE_BEGINS_WITH, first, b"")
 }
 
 /// Writes a word behind which others are wanting.
@@ -41,7 +41,7 @@ fn write_no_word<W: Write>(out: &mut W, first: &[u8]) -> io::Result<()>
 fn write_alone<W: Write>(out: &mut W, first: &[u8]) -> io::Result<()>
     ensures { OnOk result (Appends (W.contents out.old) (W.contents out.new) (law.alone_words first.now)) }
 {
-    write_around(out, b"nothing stands behind ", first, b"")
+    write_around(out, wording::NOTHING_STANDS_BEHIND, first, b"")
 }
 
 /// Writes what is wrong with a line.
@@ -51,21 +51,21 @@ fn write_wrong<W: Write>(out: &mut W, slip: LineSlip, line: &[u8]) -> io::Result
 {
     match slip {
         LineSlip::Bytes(bytes) => out.write_all(byte_words(bytes).as_bytes()),
-        LineSlip::TooFew => out.write_all(b"WIRE takes two hubs"),
-        LineSlip::TwoInOne => out.write_all(b"two hubs stand in one word"),
-        LineSlip::TooMany(_) => out.write_all(b"a word too many stands here"),
+        LineSlip::TooFew => out.write_all(wording::WIRE_TAKES_TWO_HUBS),
+        LineSlip::TwoInOne => out.write_all(wording::TWO_HUBS_STAND_IN_ONE_WORD),
+        LineSlip::TooMany(_) => out.write_all(wording::A_WORD_TOO_MANY_STANDS_HERE),
         LineSlip::NoExit(what) => write_hub_wrong(out, what, word(line, 1)),
         LineSlip::NoEntry(what) => write_hub_wrong(out, what, word(line, 2)),
-        LineSlip::WiredCarry => out.write_all(b"in version 2 a carry has a line of its own"),
-        LineSlip::Channel => out.write_all(b"the channel of a stop is 2 to 11"),
-        LineSlip::StopLine => out.write_all(b"a stop stands at a line of the form"),
-        LineSlip::NoJack => write_around(out, b"the panel has no jack ", word(line, 1), b""),
-        LineSlip::JackNumber => out.write_all(b"the panel has no such jack"),
+        LineSlip::WiredCarry => out.write_all(wording::A_CARRY_HAS_A_LINE_OF_ITS_OWN),
+        LineSlip::Channel => out.write_all(wording::THE_CHANNEL_OF_A_STOP_IS),
+        LineSlip::StopLine => out.write_all(wording::A_STOP_STANDS_AT_A_LINE),
+        LineSlip::NoJack => write_around(out, wording::THE_PANEL_HAS_NO_JACK, word(line, 1), b""),
+        LineSlip::JackNumber => out.write_all(wording::THE_PANEL_HAS_NO_SUCH_JACK),
         LineSlip::Alone => write_alone(out, word(line, 0)),
-        LineSlip::NewWord => write_around(out, b"", word(line, 0), b" is a word of version 2"),
-        LineSlip::Carry => out.write_all(b"these are not the numbers of a carry"),
-        LineSlip::SecondForm => out.write_all(b"FORM stands on line 2 alone"),
-        LineSlip::EndMore => out.write_all(b"something stands behind END"),
+        LineSlip::NewWord => write_around(out, b"", word(line, 0), wording::IS_A_WORD_OF_VERSION_2),
+        LineSlip::Carry => out.write_all(wording::NOT_THE_NUMBERS_OF_A_CARRY),
+        LineSlip::SecondForm => out.write_all(wording::FORM_STANDS_ON_LINE_2_ALONE),
+        LineSlip::EndMore => out.write_all(wording::SOMETHING_STANDS_BEHIND_END),
         LineSlip::NoWord => write_no_word(out, word(line, 0)),
     }
 }
@@ -85,7 +85,15 @@ fn byte_cure(slip: Slip, first: &[u8]) -> &'static str
 pub(crate) fn write_meant_wire<W: Write>(out: &mut W, exit: &[u8], entry: &[u8]) -> io::Result<()>
     ensures { OnOk result (Appends (W.contents out.old) (W.contents out.new) (law.meant_wire exit.now entry.now)) }
 {
-    write_six(out, b"did you mean WIRE ", exit, b" ", entry, b"?", b"")
+    write_six(
+        out,
+        wording::DID_YOU_MEAN_WIRE,
+        exit,
+        b" ",
+        entry,
+        b"?",
+        b"",
+    )
 }
 
 /// Writes the two hubs of a word.
@@ -114,15 +122,11 @@ fn write_cure<W: Write>(out: &mut W, slip: LineSlip, line: &[u8]) -> io::Result<
         LineSlip::TwoInOne => write_two(out, word(line, 1)),
         LineSlip::NoExit(what) => write_hub_cure(out, what, word(line, 1)),
         LineSlip::NoEntry(what) => write_hub_cure(out, what, word(line, 2)),
-        LineSlip::WiredCarry => out.write_all(
-            b"write RING 3.1 for the carry of one group, and COUPLE 1 2 for a carry between two groups of 8 positions",
-        ),
+        LineSlip::WiredCarry => out.write_all(wording::WRITE_RING_OR_COUPLE),
         LineSlip::NoJack => out.write_all(near_jack(word(line, 1)).as_bytes()),
         LineSlip::JackNumber => out.write_all(jack_words(word(line, 1)).as_bytes()),
-        LineSlip::NewWord => out.write_all(
-            b"write WIRING407 2 on line 1, or the carry as a WIRE from CO to CI",
-        ),
-        LineSlip::SecondForm => out.write_all(b"take it out, or correct line 2"),
+        LineSlip::NewWord => out.write_all(wording::WRITE_VERSION_2),
+        LineSlip::SecondForm => out.write_all(wording::TAKE_IT_OUT_OR_CORRECT_LINE_2),
         LineSlip::NoWord => out.write_all(near_word(word(line, 0)).as_bytes()),
     }
 }

@@ -5,22 +5,17 @@ ghost use Rattle.std.specs.Io.KnownBytes.{Appends};
 ghost use Rattle.hubs.specs.HubTable.Ranges.{is_within};
 ghost use Rattle.fault_wiring_words.specs.Unfit as law;
 
-use crate::hub_words::{write_around, write_hub_cure, write_hub_wrong, write_six};
+use crate::hub_words::{write_around, write_hub_cure, write_hub_wrong};
 use crate::lines::write_meant_wire;
+use crate::wording;
 use chart_lines::tokens::read_number;
 use chart_numerals::write_numbered;
+use fault_slips::counts::write_count;
 use fault_slips::line_marks::word;
 use fault_wiring_slips::{CarrySlip, HubWord, begins_with, carry_slip, hub_word};
 use hubs::setups::SetupFault;
 use std::io;
 use std::io::Write;
-
-/// What helps where there is no such counter group.
-const GROUP_CURE: &[u8] =
-    b"a counter group has 3, 4, 6 or 8 positions, and there are 8 of each width";
-
-/// What helps where a wire goes the wrong way.
-const WAY_CURE: &[u8] = b"a wire leads from an exit to an entry: WIRE SR.1 W.1";
 
 /// Writes a line that is met, by its number.
 #[tactic(auto, unfolding(crate::specs::Unfit::met_words))]
@@ -29,7 +24,7 @@ fn write_met<W: Write>(out: &mut W, met: Option<u64>) -> io::Result<()>
 {
     match met {
         Some(number) => write_numbered(out, "line ", number),
-        None => out.write_all(b"another line"),
+        None => out.write_all(wording::ANOTHER_LINE),
     }
 }
 
@@ -39,7 +34,7 @@ pub(crate) fn write_twice<W: Write>(out: &mut W, met: Option<u64>) -> io::Result
     ensures { OnOk result (Appends (W.contents out.old) (W.contents out.new) (law.twice_wrong met)) }
 {
     write_met(out, met)?;
-    out.write_all(b" says this already")
+    out.write_all(wording::SAYS_THIS_ALREADY)
 }
 
 /// Whether a word is an exit of the panel.
@@ -57,14 +52,7 @@ fn write_exit_wrong<W: Write>(out: &mut W, what: HubWord, exit: &[u8]) -> io::Re
     ensures { OnOk result (Appends (W.contents out.old) (W.contents out.new) (law.exit_wrong what exit.now)) }
 {
     match what {
-        HubWord::There(_) => {
-            write_around(
-                out,
-                b"",
-                exit,
-                b" is an entry, and a wire begins at an exit",
-            )
-        }
+        HubWord::There(_) => write_around(out, b"", exit, wording::IS_AN_ENTRY),
         other => write_hub_wrong(out, other, exit),
     }
 }
@@ -74,9 +62,7 @@ fn write_entry_wrong<W: Write>(out: &mut W, what: HubWord, entry: &[u8]) -> io::
     ensures { OnOk result (Appends (W.contents out.old) (W.contents out.new) (law.entry_wrong what entry.now)) }
 {
     match what {
-        HubWord::There(_) => {
-            write_around(out, b"", entry, b" is an exit, and a wire ends at an entry")
-        }
+        HubWord::There(_) => write_around(out, b"", entry, wording::IS_AN_EXIT),
         other => write_hub_wrong(out, other, entry),
     }
 }
@@ -95,7 +81,7 @@ fn write_exit_cure<W: Write>(
             if is_exit_word(hub_word(entry)) {
                 write_meant_wire(out, entry, exit)
             } else {
-                out.write_all(WAY_CURE)
+                out.write_all(wording::A_WIRE_LEADS_FROM_EXIT_TO_ENTRY)
             }
         }
         other => write_hub_cure(out, other, exit),
@@ -107,7 +93,7 @@ fn write_entry_cure<W: Write>(out: &mut W, what: HubWord, entry: &[u8]) -> io::R
     ensures { OnOk result (Appends (W.contents out.old) (W.contents out.new) (law.entry_cure what entry.now)) }
 {
     match what {
-        HubWord::There(_) => out.write_all(WAY_CURE),
+        HubWord::There(_) => out.write_all(wording::A_WIRE_LEADS_FROM_EXIT_TO_ENTRY),
         other => write_hub_cure(out, other, entry),
     }
 }
@@ -117,7 +103,7 @@ fn write_entry_cure<W: Write>(out: &mut W, what: HubWord, entry: &[u8]) -> io::R
 fn write_no_group<W: Write>(out: &mut W, group: &[u8]) -> io::Result<()>
     ensures { OnOk result (Appends (W.contents out.old) (W.contents out.new) (law.no_group group.now)) }
 {
-    write_around(out, b"there is no counter group ", group, b"")
+    write_around(out, wording::THERE_IS_NO_COUNTER_GROUP, group, b"")
 }
 
 /// Writes a counter group of 8 positions that there isn't.
@@ -125,7 +111,7 @@ fn write_no_group<W: Write>(out: &mut W, group: &[u8]) -> io::Result<()>
 fn write_no_couple<W: Write>(out: &mut W, number: &[u8]) -> io::Result<()>
     ensures { OnOk result (Appends (W.contents out.old) (W.contents out.new) (law.no_couple number.now)) }
 {
-    write_around(out, b"there is no counter group 8.", number, b"")
+    write_around(out, wording::THERE_IS_NO_COUNTER_GROUP_OF_8, number, b"")
 }
 
 /// Writes what is wrong with a line whose exit is none.
@@ -149,7 +135,7 @@ fn write_no_exit_cure<W: Write>(out: &mut W, line: &[u8]) -> io::Result<()>
     ensures { OnOk result (Appends (W.contents out.old) (W.contents out.new) (law.no_exit_cure line.now)) }
 {
     if begins_with(line, b"RING") || begins_with(line, b"COUPLE") {
-        out.write_all(GROUP_CURE)
+        out.write_all(wording::THE_COUNTER_GROUPS_ARE)
     } else {
         let exit = word(line, 1);
         write_exit_cure(out, hub_word(exit), exit, word(line, 2))
@@ -175,7 +161,7 @@ fn write_no_entry_cure<W: Write>(out: &mut W, line: &[u8]) -> io::Result<()>
     ensures { OnOk result (Appends (W.contents out.old) (W.contents out.new) (law.no_entry_cure line.now)) }
 {
     if begins_with(line, b"COUPLE") {
-        out.write_all(GROUP_CURE)
+        out.write_all(wording::THE_COUNTER_GROUPS_ARE)
     } else {
         let entry = word(line, 2);
         write_entry_cure(out, hub_word(entry), entry)
@@ -188,28 +174,12 @@ fn write_carry_wrong<W: Write>(out: &mut W, slip: CarrySlip, line: &[u8]) -> io:
     ensures { OnOk result (Appends (W.contents out.old) (W.contents out.new) (law.carry_wrong slip line.now)) }
 {
     match slip {
-        CarrySlip::Leads => {
-            write_around(
-                out,
-                b"",
-                word(line, 1),
-                b" leads to a CI, and to nothing else",
-            )
-        }
-        CarrySlip::Comes => {
-            write_around(
-                out,
-                b"",
-                word(line, 2),
-                b" is fed by a CO, and by nothing else",
-            )
-        }
-        CarrySlip::Groups => out.write_all(
-            b"a carry stays in its group, or goes from one group of 8 positions to another",
-        ),
+        CarrySlip::Leads => write_around(out, b"", word(line, 1), wording::LEADS_TO_A_CI),
+        CarrySlip::Comes => write_around(out, b"", word(line, 2), wording::IS_FED_BY_A_CO),
+        CarrySlip::Groups => out.write_all(wording::A_CARRY_STAYS_IN_ITS_GROUP),
         CarrySlip::Meets(met) => {
             write_met(out, met)?;
-            out.write_all(b" wires the carry of one of these groups in another way")
+            out.write_all(wording::WIRES_THE_CARRY_IN_ANOTHER_WAY)
         }
     }
 }
@@ -257,28 +227,43 @@ pub(crate) fn form_place(line: &[u8]) -> usize
     }
 }
 
-/// Writes what is wrong with a form.
-#[tactic(auto, unfolding(crate::specs::Unfit::form_wrong))]
-pub(crate) fn write_form<W: Write>(out: &mut W, line: &[u8]) -> io::Result<()>
-    ensures { OnOk result (Appends (W.contents out.old) (W.contents out.new) (law.form_wrong line.now)) }
+/// Writes how many lines a form has.
+#[tactic(auto, unfolding(crate::specs::Unfit::form_lines))]
+fn write_form_lines<W: Write>(out: &mut W, form: &[u8]) -> io::Result<()>
+    ensures { OnOk result (Appends (W.contents out.old) (W.contents out.new) (law.form_lines form.now)) }
 {
-    write_six(
+    write_count(
         out,
-        b"the form has ",
-        word(line, 1),
-        b" lines, its first line is ",
-        word(line, 2),
-        b" and its overflow line ",
-        word(line, 3),
+        wording::THE_FORM_HAS,
+        u32::from(form_number(form, 1)),
+        wording::ONE_LINE,
     )
 }
 
-/// Writes how many lines a form has.
-#[tactic(auto, unfolding(crate::specs::Unfit::form_lines))]
-fn write_form_lines<W: Write>(out: &mut W, lines: &[u8]) -> io::Result<()>
-    ensures { OnOk result (Appends (W.contents out.old) (W.contents out.new) (law.form_lines lines.now)) }
+/// Writes its first line.
+#[tactic(auto, unfolding(crate::specs::Unfit::form_first))]
+fn write_form_first<W: Write>(out: &mut W, form: &[u8]) -> io::Result<()>
+    ensures { OnOk result (Appends (W.contents out.old) (W.contents out.new) (law.form_first form.now)) }
 {
-    write_around(out, b"the form has ", lines, b" lines")
+    write_numbered(out, wording::ITS_FIRST_LINE_IS, form_number(form, 2))
+}
+
+/// Writes its overflow line.
+#[tactic(auto, unfolding(crate::specs::Unfit::form_overflow))]
+fn write_form_overflow<W: Write>(out: &mut W, form: &[u8]) -> io::Result<()>
+    ensures { OnOk result (Appends (W.contents out.old) (W.contents out.new) (law.form_overflow form.now)) }
+{
+    write_numbered(out, wording::AND_ITS_OVERFLOW_LINE, form_number(form, 3))
+}
+
+/// Writes what is wrong with a form.
+#[tactic(auto, unfolding(crate::specs::Unfit::form_wrong))]
+pub(crate) fn write_form<W: Write>(out: &mut W, form: &[u8]) -> io::Result<()>
+    ensures { OnOk result (Appends (W.contents out.old) (W.contents out.new) (law.form_wrong form.now)) }
+{
+    write_form_lines(out, form)?;
+    write_form_first(out, form)?;
+    write_form_overflow(out, form)
 }
 
 /// Writes what is wrong with what a line says, on a form that the line `form` describes and beside the lines of a text.
@@ -296,7 +281,7 @@ pub(crate) fn write_unfit_wrong<W: Write>(
         SetupFault::NotExit => write_no_exit_wrong(out, line),
         SetupFault::NotEntry => write_no_entry_wrong(out, line),
         SetupFault::CarryRing => write_carry_wrong(out, carry_slip(line, good), line),
-        SetupFault::TapeFault => write_form_lines(out, word(form, 1)),
+        SetupFault::TapeFault => write_form_lines(out, form),
         SetupFault::Memory => out.write_all(b""),
     }
 }
@@ -313,12 +298,8 @@ pub(crate) fn write_unfit_cure<W: Write>(
     match fault {
         SetupFault::NotExit => write_no_exit_cure(out, line),
         SetupFault::NotEntry => write_no_entry_cure(out, line),
-        SetupFault::CarryRing => out.write_all(
-            b"a CO leads to one CI and a CI is fed by one CO, and three groups are never joined",
-        ),
-        SetupFault::TapeFault => {
-            out.write_all(b"move the stop to one of them, or give the form more lines")
-        }
+        SetupFault::CarryRing => out.write_all(wording::A_CO_LEADS_TO_ONE_CI),
+        SetupFault::TapeFault => out.write_all(wording::MOVE_THE_STOP),
         SetupFault::Memory => out.write_all(b""),
     }
 }

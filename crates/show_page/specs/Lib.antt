@@ -1,5 +1,6 @@
 pub mod Begin
 pub mod Choice
+pub mod Counts
 pub mod Cycles
 pub mod Frame
 pub mod Helper

@@ -1,10 +1,11 @@
 -- What stands at the head of the page: its title, and how many cards, lines and wires there are.
-use Rattle.std.specs.Prelude.{ℕ, ◌==◌, List, [], ◌∷◌, ◌++◌, codes, decimal, if◌then◌else◌}
+use Rattle.std.specs.Prelude.{ℕ, ◌==◌, List, [], ◌∷◌, ◌++◌, codes, if◌then◌else◌}
 use Rattle.chart_lines.specs.declared.charts.chart.Line.{Line}
 use Rattle.chart_lines.specs.declared.charts.statement.Statement.{Statement}
 use Rattle.chart_lines.specs.declared.charts.statement.Statement.TheVariants as says
 use Rattle.show_drawings.specs.MarkupWords.Escapes.{escaped}
 use Rattle.page_text.specs.Pages.{without_trailing_blanks}
+use Rattle.show_page.specs.Counts.{counted}
 use Rattle.show_page.specs.Frame.{document_open, header_open, style_open}
 use Rattle.show_page.specs.declared.head.RunCounts.{RunCounts}
 
@@ -22,13 +23,6 @@ words_or (first ∷ rest) others = first ∷ rest
 abbrev pub heading_of : List Line → List ℕ
 heading_of [] = []
 heading_of (line ∷ others) = words_or (heading_words line.statement) (heading_of others)
-
--- so many things
-abbrev pub plural : ℕ → List ℕ
-plural number = if number == 1 then [] else codes "s"
-
-unfoldable pub counted : ℕ → List ℕ → List ℕ
-counted number words = decimal number ++ codes " " ++ words ++ plural number
 
 -- a title that says how many cards the report is of
 unfoldable pub plain_open : List ℕ
@@ -55,11 +49,24 @@ run_words cards lines = read_words ++ counted cards (codes "card") ++ printed_wo
 unfoldable pub program_open : List ℕ
 program_open = codes ". It had no program: "
 
-unfoldable pub program_close : List ℕ
-program_close = codes " on a panel decided what it did. Choose anything on this page that is printed, punched or wired.</p>\n"
+unfoldable pub panel_words : List ℕ
+panel_words = codes " on a panel decided what it did"
 
-unfoldable pub program_words : ℕ → List ℕ
-program_words wires = program_open ++ counted wires (codes "wire") ++ program_close
+unfoldable pub wired_words : (wires : ℕ) → List ℕ
+wired_words wires = program_open ++ counted wires (codes "wire") ++ panel_words
+
+-- of a panel without wires
+unfoldable pub bare_words : List ℕ
+bare_words = codes ". It had no program, and its panel had no wires"
+
+abbrev pub what_decided : (wires : ℕ) → List ℕ
+what_decided wires = if wires == 0 then bare_words else wired_words wires
+
+unfoldable pub program_close : List ℕ
+program_close = codes ". Choose anything on this page that is printed, punched or wired.</p>\n"
+
+unfoldable pub program_words : (wires : ℕ) → List ℕ
+program_words wires = what_decided wires ++ program_close
 
 unfoldable pub counts_words : RunCounts → List ℕ
 counts_words counts = run_words counts.cards counts.lines ++ program_words counts.wires

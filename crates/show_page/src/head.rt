@@ -3,12 +3,12 @@
 ghost use Rattle.std.specs.Prelude.{◌≡◌, ◌++◌, OnOk};
 ghost use Rattle.std.specs.String.{string_bytes};
 ghost use Rattle.show_page.specs.Helper.{GainsHead};
-ghost use Rattle.show_page.specs.Titles.{counted, counts_words, heading_of, heading_words, plain_open, plain_title, plural, printed_words, program_close, program_open, program_words, read_words, run_words, title_of};
+ghost use Rattle.show_page.specs.Titles.{bare_words, counts_words, heading_of, heading_words, panel_words, plain_open, plain_title, printed_words, program_close, program_open, program_words, read_words, run_words, title_of, what_decided, wired_words};
 
+use crate::counts::write_counted;
 use crate::frame::{write_document_open, write_header_open, write_style, write_style_open};
 use crate::marks::write_marks;
 use chart_lines::charts::{Line, Statement};
-use chart_numerals::push_number;
 use page_text::placed_lines::PlacedLine;
 use page_text::without_trailing_blanks;
 use show_drawings::markup::push_escaped;
@@ -47,28 +47,6 @@ pub(crate) fn heading_of(lines: &[Line]) -> &[u8]
         }
     }
     &[]
-}
-
-// What stands behind the word for things that are not one.
-fn write_plural(text: &mut String, number: usize) -> Result<(), AllocError>
-    ensures { OnOk result (string_bytes text.new ≡ string_bytes text.old ++ plural number) }
-{
-    if number == 1 {
-        Ok(())
-    } else {
-        text.push_str("s")
-    }
-}
-
-#[tactic(auto, unfolding(crate::specs::Titles::counted))]
-// So many things.
-fn write_counted(text: &mut String, number: usize, words: &str) -> Result<(), AllocError>
-    ensures { OnOk result (string_bytes text.new ≡ string_bytes text.old ++ counted number words.now) }
-{
-    push_number(text, number)?;
-    text.push_str(" ")?;
-    text.push_str(words)?;
-    write_plural(text, number)
 }
 
 #[tactic(auto, unfolding(crate::specs::Titles::plain_open))]
@@ -135,23 +113,57 @@ fn write_program_open(text: &mut String) -> Result<(), AllocError>
     text.push_str(". It had no program: ")
 }
 
-#[tactic(auto, unfolding(crate::specs::Titles::program_close))]
+#[tactic(auto, unfolding(crate::specs::Titles::panel_words))]
 // What stands behind that.
-fn write_program_close(text: &mut String) -> Result<(), AllocError>
-    ensures { OnOk result (string_bytes text.new ≡ string_bytes text.old ++ program_close) }
+fn write_panel_words(text: &mut String) -> Result<(), AllocError>
+    ensures { OnOk result (string_bytes text.new ≡ string_bytes text.old ++ panel_words) }
 {
-    text.push_str(
-        " on a panel decided what it did. Choose anything on this page that is printed, punched or wired.</p>\n",
-    )
+    text.push_str(" on a panel decided what it did")
 }
 
-#[tactic(auto, unfolding(crate::specs::Titles::program_words))]
+#[tactic(auto, unfolding(crate::specs::Titles::wired_words))]
 // How many wires the panel has.
-fn write_program_words(text: &mut String, wires: usize) -> Result<(), AllocError>
-    ensures { OnOk result (string_bytes text.new ≡ string_bytes text.old ++ program_words wires) }
+fn write_wired_words(text: &mut String, wires: usize) -> Result<(), AllocError>
+    ensures { OnOk result (string_bytes text.new ≡ string_bytes text.old ++ wired_words wires) }
 {
     write_program_open(text)?;
     write_counted(text, wires, "wire")?;
+    write_panel_words(text)
+}
+
+#[tactic(auto, unfolding(crate::specs::Titles::bare_words))]
+// That the panel has none.
+fn write_bare_words(text: &mut String) -> Result<(), AllocError>
+    ensures { OnOk result (string_bytes text.new ≡ string_bytes text.old ++ bare_words) }
+{
+    text.push_str(". It had no program, and its panel had no wires")
+}
+
+// What decided what the machine did.
+fn write_what_decided(text: &mut String, wires: usize) -> Result<(), AllocError>
+    ensures { OnOk result (string_bytes text.new ≡ string_bytes text.old ++ what_decided wires) }
+{
+    if wires == 0 {
+        write_bare_words(text)
+    } else {
+        write_wired_words(text, wires)
+    }
+}
+
+#[tactic(auto, unfolding(crate::specs::Titles::program_close))]
+// How a visitor may go on.
+fn write_program_close(text: &mut String) -> Result<(), AllocError>
+    ensures { OnOk result (string_bytes text.new ≡ string_bytes text.old ++ program_close) }
+{
+    text.push_str(". Choose anything on this page that is printed, punched or wired.</p>\n")
+}
+
+#[tactic(auto, unfolding(crate::specs::Titles::program_words))]
+// What decided what the machine did, and how a visitor may go on.
+fn write_program_words(text: &mut String, wires: usize) -> Result<(), AllocError>
+    ensures { OnOk result (string_bytes text.new ≡ string_bytes text.old ++ program_words wires) }
+{
+    write_what_decided(text, wires)?;
     write_program_close(text)
 }
 

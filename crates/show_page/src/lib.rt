@@ -13,6 +13,7 @@
 
 mod begin;
 mod choice;
+mod counts;
 pub mod cycle_steps;
 mod cycles;
 mod frame;

@@ -1,5 +1,5 @@
 -- For each line of a chart with its plan words for it, and what it asks for.
-use Rattle.std.specs.Prelude.{◌≡◌, ℕ, ◌+◌, List, [], ◌∷◌, ◌++◌, Some, String, codes, decimal, if◌then◌else◌, map, nat_lt, slice_get}
+use Rattle.std.specs.Prelude.{◌≡◌, ℕ, ◌+◌, List, [], ◌∷◌, ◌++◌, Some, String, decimal, if◌then◌else◌, map, nat_lt, slice_get}
 use Rattle.std.specs.String.{string_bytes}
 use Rattle.std.specs.declared.alloc.Global.{Global}
 use Rattle.card_code.specs.Deck.{line_at}
@@ -7,6 +7,7 @@ use Rattle.chart_lines.specs.declared.charts.chart.Line.{Line}
 use Rattle.chart_plans.specs.PlansWords.Plans.{Lists}
 use Rattle.hubs.specs.SetupsWords.Wiring.{Wiring}
 use Rattle.wire_gen.specs.OfLine.{IsSetupOfLine}
+use Rattle.wiring_legend.specs.declared.wording.TheConstants as wording
 
 -- a byte as a character, a question mark for one that is none
 abbrev pub plain : ℕ → ℕ
@@ -14,7 +15,7 @@ plain byte = if nat_lt byte 128 then byte else 63
 
 -- the place of the line with a number
 abbrev pub place_words : ℕ → List ℕ
-place_words number = codes " (line " ++ decimal number ++ codes " of the chart)"
+place_words number = wording.BEFORE_THE_NUMBER.now ++ decimal number ++ wording.BEHIND_THE_NUMBER.now
 
 -- the words for the line of a chart with a number
 abbrev pub line_words : List ℕ → ℕ → List ℕ

@@ -8,6 +8,7 @@
 
 mod laws;
 mod row;
+mod wording;
 mod writing;
 
 pub use laws::lines_make_the_setup;

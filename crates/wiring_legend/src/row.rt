@@ -4,6 +4,7 @@ ghost use Rattle.std.specs.Prelude.{◌≡◌};
 ghost use Rattle.chart_line_rules.specs.FieldRules.Fields.{field_named};
 ghost use Rattle.wiring_legend.specs.Rows.{detail_row, field_row, kind_named, row_of, sentence, total_row};
 
+use crate::wording;
 use chart_lines::charts::{
     After, DetailOption, Field, FieldKind, Name, Printing, Spacing, Statement,
 };
@@ -64,67 +65,27 @@ impl LegendRow {
         ensures { result.now ≡ sentence self }
     {
         match self {
-            LegendRow::Field => {
-                "A field by itself needs no wire: the lines that name it say where its columns lead."
-            }
-            LegendRow::SignedField => {
-                "The sign column at first reading picks up the pilot of the amount, if a line shows the amount: so the pilot is set in the card's own cycle, in which the amount is printed or added."
-            }
-            LegendRow::Control => {
-                "Each column is compared between the card at first reading and the card before it at second reading; where the two differ, the program cycles of the level follow."
-            }
-            LegendRow::PrintDetail => { "Card cycles print, so each card has a line." }
-            LegendRow::PrintGroup => {
-                "LIST stays unplugged: card cycles print nothing, so no card has a line."
-            }
-            LegendRow::Heading => {
-                "In the heading cycle of this line its emitter sends each character's rows to the character's wheel; HEAD is plugged for this heading line and those above it."
-            }
-            LegendRow::DetailLiteral => {
-                "In each card cycle emitter 4 sends each character's rows to the character's wheel."
-            }
-            LegendRow::DetailText => {
-                "In the cycle that prints the card's line each column at second reading leads to its wheel."
-            }
-            LegendRow::IndicatedText => {
-                "Each column at second reading leads to its wheel through an indicate position of the level, which is closed for the first card of each group alone."
-            }
-            LegendRow::DetailAmount => {
-                "Each column at second reading leads to the wheel of its digit; emitter 4 sends the point, if there are decimals; zero control leaves blank the zeros before the first figure, except the last digit and those behind the point."
-            }
-            LegendRow::MarkedAmount => {
-                "Each column at second reading leads to the wheel of its digit. If the sign is over one of its columns, a split there keeps row 11 from the wheel. Emitter 4 sends the point, if there are decimals, and the mark: that goes through the side of the amount's pilot that is closed for a negative card. Zero control leaves blank the zeros before the first figure, except the last digit and those behind the point, and a mark that has no figure before it."
-            }
-            LegendRow::TotalLiteral => {
-                "In the third program cycle of the level its emitter sends each character's rows to the character's wheel."
-            }
-            LegendRow::TotalText => {
-                "A storage unit takes the columns from every card, and in the third program cycle of the level gives those of the last card of the group."
-            }
-            LegendRow::Total => {
-                "A counter adds each card's amount, or the amount's next lower total if there is one; in the third program cycle of the level it is read out to the wheels and into the next higher total, if any, and cleared."
-            }
-            LegendRow::SignedTotal => {
-                "A counter adds or subtracts each card's amount by its pilot, or the amount's next lower total, if there is one, by its balance; the first program cycle of the level tests the balance, the second turns a number below zero into its figure, and the third reads the figure out to the wheels and into the next higher total, if any, and clears the counter."
-            }
-            LegendRow::SingleSpace => {
-                "The carriage spaces by one line unasked: nothing is wired for it."
-            }
-            LegendRow::WiderSpace => {
-                "The cycle that prints this kind of line asks the carriage for its spacing."
-            }
-            LegendRow::Page => {
-                "The cycle that prints this kind of line sets the restore latch, so that the heading cycles come before the next line."
-            }
-            LegendRow::Skip => {
-                "The cycle that prints this kind of line has the form run on to the next hole of the channel."
-            }
-            LegendRow::Form => {
-                "The tape of the form: how many lines a page has, the line to which the carriage turns on a new page, and the line at which the page is full."
-            }
-            LegendRow::Tape => {
-                "The tape has a hole in this channel for each stop, whether a line skips there or not."
-            }
+            LegendRow::Field => wording::FIELD,
+            LegendRow::SignedField => wording::SIGNED_FIELD,
+            LegendRow::Control => wording::CONTROL,
+            LegendRow::PrintDetail => wording::PRINT_DETAIL,
+            LegendRow::PrintGroup => wording::PRINT_GROUP,
+            LegendRow::Heading => wording::HEADING,
+            LegendRow::DetailLiteral => wording::DETAIL_LITERAL,
+            LegendRow::DetailText => wording::DETAIL_TEXT,
+            LegendRow::IndicatedText => wording::INDICATED_TEXT,
+            LegendRow::DetailAmount => wording::DETAIL_AMOUNT,
+            LegendRow::MarkedAmount => wording::MARKED_AMOUNT,
+            LegendRow::TotalLiteral => wording::TOTAL_LITERAL,
+            LegendRow::TotalText => wording::TOTAL_TEXT,
+            LegendRow::Total => wording::TOTAL,
+            LegendRow::SignedTotal => wording::SIGNED_TOTAL,
+            LegendRow::SingleSpace => wording::SINGLE_SPACE,
+            LegendRow::WiderSpace => wording::WIDER_SPACE,
+            LegendRow::Page => wording::PAGE,
+            LegendRow::Skip => wording::SKIP,
+            LegendRow::Form => wording::FORM,
+            LegendRow::Tape => wording::TAPE,
         }
     }
 

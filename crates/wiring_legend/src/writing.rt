@@ -10,6 +10,7 @@ ghost use Rattle.chart_plans.specs.PlansWords.Plans.{ServesChart};
 ghost use Rattle.wire_chart.specs.WrittenText.{ended};
 
 use crate::row::LegendRow;
+use crate::wording;
 use card_code::next_line;
 use chart_lines::charts::{Line, Statement};
 use chart_numerals::push_between;
@@ -160,7 +161,12 @@ fn line_words(alloc: Global, source: &[u8], number: u16) -> Result<String, Alloc
 fn write_place(words: &mut String, number: u16) -> Result<(), AllocError>
     ensures { OnOk result (string_bytes words.new ≡ string_bytes words.old ++ place_words number) }
 {
-    push_between(words, " (line ", number, " of the chart)")
+    push_between(
+        words,
+        wording::BEFORE_THE_NUMBER,
+        number,
+        wording::BEHIND_THE_NUMBER,
+    )
 }
 
 // Writes bytes as characters, with a question mark for each that is none.

@@ -14,6 +14,7 @@ use Rattle.chart_lines.specs.declared.charts.statement.FieldKind.TheVariants as 
 use Rattle.chart_rules.specs.ValidCard.{column_of}
 use Rattle.report_definition.specs.Amounts.{columns_in, value_of}
 use Rattle.report_definition.specs.Edits.{figure, last_digits}
+use Rattle.cli_sheets.specs.declared.wording.TheConstants as wording
 
 -- the marks under the columns of a field
 abbrev pub marks : Field → List ℕ
@@ -23,12 +24,12 @@ marks field = replicate (field.first - 1) 32 ++ replicate (columns_of field) 94
 abbrev pub columns_told : Field → List ℕ
 columns_told field =
     if columns_of field == 1
-    then codes ", column " ++ decimal field.first
-    else codes ", columns " ++ decimal field.first ++ codes " to " ++ decimal field.last
+    then wording.IN_COLUMN.now ++ decimal field.first
+    else wording.IN_COLUMNS.now ++ decimal field.first ++ codes " to " ++ decimal field.last
 
 -- its sign column
 abbrev pub sign_told : FieldKind → List ℕ
-sign_told (holds.Amount decimals (Some rule)) = codes ", sign in column " ++ decimal (column_of_rule rule)
+sign_told (holds.Amount decimals (Some rule)) = wording.SIGN_IN_COLUMN.now ++ decimal (column_of_rule rule)
 sign_told other = []
 
 -- the decimals of a number, with the point before them

@@ -25,6 +25,7 @@ use Rattle.chart_line_rules.specs.declared.print_rules.items.PrintedLine.TheVari
 use Rattle.report_definition.specs.BodyLines.{Piece, line_of, piece_at}
 use Rattle.report_definition.specs.Edits.{free_digits, marked, point}
 use Rattle.cli_sheets.specs.SheetsWords.Rulers.{wheel_ruler}
+use Rattle.cli_sheets.specs.declared.wording.TheConstants as wording
 
 -- an amount
 abbrev pub drawn_figure : Figure → List ℕ
@@ -64,12 +65,12 @@ drawn_line lines printed = line_of (filter_map (λ line. drawn_piece lines print
 abbrev pub wheels_told : Item → List ℕ
 wheels_told item =
     if item.end - item.first == 1
-    then codes "wheel " ++ decimal item.first
-    else codes "wheels " ++ decimal item.first ++ codes " to " ++ decimal (item.end - 1)
+    then wording.WHEEL.now ++ decimal item.first
+    else wording.WHEELS.now ++ decimal item.first ++ codes " to " ++ decimal (item.end - 1)
 
 -- how a field is shown on the line of a card
 abbrev pub option_told : DetailOption → List ℕ
-option_told (shown.Indicated level) = codes " on the first card of each group of level " ++ decimal (control_number level)
+option_told (shown.Indicated level) = wording.ON_THE_FIRST_CARD.now ++ decimal (control_number level)
 option_told other = []
 
 -- a literal between apostrophes
@@ -82,7 +83,7 @@ shown_told name how = name_text name ++ option_told how
 
 -- a total
 abbrev pub total_told : List ℕ → List ℕ
-total_told name = codes "total of " ++ name_text name
+total_told name = wording.TOTAL_OF.now ++ name_text name
 
 -- what is shown there
 abbrev pub content_told : Statement → List ℕ
@@ -96,7 +97,7 @@ content_told other = []
 
 -- an item by its wheels, what it shows, and its line of the chart
 abbrev pub item_told : Line → Item → List ℕ
-item_told line item = wheels_told item ++ codes ": " ++ content_told line.statement ++ codes " (line " ++ decimal line.number ++ codes ")\n"
+item_told line item = wheels_told item ++ codes ": " ++ content_told line.statement ++ wording.OF_LINE.now ++ decimal line.number ++ codes ")\n"
 
 -- the items of a line of the report, in the order of the chart
 abbrev pub items_told : List Line → PrintedLine → List ℕ
@@ -105,9 +106,9 @@ items_told lines printed =
 
 -- which line of the report
 abbrev pub title : PrintedLine → List ℕ
-title (Heading line) = codes "HEAD " ++ decimal (heading_number line)
+title (Heading line) = wording.HEAD.now ++ decimal (heading_number line)
 title (Body body.Detail) = codes "DETAIL"
-title (Body (body.Total level)) = codes "TOTAL " ++ decimal (level_number level)
+title (Body (body.Total level)) = wording.TOTAL.now ++ decimal (level_number level)
 
 -- whether the chart puts something on a line of the report
 abbrev pub has_items : List Line → PrintedLine → Bool
@@ -133,7 +134,7 @@ sections lines report_lines = flat_map (section lines) report_lines
 
 -- what the letters stand for
 unfoldable pub key : List ℕ
-key = codes "x: a character of a text. z: a digit, blank if it is a leading zero. 9: any other digit.\n"
+key = wording.WHAT_CHARACTERS_STAND_FOR.now
 
 -- The layout.
 abbrev pub layout : List Line → List ℕ

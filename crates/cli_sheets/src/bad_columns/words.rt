@@ -4,6 +4,7 @@ ghost use Rattle.std.specs.Prelude.{◌≡◌, ◌++◌, OnOk};
 ghost use Rattle.cli_sheets.specs.BadColumns.Words as law;
 
 use crate::bad_columns::column::{BadColumn, ColumnSlip};
+use crate::wording;
 use chart_numerals::write_numbered;
 use std::io;
 use std::io::Write;
@@ -13,11 +14,11 @@ fn why(slip: ColumnSlip) -> &'static str
     ensures { result.now ≡ law.why slip }
 {
     match slip {
-        ColumnSlip::Unprinted => "no wheel prints this character",
-        ColumnSlip::Several => "this is no digit",
-        ColumnSlip::Twelve => "row 12 is punched, and no column of an amount has that",
-        ColumnSlip::Eleven => "row 11 is punched, and only a sign column has that",
-        ColumnSlip::Missing => "a digit is missing",
+        ColumnSlip::Unprinted => wording::NO_WHEEL_PRINTS_THIS_CHARACTER,
+        ColumnSlip::Several => wording::THIS_IS_NO_DIGIT,
+        ColumnSlip::Twelve => wording::ROW_12_IS_PUNCHED,
+        ColumnSlip::Eleven => wording::ROW_11_IS_PUNCHED,
+        ColumnSlip::Missing => wording::A_DIGIT_IS_MISSING,
     }
 }
 
@@ -29,7 +30,7 @@ fn why(slip: ColumnSlip) -> &'static str
 pub fn write_bad_column(text: &mut Vec<u8>, bad: BadColumn) -> io::Result<()>
     ensures { OnOk result (text.new.items ≡ text.old.items ++ law.bad_words bad) }
 {
-    write_numbered(text, "column ", bad.column)?;
+    write_numbered(text, wording::COLUMN, bad.column)?;
     text.write_all(b" of ")?;
     text.write_all(bad.name.as_bytes())?;
     text.write_all(b": ")?;

@@ -9,6 +9,7 @@ ghost use Rattle.cli_sheets.specs.SheetsWords.Fields as told;
 ghost use Rattle.cli_sheets.specs.SheetsWords.Helper.{IsReadable};
 
 use crate::sheets::runs::write_run;
+use crate::wording;
 use card_code::{Card, Column};
 use chart_lines::charts::{Field, FieldKind};
 use chart_numerals::{write_number, write_numbered};
@@ -32,9 +33,9 @@ fn write_columns(text: &mut Vec<u8>, field: &Field) -> io::Result<()>
     let first = field.first;
     let last = field.last;
     if field.columns() == 1 {
-        return write_numbered(text, ", column ", first);
+        return write_numbered(text, wording::IN_COLUMN, first);
     }
-    write_numbered(text, ", columns ", first)?;
+    write_numbered(text, wording::IN_COLUMNS, first)?;
     write_numbered(text, " to ", last)
 }
 
@@ -43,7 +44,7 @@ fn write_sign(text: &mut Vec<u8>, kind: FieldKind) -> io::Result<()>
     ensures { OnOk result (text.new.items ≡ text.old.items ++ told.sign_told kind) }
 {
     match kind.sign_column() {
-        Some(column) => write_numbered(text, ", sign in column ", column),
+        Some(column) => write_numbered(text, wording::SIGN_IN_COLUMN, column),
         None => Ok(()),
     }
 }

@@ -5,6 +5,7 @@ ghost use Rattle.std.specs.List.{flat_map};
 ghost use Rattle.cli_sheets.specs.SheetsWords.Layout as layout;
 
 use crate::sheets::lines::item_on;
+use crate::wording;
 use chart_line_rules::print_rules::{Item, PrintedLine};
 use chart_lines::charts::{DetailOption, Line, Name, Statement};
 use chart_numerals::{write_between, write_number, write_numbered};
@@ -17,9 +18,9 @@ fn write_wheels(text: &mut Vec<u8>, item: Item) -> io::Result<()>
     ensures { OnOk result (text.new.items ≡ text.old.items ++ layout.wheels_told item) }
 {
     if item.end.saturating_sub(item.first) == 1 {
-        return write_numbered(text, "wheel ", item.first);
+        return write_numbered(text, wording::WHEEL, item.first);
     }
-    write_numbered(text, "wheels ", item.first)?;
+    write_numbered(text, wording::WHEELS, item.first)?;
     write_numbered(text, " to ", item.end.saturating_sub(1))
 }
 
@@ -29,11 +30,7 @@ fn write_option(text: &mut Vec<u8>, shown: DetailOption) -> io::Result<()>
 {
     match shown {
         DetailOption::Indicated(level) => {
-            write_numbered(
-                text,
-                " on the first card of each group of level ",
-                level.number(),
-            )
+            write_numbered(text, wording::ON_THE_FIRST_CARD, level.number())
         }
         DetailOption::Plain | DetailOption::Marked(_) => Ok(()),
     }
@@ -60,7 +57,7 @@ fn write_shown(text: &mut Vec<u8>, name: &Name, shown: DetailOption) -> io::Resu
 fn write_total(text: &mut Vec<u8>, name: &Name) -> io::Result<()>
     ensures { OnOk result (text.new.items ≡ text.old.items ++ layout.total_told name.now) }
 {
-    text.write_all(b"total of ")?;
+    text.write_all(wording::TOTAL_OF)?;
     text.write_all(name.as_bytes())
 }
 
@@ -86,7 +83,7 @@ fn write_item(text: &mut Vec<u8>, line: &Line, item: Item) -> io::Result<()>
     write_wheels(text, item)?;
     text.write_all(b": ")?;
     write_content(text, &line.statement)?;
-    write_between(text, " (line ", line.number, ")\n")
+    write_between(text, wording::OF_LINE, line.number, ")\n")
 }
 
 // What a line of the chart puts on a line of the report, if it does.

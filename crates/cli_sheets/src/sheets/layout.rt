@@ -6,6 +6,7 @@ ghost use Rattle.cli_sheets.specs.SheetsWords.Layout as layout;
 use crate::sheets::items::write_items;
 use crate::sheets::lines::{draw_line, item_on};
 use crate::sheets::rulers::wheel_ruler;
+use crate::wording;
 use chart_line_rules::print_rules::PrintedLine;
 use chart_lines::charts::{BodyLine, HeadingLine, Level};
 use chart_numerals::write_numbered;
@@ -32,7 +33,7 @@ static REPORT_LINES: [PrintedLine; 8] = [
 fn key() -> &'static str
     ensures { result.now ≡ layout.key }
 {
-    "x: a character of a text. z: a digit, blank if it is a leading zero. 9: any other digit.\n"
+    wording::WHAT_CHARACTERS_STAND_FOR
 }
 
 // Whether the chart puts something on a line of the report.
@@ -50,10 +51,10 @@ fn write_title(text: &mut Vec<u8>, printed: PrintedLine) -> io::Result<()>
     ensures { OnOk result (text.new.items ≡ text.old.items ++ layout.title printed) }
 {
     match printed {
-        PrintedLine::Heading(line) => write_numbered(text, "HEAD ", line.number()),
+        PrintedLine::Heading(line) => write_numbered(text, wording::HEAD, line.number()),
         PrintedLine::Body(BodyLine::Detail) => text.write_all(b"DETAIL"),
         PrintedLine::Body(BodyLine::Total(level)) => {
-            write_numbered(text, "TOTAL ", level.number())
+            write_numbered(text, wording::TOTAL, level.number())
         }
     }
 }

@@ -4,18 +4,20 @@ use Rattle.chart_lines.specs.declared.charts.chart.Line.{Line}
 use Rattle.chart_lines.specs.declared.charts.statement.Statement.{Statement}
 use Rattle.chart_lines.specs.declared.charts.statement.Statement.TheVariants as says
 use Rattle.chart_line_rules.specs.PrintRules.Forms.{breaks_form}
+use Rattle.fault_slips.specs.Counts.{count_text}
+use Rattle.fault_chart_words.specs.declared.wording.TheConstants as wording
 
 -- the lines of a form
 unfoldable pub form_lines : ℕ → List ℕ
-form_lines lines = codes "the form has " ++ decimal lines ++ codes " lines"
+form_lines lines = count_text wording.THE_FORM_HAS.now lines wording.ONE_LINE.now
 
 -- its first line
 unfoldable pub form_first : ℕ → List ℕ
-form_first first = codes ", its first line is " ++ decimal first
+form_first first = wording.ITS_FIRST_LINE_IS.now ++ decimal first
 
 -- its overflow line
 unfoldable pub form_overflow : ℕ → List ℕ
-form_overflow overflow = codes ", its overflow line " ++ decimal overflow
+form_overflow overflow = wording.ITS_OVERFLOW_LINE.now ++ decimal overflow
 
 -- which number of a form is which
 unfoldable pub form_text : ℕ → ℕ → ℕ → List ℕ
@@ -32,7 +34,7 @@ ordered_form lines first overflow =
 
 -- a question for a form: its first two numbers, and the last one
 unfoldable pub asked_lines : ℕ → List ℕ
-asked_lines lines = codes "; did you mean FORM " ++ decimal lines
+asked_lines lines = wording.DID_YOU_MEAN_FORM.now ++ decimal lines
 
 unfoldable pub asked_first : ℕ → List ℕ
 asked_first first = codes " " ++ decimal first

@@ -1,5 +1,5 @@
 -- The other line that a line meets by the rule that it breaks, and what is said of items and their wheels.
-use Rattle.std.specs.Prelude.{ℕ, ◌-◌, Bool, false, List, [], ◌∷◌, ◌++◌, Option, Some, None, codes, decimal, find, ◌==◌, if◌then◌else◌}
+use Rattle.std.specs.Prelude.{ℕ, ◌-◌, Bool, false, List, [], ◌∷◌, ◌++◌, Option, Some, None, codes, decimal, find, nat_lt, ◌==◌, if◌then◌else◌}
 use Rattle.chart_lines.specs.ChartsWords.Name.{is_same_name, name_text}
 use Rattle.chart_lines.specs.declared.charts.chart.Line.{Line}
 use Rattle.chart_lines.specs.declared.charts.statement.Field.{Field}
@@ -14,6 +14,7 @@ use Rattle.chart_line_rules.specs.declared.print_rules.items.Item.{Item}
 use Rattle.chart_rules.specs.declared.rule.Rule.{Rule}
 use Rattle.chart_rules.specs.declared.rule.Rule.TheVariants as rule
 use Rattle.fault_chart_words.specs.FaultWords.Parts.{name_on}
+use Rattle.fault_chart_words.specs.declared.wording.TheConstants as wording
 
 -- whether a line describes a name
 abbrev pub describes : Option (List ℕ) → Statement → Bool
@@ -42,12 +43,12 @@ met each fields among statement = find (meets each fields statement) among
 
 -- a line that is met, by its number
 unfoldable pub number_words : Option Line → List ℕ
-number_words None = codes "another line"
+number_words None = wording.ANOTHER_LINE.now
 number_words (Some line) = codes "line " ++ decimal line.number
 
 -- what a line is about: a name, or a literal
 abbrev pub named_words : Option (List ℕ) → List ℕ
-named_words None = codes "the literal"
+named_words None = wording.THE_LITERAL.now
 named_words (Some name) = name_text name
 
 unfoldable pub subject : Statement → List ℕ
@@ -59,24 +60,20 @@ one_text word number = word ++ (codes " " ++ decimal number)
 
 -- numbers from one to another, behind the word for one of them
 unfoldable pub several_text : List ℕ → ℕ → ℕ → List ℕ
-several_text word first last = word ++ (codes "s " ++ decimal first) ++ (codes " to " ++ decimal last)
+several_text word first last = word ++ (codes "s " ++ decimal first) ++ (wording.TO.now ++ decimal last)
 
 -- both are one number or several
 abbrev pub range_text : List ℕ → ℕ → ℕ → List ℕ
 range_text word first last = if first == last then one_text word first else several_text word first last
 
--- the ending of the word for so many things
-abbrev pub plural : ℕ → List ℕ
-plural count = if count == 1 then [] else codes "s"
+-- the wheels of an item; one of a field without columns takes none
+abbrev pub item_wheels : (first end : ℕ) → List ℕ
+item_wheels first end =
+    if nat_lt first end then range_text wording.TAKES_WHEEL.now first (end - 1) else wording.BEGINS_AT_WHEEL.now ++ decimal first
 
--- so many things, between words before them and the word for one of them
-unfoldable pub count_text : List ℕ → ℕ → List ℕ → List ℕ
-count_text before count thing = (before ++ decimal count ++ thing) ++ plural count
-
--- the wheels of an item
 unfoldable pub wheel_words : Option Item → List ℕ
 wheel_words None = []
-wheel_words (Some item) = range_text (codes " takes wheel") item.first (item.end - 1)
+wheel_words (Some item) = item_wheels item.first item.end
 
 -- an item with its wheels
 unfoldable pub taken_words : List Field → Statement → List ℕ
@@ -86,4 +83,4 @@ taken_words fields statement = subject statement ++ wheel_words (item_of fields 
 unfoldable pub meeting_words : List Field → Option Line → List ℕ
 meeting_words fields None = []
 meeting_words fields (Some line) =
-    codes ", and " ++ subject line.statement ++ codes " of line " ++ decimal line.number ++ wheel_words (item_of fields line.statement)
+    wording.AND_IT_MEETS.now ++ subject line.statement ++ wording.OF_LINE.now ++ decimal line.number ++ wheel_words (item_of fields line.statement)

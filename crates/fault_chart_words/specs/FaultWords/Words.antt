@@ -1,5 +1,5 @@
 -- What is wrong, in the words of the line that breaks a rule, and what helps.
-use Rattle.std.specs.Prelude.{ℕ, ◌&&◌, Bool, true, false, List, [], ◌++◌, Option, Some, None, codes, decimal, nat_lt, if◌then◌else◌}
+use Rattle.std.specs.Prelude.{ℕ, ◌&&◌, Bool, true, false, List, [], ◌++◌, Option, Some, None, codes, decimal, ◌==◌, nat_lt, if◌then◌else◌}
 use Rattle.chart_lines.specs.ChartsWords.Field.{columns_of, decimals_of, sign_column}
 use Rattle.chart_lines.specs.ChartsWords.Levels.{control_number, level_number}
 use Rattle.chart_lines.specs.ChartsWords.Name.{name_text}
@@ -19,9 +19,11 @@ use Rattle.chart_line_rules.specs.FieldRules.Fields.{first_named}
 use Rattle.chart_line_rules.specs.FieldRules.Names.{names_amount}
 use Rattle.chart_rules.specs.declared.rule.Rule.{Rule}
 use Rattle.chart_rules.specs.declared.rule.Rule.TheVariants as rule
+use Rattle.fault_slips.specs.Counts.{count_text}
 use Rattle.fault_chart_words.specs.FaultWords.FormWords.{form_words}
 use Rattle.fault_chart_words.specs.FaultWords.Parts.{coupled_place, has_stops, marked_place, name_on}
-use Rattle.fault_chart_words.specs.FaultWords.Others.{count_text, meeting_words, met, number_words, range_text, subject, taken_words}
+use Rattle.fault_chart_words.specs.FaultWords.Others.{meeting_words, met, number_words, range_text, subject, taken_words}
+use Rattle.fault_chart_words.specs.declared.wording.TheConstants as wording
 
 -- the field that a line is about, if its name has one
 abbrev pub field_on : List Field → Option (List ℕ) → Option Field
@@ -31,11 +33,11 @@ field_on fields None = None
 -- the sign column of a field
 unfoldable pub sign_words : Option ℕ → List ℕ
 sign_words None = []
-sign_words (Some column) = codes " and its sign in column " ++ decimal column
+sign_words (Some column) = wording.AND_ITS_SIGN_IN_COLUMN.now ++ decimal column
 
 -- the columns of a name
 unfoldable pub columns_text : List ℕ → ℕ → ℕ → List ℕ
-columns_text name first last = name_text name ++ range_text (codes " has column") first last
+columns_text name first last = name_text name ++ range_text wording.HAS_COLUMN.now first last
 
 -- the columns of a field
 unfoldable pub column_words : Statement → List ℕ
@@ -45,7 +47,7 @@ column_words other = []
 -- the digits and decimals of a name
 unfoldable pub size_text : List ℕ → ℕ → ℕ → List ℕ
 size_text name digits decimals =
-    name_text name ++ count_text (codes " has ") digits (codes " digit") ++ count_text (codes " and ") decimals (codes " decimal")
+    name_text name ++ count_text wording.HAS.now digits wording.ONE_DIGIT.now ++ count_text wording.AND.now decimals wording.ONE_DECIMAL.now
 
 -- the size of an amount
 unfoldable pub size_words : Statement → List ℕ
@@ -54,22 +56,22 @@ size_words other = []
 
 -- of an amount in the place of a text: on a total line it wants its digits
 abbrev pub amount_words : Statement → List ℕ
-amount_words (says.TotalText level wheel name) = codes " is an amount, and the digits of its total are missing"
-amount_words other = codes " is an amount, and a text belongs here"
+amount_words (says.TotalText level wheel name) = wording.IS_AN_AMOUNT_WITHOUT_DIGITS.now
+amount_words other = wording.IS_AN_AMOUNT.now
 
 -- which kind of field a name stands for on a line
 unfoldable pub kind_words : Statement → Bool → List ℕ
 kind_words statement true = amount_words statement
-kind_words statement false = codes " is a text, and an amount belongs here"
+kind_words statement false = wording.IS_A_TEXT.now
 
 -- the word before the level that is wanted
 abbrev pub level_word : Statement → List ℕ
-level_word (says.DetailField wheel name shown) = codes "INDICATE "
-level_word other = codes "TOTAL "
+level_word (says.DetailField wheel name shown) = wording.INDICATE.now
+level_word other = wording.TOTAL.now
 
 -- a level that wants a CONTROL line, behind the word that asks for it
 unfoldable pub control_text : List ℕ → ℕ → List ℕ
-control_text word level = (word ++ decimal level) ++ (codes " wants a CONTROL " ++ decimal level ++ codes " line")
+control_text word level = (word ++ decimal level) ++ (wording.WANTS_A_CONTROL.now ++ decimal level ++ wording.ONE_LINE.now)
 
 -- the level that has no CONTROL line
 unfoldable pub uncontrolled_words : Statement → Option ControlLevel → List ℕ
@@ -86,44 +88,52 @@ abbrev pub columns_on : Option Field → ℕ
 columns_on None = 0
 columns_on (Some field) = columns_of field
 
--- columns, and the digits of a total
-unfoldable pub digits_text : ℕ → ℕ → List ℕ
-digits_text columns digits =
-    count_text (codes " has ") columns (codes " column") ++ count_text (codes ", and its total ") digits (codes " digit")
+-- the digits of a total alone
+unfoldable pub total_text : ℕ → List ℕ
+total_text digits = count_text wording.HAS_A_TOTAL_OF.now digits wording.ONE_DIGIT.now
 
--- the digits of a total, and the columns of its field
+-- columns, and the digits of a total
+unfoldable pub columns_and_digits : ℕ → ℕ → List ℕ
+columns_and_digits columns digits =
+    count_text wording.HAS.now columns wording.ONE_COLUMN.now ++ count_text wording.AND_ITS_TOTAL.now digits wording.ONE_DIGIT.now
+
+-- of a field whose last column stands before its first one there are no columns to tell of
+abbrev pub digits_text : ℕ → ℕ → List ℕ
+digits_text columns digits = if columns == 0 then total_text digits else columns_and_digits columns digits
+
+-- the digits of a total, and the columns of its field, if it has any
 unfoldable pub digit_words : Option Field → Statement → List ℕ
 digit_words field statement = subject statement ++ digits_text (columns_on field) (digits_of statement)
 
 -- a sign column without a mark, or the reverse
 unfoldable pub mark_words : Bool → List ℕ
-mark_words true = codes " has a sign column, and here no MARK"
-mark_words false = codes " has no sign column, and here a MARK"
+mark_words true = wording.HAS_A_SIGN_COLUMN.now
+mark_words false = wording.HAS_NO_SIGN_COLUMN.now
 
 -- what doesn't go with what is printed
 unfoldable pub print_words : Statement → List ℕ
-print_words (says.Print print.Detail) = codes "no DETAIL line puts anything on the line of a card"
-print_words (says.Print print.Group) = codes "no TOTAL line puts anything on a total line"
-print_words (says.Space line spacing) = codes "nothing is printed on this kind of line: no DETAIL or TOTAL item names it"
-print_words (says.After line action) = codes "nothing is printed on this kind of line: no DETAIL or TOTAL item names it"
-print_words other = codes "PRINT GROUP prints totals alone"
+print_words (says.Print print.Detail) = wording.NO_DETAIL_LINE.now
+print_words (says.Print print.Group) = wording.NO_TOTAL_LINE.now
+print_words (says.Space line spacing) = wording.NOTHING_IS_PRINTED_THERE.now
+print_words (says.After line action) = wording.NOTHING_IS_PRINTED_THERE.now
+print_words other = wording.PRINT_GROUP_PRINTS_TOTALS.now
 
 -- a channel without a TAPE line
 unfoldable pub no_tape : ℕ → List ℕ
-no_tape channel = codes "channel " ++ decimal channel ++ codes " has no TAPE line"
+no_tape channel = wording.CHANNEL.now ++ decimal channel ++ wording.HAS_NO_TAPE_LINE.now
 
 -- a skip to a channel that no TAPE line is of, or that can't have one
 unfoldable pub skip_words : ℕ → List ℕ
-skip_words channel = if has_stops channel then no_tape channel else codes "a skip goes to a channel from 2 to 11"
+skip_words channel = if has_stops channel then no_tape channel else wording.A_SKIP_GOES_TO_A_CHANNEL.now
 
 -- a channel that can't have stops
 unfoldable pub no_stops : ℕ → List ℕ
-no_stops channel = codes "the channel is " ++ decimal channel ++ codes ", and only 2 to 11 have stops"
+no_stops channel = wording.THE_CHANNEL_IS.now ++ decimal channel ++ wording.AND_ONLY_2_TO_11_HAVE_STOPS.now
 
 -- what is wrong with a TAPE line: its channel, or its stops
 unfoldable pub stops_words : ℕ → List ℕ
 stops_words channel =
-    if has_stops channel then codes "the stops don't rise, or one of them is not on the form" else no_stops channel
+    if has_stops channel then wording.THE_STOPS_DONT_RISE.now else no_stops channel
 
 -- a skip to a channel without a TAPE line, or a TAPE line at fault
 unfoldable pub tape_words : Statement → List ℕ
@@ -133,27 +143,27 @@ tape_words other = []
 
 -- how many counter groups a total takes
 unfoldable pub group_words : Bool → List ℕ
-group_words true = codes ": it takes two counter groups, and the word COUPLED is missing"
-group_words false = codes ": one counter group is enough, without the word COUPLED"
+group_words true = wording.IT_TAKES_TWO_GROUPS.now
+group_words false = wording.ONE_GROUP_IS_ENOUGH.now
 
 -- the positions of a total
 unfoldable pub need_text : ℕ → List ℕ
-need_text need = count_text (codes "the total needs ") need (codes " position")
+need_text need = count_text wording.THE_TOTAL_NEEDS.now need wording.ONE_POSITION.now
 
 unfoldable pub coupled_words : ℕ → List ℕ
 coupled_words need = need_text need ++ group_words (needs_two need)
 
 -- a name that another line describes
 unfoldable pub described_words : Statement → Option Line → List ℕ
-described_words line other = subject line ++ codes " is described already, on " ++ number_words other
+described_words line other = subject line ++ wording.IS_DESCRIBED_ALREADY_ON.now ++ number_words other
 
 -- a name that no line describes
 unfoldable pub undescribed_words : Statement → List ℕ
-undescribed_words line = codes "no FIELD line describes " ++ subject line
+undescribed_words line = wording.NO_FIELD_LINE_DESCRIBES.now ++ subject line
 
 -- a question for a name that a line describes
 unfoldable pub asked_words : Statement → List ℕ
-asked_words line = codes "; did you mean " ++ subject line
+asked_words line = wording.DID_YOU_MEAN.now ++ subject line
 
 -- the name that a line describes, if it may be meant
 unfoldable pub meant_words : Option Line → List ℕ
@@ -169,23 +179,23 @@ wrong_kind_words line is_amount = subject line ++ kind_words line is_amount
 
 -- the printed line of an item
 unfoldable pub line_of_item : Statement → List ℕ
-line_of_item (says.TotalText level wheel name) = codes "TOTAL " ++ decimal (level_number level)
-line_of_item (says.TotalAmount total) = codes "TOTAL " ++ decimal (level_number total.level)
-line_of_item other = codes "the line of a card"
+line_of_item (says.TotalText level wheel name) = wording.TOTAL.now ++ decimal (level_number level)
+line_of_item (says.TotalAmount total) = wording.TOTAL.now ++ decimal (level_number total.level)
+line_of_item other = wording.THE_LINE_OF_A_CARD.now
 
 -- a field that is on a printed line already
 unfoldable pub item_twice_words : Statement → Option Line → List ℕ
-item_twice_words line other = subject line ++ codes " is on " ++ line_of_item line ++ codes " already, by " ++ number_words other
+item_twice_words line other = subject line ++ wording.IS_ON.now ++ line_of_item line ++ wording.ALREADY_BY.now ++ number_words other
 
 -- which line there is already
 abbrev pub line_there : Statement → List ℕ
-line_there (says.Print printing) = codes " is a PRINT line already"
-line_there (says.Form lines first overflow) = codes " is a FORM line already"
-line_there (says.Control level name) = codes " has this level and field already"
-line_there (says.Space line spacing) = codes " spaces this kind of line already"
-line_there (says.After line action) = codes " says already what follows this kind of line"
-line_there (says.Tape channel stops) = codes " is a TAPE line of this channel already"
-line_there other = codes " says this already"
+line_there (says.Print printing) = wording.IS_A_PRINT_LINE_ALREADY.now
+line_there (says.Form lines first overflow) = wording.IS_A_FORM_LINE_ALREADY.now
+line_there (says.Control level name) = wording.HAS_THIS_LEVEL_AND_FIELD_ALREADY.now
+line_there (says.Space line spacing) = wording.SPACES_THIS_KIND_OF_LINE_ALREADY.now
+line_there (says.After line action) = wording.SAYS_WHAT_FOLLOWS_ALREADY.now
+line_there (says.Tape channel stops) = wording.IS_A_TAPE_LINE_ALREADY.now
+line_there other = wording.SAYS_THIS_ALREADY.now
 
 -- a line of which a chart has one
 unfoldable pub line_twice_words : Statement → Option Line → List ℕ
@@ -205,7 +215,7 @@ said_words false line other = line_twice_words line other
 
 -- a text on a total line that is no control field
 unfoldable pub not_control_words : Statement → List ℕ
-not_control_words line = subject line ++ codes " is no control field of level " ++ total_level_words line ++ codes " or a higher one"
+not_control_words line = subject line ++ wording.IS_NO_CONTROL_FIELD_OF_LEVEL.now ++ total_level_words line ++ wording.OR_A_HIGHER_ONE.now
 
 -- whether a line is a text on the total line of the whole deck
 abbrev pub is_of_deck : Statement → Bool
@@ -214,12 +224,12 @@ is_of_deck other = false
 
 -- a text that isn't the same on all cards of its total
 abbrev pub total_text_words : Bool → Statement → List ℕ
-total_text_words true line = codes "TOTAL 4 has no text of a field: it is of the whole deck"
+total_text_words true line = wording.TOTAL_4_HAS_NO_TEXT.now
 total_text_words false line = not_control_words line
 
 -- a total that has fewer digits than a lower one
 unfoldable pub shrink_words : Statement → Option Line → List ℕ
-shrink_words line other = number_words other ++ codes " has a lower total of " ++ subject line ++ codes " in more digits"
+shrink_words line other = number_words other ++ wording.HAS_A_LOWER_TOTAL_OF.now ++ subject line ++ wording.IN_MORE_DIGITS.now
 
 -- an amount whose mark doesn't match its sign column
 unfoldable pub mismatch_words : Statement → Bool → List ℕ
@@ -261,13 +271,13 @@ words rule.CoupledMark fields chart earlier line = coupled_words (need_on fields
 
 -- what is wrong at END: the line that is missing
 abbrev pub end_words : Rule → List ℕ
-end_words rule.PrintKind = codes "there is no PRINT line"
-end_words other = codes "there is no FORM line"
+end_words rule.PrintKind = wording.THERE_IS_NO_PRINT_LINE.now
+end_words other = wording.THERE_IS_NO_FORM_LINE.now
 
 -- what helps an amount: fewer digits, or fewer decimals
 abbrev pub fewer : (is_long : Bool) → List ℕ
-fewer true = codes "an amount has 8 digits at most: divide the field"
-fewer false = codes "an amount has 3 decimals at most, and no more than digits: give fewer decimals"
+fewer true = wording.FEWER_DIGITS.now
+fewer false = wording.FEWER_DECIMALS.now
 
 abbrev pub size_cure : Statement → List ℕ
 size_cure (says.Field field) = fewer (nat_lt 8 (columns_of field))
@@ -275,51 +285,51 @@ size_cure other = []
 
 -- what helps a level without a CONTROL line
 abbrev pub control_cure : Option ControlLevel → List ℕ
-control_cure (Some control.Minor) = codes "write CONTROL 1 and the field whose changes end a group of level 1"
-control_cure (Some control.Intermediate) = codes "write CONTROL 2 and the field whose changes end a group of level 2"
-control_cure (Some control.Major) = codes "write CONTROL 3 and the field whose changes end a group of level 3"
+control_cure (Some control.Minor) = wording.WRITE_CONTROL_1.now
+control_cure (Some control.Intermediate) = wording.WRITE_CONTROL_2.now
+control_cure (Some control.Major) = wording.WRITE_CONTROL_3.now
 control_cure None = []
 
 -- what helps a text that isn't the same on all cards of its total
 abbrev pub total_text_cure : Bool → List ℕ
-total_text_cure true = codes "take the line out, or print it on the DETAIL line"
-total_text_cure false = codes "make it a control field of that level, or print it on the DETAIL line"
+total_text_cure true = wording.TAKE_OUT_OR_PRINT_ON_DETAIL.now
+total_text_cure false = wording.MAKE_IT_A_CONTROL_FIELD.now
 
 -- what helps if a line doesn't go with what is printed
 abbrev pub print_cure : Statement → List ℕ
-print_cure (says.Print print.Detail) = codes "write a DETAIL line"
-print_cure (says.Print print.Group) = codes "write a TOTAL line"
-print_cure (says.Space line spacing) = codes "take the line out, or write the item"
-print_cure (says.After line action) = codes "take the line out, or write the item"
-print_cure other = codes "write PRINT DETAIL, or take the DETAIL lines out"
+print_cure (says.Print print.Detail) = wording.WRITE_A_DETAIL_LINE.now
+print_cure (says.Print print.Group) = wording.WRITE_A_TOTAL_LINE.now
+print_cure (says.Space line spacing) = wording.TAKE_OUT_OR_WRITE_THE_ITEM.now
+print_cure (says.After line action) = wording.TAKE_OUT_OR_WRITE_THE_ITEM.now
+print_cure other = wording.WRITE_PRINT_DETAIL.now
 
 -- what helps a form
 abbrev pub form_cure : List ℕ
 form_cure =
-    codes "FORM P T O: P is at most 144, O at most P - 2, and T is 1 or more and less than O; the headings begin on T and must end above O"
+    wording.A_FORM_IS.now
 
 -- what helps at END
 abbrev pub end_cure : Rule → List ℕ
-end_cure rule.PrintKind = codes "write PRINT DETAIL or PRINT GROUP"
+end_cure rule.PrintKind = wording.WRITE_A_PRINT_LINE.now
 end_cure other = form_cure
 
 -- what helps, by what the line says
 abbrev pub cure : Rule → Statement → List ℕ
-cure rule.NameTwice line = codes "give it another name"
-cure rule.Columns line = codes "a card has columns 1 to 80, the first column first"
+cure rule.NameTwice line = wording.GIVE_IT_ANOTHER_NAME.now
+cure rule.Columns line = wording.A_CARD_HAS_COLUMNS.now
 cure rule.AmountSize line = size_cure line
-cure rule.UnknownName line = codes "write the FIELD line, or correct the name"
-cure rule.WrongKind line = codes "a total needs its digits, and only amounts have marks; CONTROL and INDICATE take texts"
-cure rule.LineTwice line = codes "take one of them out"
+cure rule.UnknownName line = wording.WRITE_THE_FIELD_LINE.now
+cure rule.WrongKind line = wording.A_TOTAL_NEEDS_ITS_DIGITS.now
+cure rule.LineTwice line = wording.TAKE_ONE_OF_THEM_OUT.now
 cure rule.NoControl line = control_cure (level_needed line)
 cure rule.TotalTextNotControl line = total_text_cure (is_of_deck line)
-cure rule.DigitsRange line = codes "a total has as many digits as its field or more, 16 at most, and 15 with a sign column"
-cure rule.DigitsShrink line = codes "a higher total needs at least as many digits"
-cure rule.MarkMismatch line = codes "every amount with a sign column is printed with a mark, CR or -, and no other"
-cure rule.WheelRange line = codes "the machine has wheels 1 to 120: move the item"
-cure rule.WheelOverlap line = codes "move one of them"
-cure rule.WheelClash line = codes "an amount shares wheels only with amounts of the same last wheel, decimals and mark: move one of them"
+cure rule.DigitsRange line = wording.A_TOTAL_HAS_DIGITS.now
+cure rule.DigitsShrink line = wording.A_HIGHER_TOTAL_NEEDS_DIGITS.now
+cure rule.MarkMismatch line = wording.EVERY_SIGNED_AMOUNT_HAS_A_MARK.now
+cure rule.WheelRange line = wording.THE_MACHINE_HAS_WHEELS.now
+cure rule.WheelOverlap line = wording.MOVE_ONE_OF_THEM.now
+cure rule.WheelClash line = wording.AN_AMOUNT_SHARES_WHEELS.now
 cure rule.PrintKind line = print_cure line
 cure rule.Form line = form_cure
-cure rule.Tape line = codes "write a TAPE line of a channel 2 to 11, its stops in rising order on the form"
-cure rule.CoupledMark line = codes "write COUPLED where a total needs more than 8 positions, and only there"
+cure rule.Tape line = wording.WRITE_A_TAPE_LINE.now
+cure rule.CoupledMark line = wording.WRITE_COUPLED.now

@@ -4,9 +4,11 @@ ghost use Rattle.std.specs.Prelude.{◌≡◌, OnOk};
 ghost use Rattle.std.specs.Io.KnownBytes.{Appends};
 ghost use Rattle.fault_chart_words.specs.FaultWords.FormWords as law;
 
+use crate::wording;
 use chart_line_rules::print_rules::breaks_form;
 use chart_lines::charts::{Line, Statement};
 use chart_numerals::{write_between, write_numbered};
+use fault_slips::counts::write_count;
 use std::io;
 use std::io::Write;
 
@@ -15,7 +17,12 @@ use std::io::Write;
 fn write_form_lines<W: Write>(out: &mut W, lines: u16) -> io::Result<()>
     ensures { OnOk result (Appends (W.contents out.old) (W.contents out.new) (law.form_lines lines)) }
 {
-    write_between(out, "the form has ", lines, " lines")
+    write_count(
+        out,
+        wording::THE_FORM_HAS,
+        u32::from(lines),
+        wording::ONE_LINE,
+    )
 }
 
 /// Writes its first line.
@@ -23,7 +30,7 @@ fn write_form_lines<W: Write>(out: &mut W, lines: u16) -> io::Result<()>
 fn write_form_first<W: Write>(out: &mut W, first: u16) -> io::Result<()>
     ensures { OnOk result (Appends (W.contents out.old) (W.contents out.new) (law.form_first first)) }
 {
-    write_numbered(out, ", its first line is ", first)
+    write_numbered(out, wording::ITS_FIRST_LINE_IS, first)
 }
 
 /// Writes its overflow line.
@@ -31,7 +38,7 @@ fn write_form_first<W: Write>(out: &mut W, first: u16) -> io::Result<()>
 fn write_form_overflow<W: Write>(out: &mut W, overflow: u16) -> io::Result<()>
     ensures { OnOk result (Appends (W.contents out.old) (W.contents out.new) (law.form_overflow overflow)) }
 {
-    write_numbered(out, ", its overflow line ", overflow)
+    write_numbered(out, wording::ITS_OVERFLOW_LINE, overflow)
 }
 
 /// Writes the three numbers of a form.
@@ -69,7 +76,7 @@ fn ordered_form(lines: u16, first: u16, overflow: u16) -> Statement
 fn write_asked_lines<W: Write>(out: &mut W, lines: u16) -> io::Result<()>
     ensures { OnOk result (Appends (W.contents out.old) (W.contents out.new) (law.asked_lines lines)) }
 {
-    write_numbered(out, "; did you mean FORM ", lines)
+    write_numbered(out, wording::DID_YOU_MEAN_FORM, lines)
 }
 
 /// Writes its first line.

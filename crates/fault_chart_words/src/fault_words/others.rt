@@ -5,10 +5,11 @@ ghost use Rattle.std.specs.Io.KnownBytes.{Appends};
 ghost use Rattle.fault_chart_words.specs.FaultWords.Others as law;
 
 use crate::fault_words::parts::name_on;
+use crate::wording;
 use chart_line_rules::field_rules::{Fields, breaks_digits_shrink, breaks_line_twice};
 use chart_line_rules::print_rules::{Item, breaks_wheel_clash, breaks_wheel_overlap};
 use chart_lines::charts::{Field, Line, Name, Statement};
-use chart_numerals::{write_between, write_numbered};
+use chart_numerals::write_numbered;
 use chart_rules::Rule;
 use fault_slips::line_slips::is_near;
 use std::io;
@@ -72,7 +73,7 @@ pub(crate) fn write_other<W: Write>(out: &mut W, other: Option<&Line>) -> io::Re
 {
     match other {
         Some(line) => write_numbered(out, "line ", line.number),
-        None => out.write_all(b"another line"),
+        None => out.write_all(wording::ANOTHER_LINE),
     }
 }
 
@@ -83,7 +84,7 @@ pub(crate) fn write_subject<W: Write>(out: &mut W, statement: &Statement) -> io:
 {
     match name_on(statement) {
         Some(name) => out.write_all(name.as_bytes()),
-        None => out.write_all(b"the literal"),
+        None => out.write_all(wording::THE_LITERAL),
     }
 }
 
@@ -103,7 +104,7 @@ fn write_several<W: Write>(out: &mut W, word: &str, first: u64, last: u64) -> io
 {
     out.write_all(word.as_bytes())?;
     write_numbered(out, "s ", first)?;
-    write_numbered(out, " to ", last)
+    write_numbered(out, wording::TO, last)
 }
 
 /// Writes one number or several, behind the word for one of them.
@@ -122,25 +123,15 @@ pub(crate) fn write_range<W: Write>(
     }
 }
 
-/// The ending of the word for so many things.
-fn plural(count: u32) -> &'static str
-    ensures { result.now ≡ law.plural count }
+/// Writes the wheels from one up to the one before another, if there are any.
+fn write_item_wheels<W: Write>(out: &mut W, first: u64, end: u64) -> io::Result<()>
+    ensures { OnOk result (Appends (W.contents out.old) (W.contents out.new) (law.item_wheels first end)) }
 {
-    if count == 1 { "" } else { "s" }
-}
-
-/// Writes so many things, between words before them and the word for one of them.
-#[tactic(auto, unfolding(crate::specs::FaultWords::Others::count_text))]
-pub(crate) fn write_count<W: Write>(
-    out: &mut W,
-    before: &str,
-    count: u32,
-    thing: &str,
-) -> io::Result<()>
-    ensures { OnOk result (Appends (W.contents out.old) (W.contents out.new) (law.count_text before.now count thing.now)) }
-{
-    write_between(out, before, count, thing)?;
-    out.write_all(plural(count).as_bytes())
+    if first < end {
+        write_range(out, wording::TAKES_WHEEL, first, end - 1)
+    } else {
+        write_numbered(out, wording::BEGINS_AT_WHEEL, first)
+    }
 }
 
 /// Writes the wheels of an item.
@@ -149,10 +140,7 @@ fn write_wheels<W: Write>(out: &mut W, item: Option<Item>) -> io::Result<()>
     ensures { OnOk result (Appends (W.contents out.old) (W.contents out.new) (law.wheel_words item)) }
 {
     match item {
-        Some(item) => {
-            let last = item.end.saturating_sub(1);
-            write_range(out, " takes wheel", item.first as u64, last as u64)
-        }
+        Some(item) => write_item_wheels(out, item.first as u64, item.end as u64),
         None => Ok(()),
     }
 }
@@ -181,9 +169,9 @@ pub(crate) fn write_meeting<W: Write>(
 {
     match other {
         Some(line) => {
-            out.write_all(b", and ")?;
+            out.write_all(wording::AND_IT_MEETS)?;
             write_subject(out, &line.statement)?;
-            write_numbered(out, " of line ", line.number)?;
+            write_numbered(out, wording::OF_LINE, line.number)?;
             write_wheels(out, Item::of(fields, &line.statement))
         }
         None => Ok(()),

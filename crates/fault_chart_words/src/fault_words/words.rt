@@ -12,15 +12,17 @@ ghost use Rattle.fault_chart_words.specs.FaultWords.Words as law;
 
 use crate::fault_words::form_words::write_form;
 use crate::fault_words::others::{
-    met, write_count, write_meeting, write_other, write_range, write_subject, write_taken,
+    met, write_meeting, write_other, write_range, write_subject, write_taken,
 };
 use crate::fault_words::parts::{coupled_place, has_stops, marked_place, name_on};
+use crate::wording;
 use chart_line_rules::field_rules::{Fields, first_named};
 use chart_lines::charts::{
     After, ControlLevel, DetailOption, Field, Level, Line, Name, Printing, Statement,
 };
 use chart_numerals::{write_between, write_number, write_numbered};
 use chart_rules::Rule;
+use fault_slips::counts::write_count;
 use std::io;
 use std::io::Write;
 
@@ -53,7 +55,7 @@ fn write_sign<W: Write>(out: &mut W, column: Option<u16>) -> io::Result<()>
     ensures { OnOk result (Appends (W.contents out.old) (W.contents out.new) (law.sign_words column)) }
 {
     match column {
-        Some(column) => write_numbered(out, " and its sign in column ", column),
+        Some(column) => write_numbered(out, wording::AND_ITS_SIGN_IN_COLUMN, column),
         None => Ok(()),
     }
 }
@@ -64,7 +66,7 @@ fn write_columns_text<W: Write>(out: &mut W, name: Name, first: u16, last: u16) 
     ensures { OnOk result (Appends (W.contents out.old) (W.contents out.new) (law.columns_text name first last)) }
 {
     out.write_all(name.as_bytes())?;
-    write_range(out, " has column", u64::from(first), u64::from(last))
+    write_range(out, wording::HAS_COLUMN, u64::from(first), u64::from(last))
 }
 
 /// Writes the columns of a field.
@@ -87,8 +89,8 @@ fn write_size_text<W: Write>(out: &mut W, name: Name, digits: u32, decimals: u16
     ensures { OnOk result (Appends (W.contents out.old) (W.contents out.new) (law.size_text name digits decimals)) }
 {
     out.write_all(name.as_bytes())?;
-    write_count(out, " has ", digits, " digit")?;
-    write_count(out, " and ", u32::from(decimals), " decimal")
+    write_count(out, wording::HAS, digits, wording::ONE_DIGIT)?;
+    write_count(out, wording::AND, u32::from(decimals), wording::ONE_DECIMAL)
 }
 
 /// Writes the size of an amount.
@@ -119,8 +121,8 @@ fn amount_words(statement: &Statement) -> &'static str
     ensures { result.now ≡ law.amount_words statement.now }
 {
     match statement {
-        Statement::TotalText { .. } => " is an amount, and the digits of its total are missing",
-        _ => " is an amount, and a text belongs here",
+        Statement::TotalText { .. } => wording::IS_AN_AMOUNT_WITHOUT_DIGITS,
+        _ => wording::IS_AN_AMOUNT,
     }
 }
 
@@ -132,7 +134,7 @@ fn write_kind<W: Write>(out: &mut W, statement: &Statement, is_amount: bool) -> 
     if is_amount {
         out.write_all(amount_words(statement).as_bytes())
     } else {
-        out.write_all(b" is a text, and an amount belongs here")
+        out.write_all(wording::IS_A_TEXT)
     }
 }
 
@@ -158,8 +160,8 @@ fn level_word(statement: &Statement) -> &'static str
     ensures { result.now ≡ law.level_word statement.now }
 {
     match statement {
-        Statement::DetailField { .. } => "INDICATE ",
-        _ => "TOTAL ",
+        Statement::DetailField { .. } => wording::INDICATE,
+        _ => wording::TOTAL,
     }
 }
 
@@ -169,7 +171,7 @@ fn write_control_text<W: Write>(out: &mut W, word: &str, level: u8) -> io::Resul
     ensures { OnOk result (Appends (W.contents out.old) (W.contents out.new) (law.control_text word.now level)) }
 {
     write_numbered(out, word, level)?;
-    write_between(out, " wants a CONTROL ", level, " line")
+    write_between(out, wording::WANTS_A_CONTROL, level, wording::ONE_LINE)
 }
 
 /// Writes the level that has no CONTROL line.
@@ -218,16 +220,45 @@ fn columns_on(field: Option<Field>) -> u32
     }
 }
 
+/// Writes the digits of a total.
+#[tactic(auto, unfolding(crate::specs::FaultWords::Words::total_text))]
+fn write_total_digits<W: Write>(out: &mut W, digits: u16) -> io::Result<()>
+    ensures { OnOk result (Appends (W.contents out.old) (W.contents out.new) (law.total_text digits)) }
+{
+    write_count(
+        out,
+        wording::HAS_A_TOTAL_OF,
+        u32::from(digits),
+        wording::ONE_DIGIT,
+    )
+}
+
 /// Writes columns, and the digits of a total.
-#[tactic(auto, unfolding(crate::specs::FaultWords::Words::digits_text))]
+#[tactic(auto, unfolding(crate::specs::FaultWords::Words::columns_and_digits))]
+fn write_columns_and_digits<W: Write>(out: &mut W, columns: u32, digits: u16) -> io::Result<()>
+    ensures { OnOk result (Appends (W.contents out.old) (W.contents out.new) (law.columns_and_digits columns digits)) }
+{
+    write_count(out, wording::HAS, columns, wording::ONE_COLUMN)?;
+    write_count(
+        out,
+        wording::AND_ITS_TOTAL,
+        u32::from(digits),
+        wording::ONE_DIGIT,
+    )
+}
+
+/// Writes columns, if there are any, and the digits of a total.
 fn write_digits_text<W: Write>(out: &mut W, columns: u32, digits: u16) -> io::Result<()>
     ensures { OnOk result (Appends (W.contents out.old) (W.contents out.new) (law.digits_text columns digits)) }
 {
-    write_count(out, " has ", columns, " column")?;
-    write_count(out, ", and its total ", u32::from(digits), " digit")
+    if columns == 0 {
+        write_total_digits(out, digits)
+    } else {
+        write_columns_and_digits(out, columns, digits)
+    }
 }
 
-/// Writes the digits of a total, and the columns of its field.
+/// Writes the digits of a total, and the columns of its field, if it has any.
 #[tactic(auto, unfolding(crate::specs::FaultWords::Words::digit_words))]
 fn write_digits<W: Write>(
     out: &mut W,
@@ -256,9 +287,9 @@ fn write_mismatch<W: Write>(out: &mut W, has_sign: bool) -> io::Result<()>
     ensures { OnOk result (Appends (W.contents out.old) (W.contents out.new) (law.mark_words has_sign)) }
 {
     if has_sign {
-        out.write_all(b" has a sign column, and here no MARK")
+        out.write_all(wording::HAS_A_SIGN_COLUMN)
     } else {
-        out.write_all(b" has no sign column, and here a MARK")
+        out.write_all(wording::HAS_NO_SIGN_COLUMN)
     }
 }
 
@@ -268,12 +299,10 @@ fn print_words(statement: &Statement) -> &'static str
     ensures { result.now ≡ law.print_words statement.now }
 {
     match statement {
-        Statement::Print(Printing::Detail) => "no DETAIL line puts anything on the line of a card",
-        Statement::Print(Printing::Group) => "no TOTAL line puts anything on a total line",
-        Statement::Space { .. } | Statement::After { .. } => {
-            "nothing is printed on this kind of line: no DETAIL or TOTAL item names it"
-        }
-        _ => "PRINT GROUP prints totals alone",
+        Statement::Print(Printing::Detail) => wording::NO_DETAIL_LINE,
+        Statement::Print(Printing::Group) => wording::NO_TOTAL_LINE,
+        Statement::Space { .. } | Statement::After { .. } => wording::NOTHING_IS_PRINTED_THERE,
+        _ => wording::PRINT_GROUP_PRINTS_TOTALS,
     }
 }
 
@@ -282,7 +311,7 @@ fn print_words(statement: &Statement) -> &'static str
 fn write_no_tape<W: Write>(out: &mut W, channel: u16) -> io::Result<()>
     ensures { OnOk result (Appends (W.contents out.old) (W.contents out.new) (law.no_tape channel)) }
 {
-    write_between(out, "channel ", channel, " has no TAPE line")
+    write_between(out, wording::CHANNEL, channel, wording::HAS_NO_TAPE_LINE)
 }
 
 /// Writes that no TAPE line is of the channel of a skip, or can be.
@@ -293,7 +322,7 @@ fn write_skip<W: Write>(out: &mut W, channel: u16) -> io::Result<()>
     if has_stops(channel) {
         write_no_tape(out, channel)
     } else {
-        out.write_all(b"a skip goes to a channel from 2 to 11")
+        out.write_all(wording::A_SKIP_GOES_TO_A_CHANNEL)
     }
 }
 
@@ -304,9 +333,9 @@ fn write_no_stops<W: Write>(out: &mut W, channel: u16) -> io::Result<()>
 {
     write_between(
         out,
-        "the channel is ",
+        wording::THE_CHANNEL_IS,
         channel,
-        ", and only 2 to 11 have stops",
+        wording::AND_ONLY_2_TO_11_HAVE_STOPS,
     )
 }
 
@@ -316,7 +345,7 @@ fn write_stops<W: Write>(out: &mut W, channel: u16) -> io::Result<()>
     ensures { OnOk result (Appends (W.contents out.old) (W.contents out.new) (law.stops_words channel)) }
 {
     if has_stops(channel) {
-        out.write_all(b"the stops don't rise, or one of them is not on the form")
+        out.write_all(wording::THE_STOPS_DONT_RISE)
     } else {
         write_no_stops(out, channel)
     }
@@ -343,9 +372,9 @@ fn group_words(needs_two: bool) -> &'static str
     ensures { result.now ≡ law.group_words needs_two }
 {
     if needs_two {
-        ": it takes two counter groups, and the word COUPLED is missing"
+        wording::IT_TAKES_TWO_GROUPS
     } else {
-        ": one counter group is enough, without the word COUPLED"
+        wording::ONE_GROUP_IS_ENOUGH
     }
 }
 
@@ -376,7 +405,7 @@ fn write_groups<W: Write>(out: &mut W, needs_two: bool) -> io::Result<()>
 fn write_need<W: Write>(out: &mut W, need: u32) -> io::Result<()>
     ensures { OnOk result (Appends (W.contents out.old) (W.contents out.new) (law.need_text need)) }
 {
-    write_count(out, "the total needs ", need, " position")
+    write_count(out, wording::THE_TOTAL_NEEDS, need, wording::ONE_POSITION)
 }
 
 /// Writes that, and how many counter groups it takes.
@@ -398,7 +427,7 @@ fn write_described<W: Write>(
     ensures { OnOk result (Appends (W.contents out.old) (W.contents out.new) (law.described_words statement.now (option_map (λ line. line.now) other.entry))) }
 {
     write_subject(out, statement)?;
-    out.write_all(b" is described already, on ")?;
+    out.write_all(wording::IS_DESCRIBED_ALREADY_ON)?;
     write_other(out, other)
 }
 
@@ -407,7 +436,7 @@ fn write_described<W: Write>(
 fn write_undescribed<W: Write>(out: &mut W, statement: &Statement) -> io::Result<()>
     ensures { OnOk result (Appends (W.contents out.old) (W.contents out.new) (law.undescribed_words statement.now)) }
 {
-    out.write_all(b"no FIELD line describes ")?;
+    out.write_all(wording::NO_FIELD_LINE_DESCRIBES)?;
     write_subject(out, statement)
 }
 
@@ -416,7 +445,7 @@ fn write_undescribed<W: Write>(out: &mut W, statement: &Statement) -> io::Result
 fn write_asked<W: Write>(out: &mut W, statement: &Statement) -> io::Result<()>
     ensures { OnOk result (Appends (W.contents out.old) (W.contents out.new) (law.asked_words statement.now)) }
 {
-    out.write_all(b"; did you mean ")?;
+    out.write_all(wording::DID_YOU_MEAN)?;
     write_subject(out, statement)
 }
 
@@ -462,9 +491,9 @@ fn write_line_of_item<W: Write>(out: &mut W, statement: &Statement) -> io::Resul
     ensures { OnOk result (Appends (W.contents out.old) (W.contents out.new) (law.line_of_item statement.now)) }
 {
     match statement {
-        Statement::TotalText { level, .. } => write_numbered(out, "TOTAL ", level.number()),
-        Statement::TotalAmount(total) => write_numbered(out, "TOTAL ", total.level.number()),
-        _ => out.write_all(b"the line of a card"),
+        Statement::TotalText { level, .. } => write_numbered(out, wording::TOTAL, level.number()),
+        Statement::TotalAmount(total) => write_numbered(out, wording::TOTAL, total.level.number()),
+        _ => out.write_all(wording::THE_LINE_OF_A_CARD),
     }
 }
 
@@ -478,9 +507,9 @@ fn write_item_twice<W: Write>(
     ensures { OnOk result (Appends (W.contents out.old) (W.contents out.new) (law.item_twice_words statement.now (option_map (λ line. line.now) other.entry))) }
 {
     write_subject(out, statement)?;
-    out.write_all(b" is on ")?;
+    out.write_all(wording::IS_ON)?;
     write_line_of_item(out, statement)?;
-    out.write_all(b" already, by ")?;
+    out.write_all(wording::ALREADY_BY)?;
     write_other(out, other)
 }
 
@@ -489,13 +518,13 @@ fn line_there(statement: &Statement) -> &'static str
     ensures { result.now ≡ law.line_there statement.now }
 {
     match statement {
-        Statement::Print(_) => " is a PRINT line already",
-        Statement::Form { .. } => " is a FORM line already",
-        Statement::Control { .. } => " has this level and field already",
-        Statement::Space { .. } => " spaces this kind of line already",
-        Statement::After { .. } => " says already what follows this kind of line",
-        Statement::Tape { .. } => " is a TAPE line of this channel already",
-        _ => " says this already",
+        Statement::Print(_) => wording::IS_A_PRINT_LINE_ALREADY,
+        Statement::Form { .. } => wording::IS_A_FORM_LINE_ALREADY,
+        Statement::Control { .. } => wording::HAS_THIS_LEVEL_AND_FIELD_ALREADY,
+        Statement::Space { .. } => wording::SPACES_THIS_KIND_OF_LINE_ALREADY,
+        Statement::After { .. } => wording::SAYS_WHAT_FOLLOWS_ALREADY,
+        Statement::Tape { .. } => wording::IS_A_TAPE_LINE_ALREADY,
+        _ => wording::SAYS_THIS_ALREADY,
     }
 }
 
@@ -545,9 +574,9 @@ fn write_not_control<W: Write>(out: &mut W, statement: &Statement) -> io::Result
     ensures { OnOk result (Appends (W.contents out.old) (W.contents out.new) (law.not_control_words statement.now)) }
 {
     write_subject(out, statement)?;
-    out.write_all(b" is no control field of level ")?;
+    out.write_all(wording::IS_NO_CONTROL_FIELD_OF_LEVEL)?;
     write_total_level(out, statement)?;
-    out.write_all(b" or a higher one")
+    out.write_all(wording::OR_A_HIGHER_ONE)
 }
 
 /// Whether a line is a text on the total line of the whole deck.
@@ -572,7 +601,7 @@ fn write_total_text<W: Write>(
     ensures { OnOk result (Appends (W.contents out.old) (W.contents out.new) (law.total_text_words is_of_deck statement.now)) }
 {
     if is_of_deck {
-        out.write_all(b"TOTAL 4 has no text of a field: it is of the whole deck")
+        out.write_all(wording::TOTAL_4_HAS_NO_TEXT)
     } else {
         write_not_control(out, statement)
     }
@@ -588,9 +617,9 @@ fn write_shrink<W: Write>(
     ensures { OnOk result (Appends (W.contents out.old) (W.contents out.new) (law.shrink_words statement.now (option_map (λ line. line.now) other.entry))) }
 {
     write_other(out, other)?;
-    out.write_all(b" has a lower total of ")?;
+    out.write_all(wording::HAS_A_LOWER_TOTAL_OF)?;
     write_subject(out, statement)?;
-    out.write_all(b" in more digits")
+    out.write_all(wording::IN_MORE_DIGITS)
 }
 
 /// Writes an amount whose mark doesn't match its sign column.
@@ -718,8 +747,8 @@ pub(crate) fn end_words(rule: Rule) -> &'static str
     ensures { result.now ≡ law.end_words rule }
 {
     match rule {
-        Rule::PrintKind => "there is no PRINT line",
-        _ => "there is no FORM line",
+        Rule::PrintKind => wording::THERE_IS_NO_PRINT_LINE,
+        _ => wording::THERE_IS_NO_FORM_LINE,
     }
 }
 
@@ -728,9 +757,9 @@ fn fewer(is_long: bool) -> &'static str
     ensures { result.now ≡ law.fewer is_long }
 {
     if is_long {
-        "an amount has 8 digits at most: divide the field"
+        wording::FEWER_DIGITS
     } else {
-        "an amount has 3 decimals at most, and no more than digits: give fewer decimals"
+        wording::FEWER_DECIMALS
     }
 }
 
@@ -749,15 +778,9 @@ fn control_cure(level: Option<ControlLevel>) -> &'static str
     ensures { result.now ≡ law.control_cure level }
 {
     match level {
-        Some(ControlLevel::Minor) => {
-            "write CONTROL 1 and the field whose changes end a group of level 1"
-        }
-        Some(ControlLevel::Intermediate) => {
-            "write CONTROL 2 and the field whose changes end a group of level 2"
-        }
-        Some(ControlLevel::Major) => {
-            "write CONTROL 3 and the field whose changes end a group of level 3"
-        }
+        Some(ControlLevel::Minor) => wording::WRITE_CONTROL_1,
+        Some(ControlLevel::Intermediate) => wording::WRITE_CONTROL_2,
+        Some(ControlLevel::Major) => wording::WRITE_CONTROL_3,
         None => "",
     }
 }
@@ -767,9 +790,9 @@ fn total_text_cure(is_of_deck: bool) -> &'static str
     ensures { result.now ≡ law.total_text_cure is_of_deck }
 {
     if is_of_deck {
-        "take the line out, or print it on the DETAIL line"
+        wording::TAKE_OUT_OR_PRINT_ON_DETAIL
     } else {
-        "make it a control field of that level, or print it on the DETAIL line"
+        wording::MAKE_IT_A_CONTROL_FIELD
     }
 }
 
@@ -778,10 +801,10 @@ fn print_cure(statement: &Statement) -> &'static str
     ensures { result.now ≡ law.print_cure statement.now }
 {
     match statement {
-        Statement::Print(Printing::Detail) => "write a DETAIL line",
-        Statement::Print(Printing::Group) => "write a TOTAL line",
-        Statement::Space { .. } | Statement::After { .. } => "take the line out, or write the item",
-        _ => "write PRINT DETAIL, or take the DETAIL lines out",
+        Statement::Print(Printing::Detail) => wording::WRITE_A_DETAIL_LINE,
+        Statement::Print(Printing::Group) => wording::WRITE_A_TOTAL_LINE,
+        Statement::Space { .. } | Statement::After { .. } => wording::TAKE_OUT_OR_WRITE_THE_ITEM,
+        _ => wording::WRITE_PRINT_DETAIL,
     }
 }
 
@@ -789,7 +812,7 @@ fn print_cure(statement: &Statement) -> &'static str
 fn form_cure() -> &'static str
     ensures { result.now ≡ law.form_cure }
 {
-    "FORM P T O: P is at most 144, O at most P - 2, and T is 1 or more and less than O; the headings begin on T and must end above O"
+    wording::A_FORM_IS
 }
 
 /// What helps at END.
@@ -797,7 +820,7 @@ pub(crate) fn end_cure(rule: Rule) -> &'static str
     ensures { result.now ≡ law.end_cure rule }
 {
     match rule {
-        Rule::PrintKind => "write PRINT DETAIL or PRINT GROUP",
+        Rule::PrintKind => wording::WRITE_A_PRINT_LINE,
         _ => form_cure(),
     }
 }
@@ -807,29 +830,23 @@ pub(crate) fn cure(rule: Rule, statement: &Statement) -> &'static str
     ensures { result.now ≡ law.cure rule statement.now }
 {
     match rule {
-        Rule::NameTwice => "give it another name",
-        Rule::Columns => "a card has columns 1 to 80, the first column first",
+        Rule::NameTwice => wording::GIVE_IT_ANOTHER_NAME,
+        Rule::Columns => wording::A_CARD_HAS_COLUMNS,
         Rule::AmountSize => size_cure(statement),
-        Rule::UnknownName => "write the FIELD line, or correct the name",
-        Rule::WrongKind =>
-            "a total needs its digits, and only amounts have marks; CONTROL and INDICATE take texts",
-        Rule::LineTwice => "take one of them out",
+        Rule::UnknownName => wording::WRITE_THE_FIELD_LINE,
+        Rule::WrongKind => wording::A_TOTAL_NEEDS_ITS_DIGITS,
+        Rule::LineTwice => wording::TAKE_ONE_OF_THEM_OUT,
         Rule::NoControl => control_cure(level_needed(statement)),
         Rule::TotalTextNotControl => total_text_cure(is_of_deck(statement)),
-        Rule::DigitsRange =>
-            "a total has as many digits as its field or more, 16 at most, and 15 with a sign column",
-        Rule::DigitsShrink => "a higher total needs at least as many digits",
-        Rule::MarkMismatch =>
-            "every amount with a sign column is printed with a mark, CR or -, and no other",
-        Rule::WheelRange => "the machine has wheels 1 to 120: move the item",
-        Rule::WheelOverlap => "move one of them",
-        Rule::WheelClash =>
-            "an amount shares wheels only with amounts of the same last wheel, decimals and mark: move one of them",
+        Rule::DigitsRange => wording::A_TOTAL_HAS_DIGITS,
+        Rule::DigitsShrink => wording::A_HIGHER_TOTAL_NEEDS_DIGITS,
+        Rule::MarkMismatch => wording::EVERY_SIGNED_AMOUNT_HAS_A_MARK,
+        Rule::WheelRange => wording::THE_MACHINE_HAS_WHEELS,
+        Rule::WheelOverlap => wording::MOVE_ONE_OF_THEM,
+        Rule::WheelClash => wording::AN_AMOUNT_SHARES_WHEELS,
         Rule::PrintKind => print_cure(statement),
         Rule::Form => form_cure(),
-        Rule::Tape =>
-            "write a TAPE line of a channel 2 to 11, its stops in rising order on the form",
-        Rule::CoupledMark =>
-            "write COUPLED where a total needs more than 8 positions, and only there",
+        Rule::Tape => wording::WRITE_A_TAPE_LINE,
+        Rule::CoupledMark => wording::WRITE_COUPLED,
     }
 }

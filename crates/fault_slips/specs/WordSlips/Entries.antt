@@ -10,6 +10,7 @@ use Rattle.fault_slips.specs.WordSlips.Halts.{all_places, halt_of}
 use Rattle.fault_slips.specs.WordSlips.Phrases.{phrase}
 use Rattle.fault_slips.specs.WordSlips.Stages.{may_end}
 use Rattle.fault_slips.specs.declared.word_slips.halt.Halt.{Halt}
+use Rattle.fault_slips.specs.declared.wording.TheConstants as wording
 
 -- what is wrong, in some words and others
 unfoldable pub wrong_line : List ℕ → List ℕ → List ℕ
@@ -35,13 +36,13 @@ is_joined line place = is_no_space (slice_get line (span_of place line).end)
 
 -- the entry of a line whose words are those of a form, by the first of them behind which a space is missing
 unfoldable pub whole_entry : ℕ → List ℕ → Option ℕ → List ℕ
-whole_entry number line (Some place) = marked_entry number line place (codes "a space belongs behind this") []
+whole_entry number line (Some place) = marked_entry number line place wording.A_SPACE_BELONGS_BEHIND_THIS.now []
 whole_entry number line None =
-    if bytes_eq (word 5 line) (codes "COUPLED") then marked_entry number line 5 (codes "version 1 has no COUPLED") [] else line_entry number line
+    if bytes_eq (word 5 line) (codes "COUPLED") then marked_entry number line 5 wording.VERSION_1_HAS_NO_COUPLED.now [] else line_entry number line
 
 -- the entry of a line that lacks words behind its last one
 unfoldable pub missing_entry : ℕ → List ℕ → Halt → List ℕ
-missing_entry number line halt = marked_entry number line (halt.place - 1) (codes "behind this belongs ") (phrase halt.stage)
+missing_entry number line halt = marked_entry number line (halt.place - 1) wording.BEHIND_THIS_BELONGS.now (phrase halt.stage)
 
 -- the entry of a line that leaves the forms behind its last word: where a form may end, nothing is missing
 unfoldable pub front_entry : ℕ → List ℕ → Halt → List ℕ
@@ -52,7 +53,7 @@ front_entry number line halt =
 -- by the word at which a line leaves the forms: an empty one is none
 abbrev pub halted_entry : ℕ → List ℕ → Halt → List ℕ → List ℕ
 halted_entry number line halt [] = front_entry number line halt
-halted_entry number line halt (byte ∷ bytes) = marked_entry number line halt.place (codes "here belongs ") (phrase halt.stage)
+halted_entry number line halt (byte ∷ bytes) = marked_entry number line halt.place wording.HERE_BELONGS.now (phrase halt.stage)
 
 -- by where a line leaves the forms
 unfoldable pub entry_by : ℕ → List ℕ → Option Halt → List ℕ

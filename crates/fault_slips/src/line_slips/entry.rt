@@ -7,6 +7,7 @@ ghost use Rattle.fault_slips.specs.LineSlips.LineEntries as law;
 use crate::line_marks::{token_span, word, write_below, write_head, write_shown};
 use crate::line_slips::forms::{cure_words, slip_words};
 use crate::line_slips::slip::{slip_of, slip_span};
+use crate::wording;
 use chart_numerals::write_between;
 use std::io;
 use std::io::Write;
@@ -41,7 +42,12 @@ pub fn write_line_entry<W: Write>(out: &mut W, number: u16, line: &[u8]) -> io::
 fn write_behind_wrong<W: Write>(out: &mut W, end: u64) -> io::Result<()>
     ensures { OnOk result (Appends (W.contents out.old) (W.contents out.new) (law.behind_wrong end)) }
 {
-    write_between(out, "END stands on line ", end, ", and ends the chart")
+    write_between(
+        out,
+        wording::END_STANDS_ON_LINE,
+        end,
+        wording::AND_ENDS_THE_CHART,
+    )
 }
 
 /// Writes what is told of a line behind END, which stands on line `end`, of a chart or of a wiring chart.
@@ -57,7 +63,7 @@ pub fn write_behind<W: Write>(out: &mut W, end: u64, line: &[u8]) -> io::Result<
     out.write_all(b"  ")?;
     write_behind_wrong(out, end)?;
     out.write_all(b"\n")?;
-    out.write_all(b"  take out what stands behind END, or write END behind it\n")
+    out.write_all(wording::TAKE_OUT_WHAT_STANDS_BEHIND_END)
 }
 
 /// Writes the entry of a line with a number that stands behind END. END stands on line `end`.

@@ -5,6 +5,7 @@ ghost use Rattle.fault_slips.specs.LineSlips.Forms as law;
 
 use crate::line_slips::near::is_near;
 use crate::line_slips::slip::Slip;
+use crate::wording;
 
 /// What is wrong with a line whose bytes tell no slip, by its first word.
 #[tactic(auto, unfolding(crate::specs::LineSlips::Forms::first_words))]
@@ -12,11 +13,11 @@ fn first_words(word: &[u8]) -> &'static str
     ensures { result.now ≡ law.first_words word.now }
 {
     if is_word(word, b"CHART407") {
-        "only the first line of a chart begins with CHART407"
+        wording::ONLY_THE_FIRST_LINE_IS_THE_TITLE
     } else if begins_form(word) {
-        "no line of a chart has these words in this order"
+        wording::NO_LINE_HAS_THESE_WORDS_IN_THIS_ORDER
     } else {
-        "no line of a chart begins with this word"
+        wording::NO_LINE_BEGINS_WITH_THIS_WORD
     }
 }
 
@@ -48,14 +49,14 @@ fn begins_item(word: &[u8]) -> bool
 pub fn tab_words() -> &'static str
     ensures { result.now ≡ law.tab_words }
 {
-    "there is a tab, and only spaces divide words"
+    wording::THERE_IS_A_TAB
 }
 
 /// What helps for a tab, in a chart and in a wiring chart.
 pub fn tab_cure() -> &'static str
     ensures { result.now ≡ law.tab_cure }
 {
-    "put a space in its place"
+    wording::PUT_A_SPACE_IN_ITS_PLACE
 }
 
 /// What is wrong by a slip, with a line whose first word this is.
@@ -65,14 +66,11 @@ pub(crate) fn slip_words(slip: Slip, word: &[u8]) -> &'static str
 {
     match slip {
         Slip::Tab => tab_words(),
-        Slip::Comment => "a chart has no comments",
-        Slip::Quotation =>
-            "literals stand in apostrophes, '..', and a chart has no quotation marks and no characters but ASCII",
-        Slip::Unclosed =>
-            "an apostrophe is not closed; a literal stands between two, and has none within",
-        Slip::Small => "a chart has only capital letters",
-        Slip::Unprintable =>
-            "this character can't be printed: a chart has capital letters, digits, blanks and & - / . $ * , % # @",
+        Slip::Comment => wording::NO_COMMENTS,
+        Slip::Quotation => wording::NO_QUOTATION_MARKS,
+        Slip::Unclosed => wording::AN_APOSTROPHE_IS_NOT_CLOSED,
+        Slip::Small => wording::ONLY_CAPITAL_LETTERS,
+        Slip::Unprintable => wording::THIS_CHARACTER_CANT_BE_PRINTED,
         Slip::Other => first_words(word),
     }
 }
@@ -90,29 +88,29 @@ fn near_word(word: &[u8]) -> &'static str
     ensures { result.now ≡ law.near_word word.now }
 {
     if is_near(b"FIELD", word) {
-        "did you mean FIELD?"
+        wording::MEANT_FIELD
     } else if is_near(b"CONTROL", word) {
-        "did you mean CONTROL?"
+        wording::MEANT_CONTROL
     } else if is_near(b"PRINT", word) {
-        "did you mean PRINT?"
+        wording::MEANT_PRINT
     } else if is_near(b"HEAD", word) {
-        "did you mean HEAD?"
+        wording::MEANT_HEAD
     } else if is_near(b"DETAIL", word) {
-        "did you mean DETAIL?"
+        wording::MEANT_DETAIL
     } else if is_near(b"TOTAL", word) {
-        "did you mean TOTAL?"
+        wording::MEANT_TOTAL
     } else if is_near(b"SPACE", word) {
-        "did you mean SPACE?"
+        wording::MEANT_SPACE
     } else if is_near(b"AFTER", word) {
-        "did you mean AFTER?"
+        wording::MEANT_AFTER
     } else if is_near(b"FORM", word) {
-        "did you mean FORM?"
+        wording::MEANT_FORM
     } else if is_near(b"TAPE", word) {
-        "did you mean TAPE?"
+        wording::MEANT_TAPE
     } else if is_near(b"END", word) {
-        "did you mean END?"
+        wording::MEANT_END
     } else {
-        "a line begins with FIELD, CONTROL, PRINT, HEAD, DETAIL, TOTAL, SPACE, AFTER, FORM, TAPE or END"
+        wording::A_LINE_BEGINS_WITH
     }
 }
 
@@ -122,29 +120,29 @@ pub fn form_words(word: &[u8]) -> &'static str
     ensures { result.now ≡ law.form_words word.now }
 {
     if is_word(word, b"FIELD") {
-        "FIELD takes a name and columns: FIELD NAME TEXT 1 20, or FIELD AMT AMOUNT 21 26 2, with X 26 or NX 26 behind it for a sign column"
+        wording::FIELD_TAKES
     } else if is_word(word, b"CONTROL") {
-        "CONTROL takes a level 1 to 3 and a name: CONTROL 1 DEPT"
+        wording::CONTROL_TAKES
     } else if is_word(word, b"PRINT") {
-        "PRINT takes one word: PRINT DETAIL or PRINT GROUP"
+        wording::PRINT_TAKES
     } else if is_word(word, b"HEAD") {
-        "HEAD takes a heading line 1 to 3, a wheel and a literal: HEAD 1 40 'SALES'"
+        wording::HEAD_TAKES
     } else if is_word(word, b"DETAIL") {
-        "DETAIL takes a wheel first: DETAIL 9 ITEM, DETAIL 9 'TEXT', and INDICATE 1 or MARK CR behind a name"
+        wording::DETAIL_TAKES
     } else if is_word(word, b"TOTAL") {
-        "TOTAL takes a level 1 to 4 and a wheel first: TOTAL 1 40 AMT 7, with MARK CR and in version 2 COUPLED behind the digits, or TOTAL 1 9 'TEXT', or TOTAL 1 9 DEPT"
+        wording::TOTAL_TAKES
     } else if is_word(word, b"SPACE") {
-        "SPACE takes a kind of line and 1 to 3: SPACE DETAIL 2 or SPACE TOTAL 1 2"
+        wording::SPACE_TAKES
     } else if is_word(word, b"AFTER") {
-        "AFTER takes a kind of line: AFTER TOTAL 1 PAGE or AFTER DETAIL SKIP 3"
+        wording::AFTER_TAKES
     } else if is_word(word, b"FORM") {
-        "FORM takes three numbers, lines, first line and overflow line: FORM 66 6 60"
+        wording::FORM_TAKES
     } else if is_word(word, b"TAPE") {
-        "TAPE takes a channel and 1 to 10 stops: TAPE 3 10 20"
+        wording::TAPE_TAKES
     } else if is_word(word, b"END") {
-        "END stands alone, and nothing behind it"
+        wording::END_STANDS_ALONE
     } else if is_word(word, b"CHART407") {
-        "CHART407 stands on the first line already: take this line out"
+        wording::THE_TITLE_STANDS_ALREADY
     } else {
         near_word(word)
     }

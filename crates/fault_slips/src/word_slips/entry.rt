@@ -8,6 +8,7 @@ use crate::line_marks::{token_span, word, write_below, write_head, write_shown};
 use crate::line_slips::{form_words, write_line_entry};
 use crate::word_slips::halt::{Halt, halt_of};
 use crate::word_slips::stage::{may_end, phrase};
+use crate::wording;
 use chart_lines::tokens::is;
 use std::io;
 use std::io::Write;
@@ -93,9 +94,16 @@ fn write_whole<W: Write>(
     ensures { OnOk result (Appends (W.contents out.old) (W.contents out.new) (law.whole_entry number line.now joined)) }
 {
     match joined {
-        Some(place) => write_marked(out, number, line, place, "a space belongs behind this", ""),
+        Some(place) => write_marked(
+            out,
+            number,
+            line,
+            place,
+            wording::A_SPACE_BELONGS_BEHIND_THIS,
+            "",
+        ),
         None if is(word(line, 5), b"COUPLED") => {
-            write_marked(out, number, line, 5, "version 1 has no COUPLED", "")
+            write_marked(out, number, line, 5, wording::VERSION_1_HAS_NO_COUPLED, "")
         }
         None => write_line_entry(out, number, line),
     }
@@ -119,7 +127,7 @@ fn write_missing<W: Write>(out: &mut W, number: u16, line: &[u8], halt: Halt) ->
         number,
         line,
         last,
-        "behind this belongs ",
+        wording::BEHIND_THIS_BELONGS,
         phrase(halt.stage),
     )
 }
@@ -153,7 +161,7 @@ fn write_halted<W: Write>(
             number,
             line,
             halt.place,
-            "here belongs ",
+            wording::HERE_BELONGS,
             phrase(halt.stage),
         ),
     }

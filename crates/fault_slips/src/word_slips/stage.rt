@@ -5,6 +5,7 @@ ghost use Rattle.fault_slips.specs.WordSlips.Stages as law;
 ghost use Rattle.fault_slips.specs.WordSlips.Phrases as said;
 
 use crate::word_slips::words::{is_literal, is_name, is_number, is_up_to};
+use crate::wording;
 use chart_lines::tokens::is;
 
 /// What a form has next, behind words that it begins with.
@@ -275,50 +276,45 @@ pub(crate) fn phrase(stage: Stage) -> &'static str
     ensures { result.now ≡ said.phrase stage }
 {
     match stage {
-        Stage::FieldName => "a name, 1 to 8 capital letters and digits with a letter first",
-        Stage::FieldKind => "TEXT or AMOUNT",
-        Stage::TextFirst => "the first column, a number of 1 to 3 digits without a leading zero",
-        Stage::TextLast => "the last column, a number of 1 to 3 digits without a leading zero",
-        Stage::AmountFirst => "the first column, a number of 1 to 3 digits without a leading zero",
-        Stage::AmountLast => "the last column, a number of 1 to 3 digits without a leading zero",
-        Stage::Decimals => "the number of decimals, without a leading zero",
-        Stage::SignWord => "X or NX with a sign column, or nothing",
-        Stage::SignColumn => "the sign column, a number of 1 to 3 digits without a leading zero",
-        Stage::ControlLevel => "a level, 1 to 3",
-        Stage::ControlName => "the name of a field, 1 to 8 letters and digits",
-        Stage::PrintKind => "DETAIL or GROUP",
-        Stage::HeadLine => "a heading line, 1 to 3",
-        Stage::HeadWheel => "a wheel, a number of 1 to 3 digits without a leading zero",
-        Stage::HeadLiteral => "a literal, 1 to 120 characters between apostrophes",
-        Stage::DetailWheel => "a wheel, a number of 1 to 3 digits without a leading zero",
-        Stage::DetailItem =>
-            "the name of a field, 1 to 8 letters and digits, or a literal, 1 to 120 characters between apostrophes",
-        Stage::DetailOption => "INDICATE with a level, MARK with CR or -, or nothing",
-        Stage::IndicatedLevel => "a level, 1 to 3",
-        Stage::MarkSign => "CR or -",
-        Stage::TotalLevel => "a level, 1 to 4",
-        Stage::TotalWheel => "a wheel, a number of 1 to 3 digits without a leading zero",
-        Stage::TotalItem =>
-            "the name of a field, 1 to 8 letters and digits, or a literal, 1 to 120 characters between apostrophes",
-        Stage::TotalDigits =>
-            "the digits of the total, a number without a leading zero, or nothing",
-        Stage::TotalOption => "MARK with CR or -, in version 2 COUPLED, or nothing",
-        Stage::TotalMark => "MARK with CR or -, or nothing",
-        Stage::SpaceKind => "DETAIL, or TOTAL with a level",
-        Stage::SpaceLevel => "a level, 1 to 4",
-        Stage::SpaceCount => "a spacing, 1 to 3",
-        Stage::AfterKind => "DETAIL, or TOTAL with a level",
-        Stage::AfterLevel => "a level, 1 to 4",
-        Stage::AfterWhat => "PAGE, or SKIP with a channel",
-        Stage::SkipChannel => "a channel, a number of 1 to 3 digits without a leading zero",
-        Stage::FormLines => "the lines of a page, a number of 1 to 3 digits without a leading zero",
-        Stage::FormFirst => "the first line, a number of 1 to 3 digits without a leading zero",
-        Stage::FormOverflow =>
-            "the overflow line, a number of 1 to 3 digits without a leading zero",
-        Stage::TapeChannel => "a channel, a number of 1 to 3 digits without a leading zero",
-        Stage::FirstStop => "a stop, a number of 1 to 3 digits without a leading zero",
-        Stage::Stops(_) =>
-            "a stop, a number of 1 to 3 digits without a leading zero, 10 stops at most, or nothing",
-        Stage::Nothing => "the end of the line",
+        Stage::FieldName => wording::A_NEW_NAME,
+        Stage::FieldKind => wording::TEXT_OR_AMOUNT,
+        Stage::TextFirst => wording::THE_FIRST_COLUMN,
+        Stage::TextLast => wording::THE_LAST_COLUMN,
+        Stage::AmountFirst => wording::THE_FIRST_COLUMN,
+        Stage::AmountLast => wording::THE_LAST_COLUMN,
+        Stage::Decimals => wording::THE_NUMBER_OF_DECIMALS,
+        Stage::SignWord => wording::X_OR_NX,
+        Stage::SignColumn => wording::THE_SIGN_COLUMN,
+        Stage::ControlLevel => wording::A_LEVEL_1_TO_3,
+        Stage::ControlName => wording::THE_NAME_OF_A_FIELD,
+        Stage::PrintKind => wording::DETAIL_OR_GROUP,
+        Stage::HeadLine => wording::A_HEADING_LINE,
+        Stage::HeadWheel => wording::A_WHEEL,
+        Stage::HeadLiteral => wording::A_LITERAL,
+        Stage::DetailWheel => wording::A_WHEEL,
+        Stage::DetailItem => wording::A_NAME_OR_A_LITERAL,
+        Stage::DetailOption => wording::INDICATE_OR_MARK,
+        Stage::IndicatedLevel => wording::A_LEVEL_1_TO_3,
+        Stage::MarkSign => wording::CREDIT_OR_MINUS,
+        Stage::TotalLevel => wording::A_LEVEL_1_TO_4,
+        Stage::TotalWheel => wording::A_WHEEL,
+        Stage::TotalItem => wording::A_NAME_OR_A_LITERAL,
+        Stage::TotalDigits => wording::THE_NUMBER_OF_DIGITS,
+        Stage::TotalOption => wording::MARK_OR_COUPLED,
+        Stage::TotalMark => wording::MARK_OR_NOTHING,
+        Stage::SpaceKind => wording::DETAIL_OR_TOTAL,
+        Stage::SpaceLevel => wording::A_LEVEL_1_TO_4,
+        Stage::SpaceCount => wording::A_SPACING,
+        Stage::AfterKind => wording::DETAIL_OR_TOTAL,
+        Stage::AfterLevel => wording::A_LEVEL_1_TO_4,
+        Stage::AfterWhat => wording::PAGE_OR_SKIP,
+        Stage::SkipChannel => wording::A_CHANNEL,
+        Stage::FormLines => wording::THE_NUMBER_OF_LINES,
+        Stage::FormFirst => wording::THE_FIRST_LINE,
+        Stage::FormOverflow => wording::THE_OVERFLOW_LINE,
+        Stage::TapeChannel => wording::A_CHANNEL,
+        Stage::FirstStop => wording::A_STOP,
+        Stage::Stops(_) => wording::A_FURTHER_STOP,
+        Stage::Nothing => wording::THE_END_OF_THE_LINE,
     }
 }

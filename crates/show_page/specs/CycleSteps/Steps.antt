@@ -10,6 +10,7 @@ use Rattle.show_links.specs.Links.{row_name}
 use Rattle.show_drawings.specs.DrawingsWords.PanelDrawing.Drawing.{picture_open, way_curve}
 use Rattle.show_drawings.specs.declared.drawings.panel_drawing.drawing.PanelWire.{PanelWire}
 use Rattle.hubs.specs.SetupsWords.Wiring.{Wiring}
+use Rattle.show_page.specs.Counts.{counted}
 use Rattle.show_page.specs.CycleSteps.Live.{AreLive}
 
 -- the name of a point by its number, 1 to 14: C, the rows 9 to 0, 11 and 12 of a card in the order in which they pass the brushes, and K
@@ -19,15 +20,8 @@ point_name number =
     then codes "C"
     else if nat_le number 11 then decimal (11 - number) else if number == 14 then codes "K" else decimal (number - 1)
 
--- so many wires
-abbrev pub wire_word : ℕ → List ℕ
-wire_word count = if count == 1 then codes " wire" else codes " wires"
-
 unfoldable pub named_point : ℕ → List ℕ
 named_point number = codes "point " ++ point_name number ++ codes ": "
-
-unfoldable pub counted_wires : ℕ → List ℕ
-counted_wires count = decimal count ++ wire_word count
 
 -- the curve of a wire, from the hub that it leaves to the one that it enters
 abbrev pub wire_curve : PanelWire → List ℕ
@@ -35,7 +29,7 @@ wire_curve wire = way_curve (wire.exit ∷ wire.entry ∷ [])
 
 -- a step: the point, how many wires carry an impulse, and these wires as one path over the panel
 unfoldable pub step_open : (number count : ℕ) → List ℕ
-step_open number count = codes "<details><summary>" ++ named_point number ++ counted_wires count ++ codes "</summary>"
+step_open number count = codes "<details><summary>" ++ named_point number ++ counted count (codes "wire") ++ codes "</summary>"
 
 unfoldable pub step_picture : List PanelWire → List ℕ
 step_picture live = picture_open ++ codes "<path d=\"" ++ flat_map wire_curve live ++ codes "\"/></svg></details>\n"

@@ -6,8 +6,9 @@ ghost use Rattle.std.specs.String.{string_bytes};
 ghost use Rattle.show_drawings.specs.MarkupWords.Pieces.{GainsEach, GainsOne};
 ghost use Rattle.net.specs.Nets.{IsNetOf};
 ghost use Rattle.hubs.specs.SetupsWords.Wiring.{Wiring};
-ghost use Rattle.show_page.specs.CycleSteps.Steps.{IsStep, IsStepSection, back_text, counted_wires, link_name, link_words, links_close, links_open, links_text, named_point, open_step, point_name, quiet_step, section_head, section_name, section_open, some_links, step_link, step_open, step_picture, step_text, steps_close, wire_curve, wire_word};
+ghost use Rattle.show_page.specs.CycleSteps.Steps.{IsStep, IsStepSection, back_text, link_name, link_words, links_close, links_open, links_text, named_point, open_step, point_name, quiet_step, section_head, section_name, section_open, some_links, step_link, step_open, step_picture, step_text, steps_close, wire_curve};
 
+use crate::counts::write_counted;
 use crate::cycle_steps::live::live_wires;
 use chart_numerals::{push_between, push_number, push_numbered};
 use explain_wheels::explanations::FoundLine;
@@ -45,26 +46,6 @@ fn write_point(text: &mut String, number: u32) -> Result<(), AllocError>
     text.push_str(": ")
 }
 
-// The word behind a number of wires.
-fn write_wire_word(text: &mut String, count: usize) -> Result<(), AllocError>
-    ensures { OnOk result (string_bytes text.new ≡ string_bytes text.old ++ wire_word count) }
-{
-    if count == 1 {
-        text.push_str(" wire")
-    } else {
-        text.push_str(" wires")
-    }
-}
-
-#[tactic(auto, unfolding(crate::specs::CycleSteps::Steps::counted_wires))]
-// So many wires.
-fn write_counted(text: &mut String, count: usize) -> Result<(), AllocError>
-    ensures { OnOk result (string_bytes text.new ≡ string_bytes text.old ++ counted_wires count) }
-{
-    push_number(text, count)?;
-    write_wire_word(text, count)
-}
-
 #[tactic(auto, unfolding(crate::specs::CycleSteps::Steps::step_open))]
 // The front of a step.
 fn write_step_open(text: &mut String, number: u32, count: usize) -> Result<(), AllocError>
@@ -73,7 +54,7 @@ fn write_step_open(text: &mut String, number: u32, count: usize) -> Result<(), A
 {
     text.push_str("<details><summary>")?;
     write_point(text, number)?;
-    write_counted(text, count)?;
+    write_counted(text, count, "wire")?;
     text.push_str("</summary>")
 }
 
