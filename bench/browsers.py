@@ -12,6 +12,9 @@ import urllib.request
 PATIENCE = 600
 SIZE = (1500, 1000)
 
+# Keys by their names.
+ENTER, BACKSPACE, HOME, LEFT, UP, RIGHT, DOWN = "\ue007", "\ue003", "\ue011", "\ue012", "\ue013", "\ue014", "\ue015"
+
 
 class Refused(Exception):
     """What a browser answered in place of a value."""
@@ -21,6 +24,10 @@ def free_port():
     with socket.socket() as taken:
         taken.bind(("127.0.0.1", 0))
         return taken.getsockname()[1]
+
+
+def pressing(keys):
+    return {"type": "key", "id": "keys", "actions": [{"type": kind, "value": key} for key in keys for kind in ("keyDown", "keyUp")]}
 
 
 class Chromium:
@@ -37,6 +44,9 @@ class Chromium:
         self.session = told["sessionId"]
         self.version = told["capabilities"]["browserVersion"]
         self.process = told["capabilities"].get("goog:processID")
+        self.downloads = tempfile.mkdtemp(prefix="saved-")
+        self._do("POST", "/goog/cdp/execute", {"cmd": "Browser.setDownloadBehavior", "params": {
+            "behavior": "allow", "downloadPath": self.downloads}})
 
     def _wait_for_driver(self):
         for _ in range(200):
@@ -73,7 +83,24 @@ class Chromium:
         return self._do("POST", "/execute/async", {"script": script, "args": list(values)})
 
     def type(self, selector, text):
+        """Types into an element; a file's path, if it takes files."""
         self._do("POST", f"/element/{self._element(selector)}/value", {"text": text})
+
+    def click(self, selector):
+        self._do("POST", f"/element/{self._element(selector)}/click", {})
+
+    def press(self, *keys):
+        """Presses keys, each by itself, for whatever has the focus."""
+        self._do("POST", "/actions", {"actions": [pressing(keys)]})
+
+    def resize(self, width, height):
+        self._do("POST", "/goog/cdp/execute", {"cmd": "Emulation.setDeviceMetricsOverride", "params": {
+            "width": width, "height": height, "deviceScaleFactor": 1, "mobile": False}})
+
+    def scheme(self, name):
+        """Asks for light or dark colours."""
+        self._do("POST", "/goog/cdp/execute", {"cmd": "Emulation.setEmulatedMedia", "params": {
+            "features": [{"name": "prefers-color-scheme", "value": name}]}})
 
     def click_at(self, x, y):
         pointer = {"type": "pointer", "id": "mouse", "parameters": {"pointerType": "mouse"}, "actions": [
@@ -93,6 +120,7 @@ class Chromium:
             self.driver.terminate()
             self.driver.wait()
             shutil.rmtree(self.profile, ignore_errors=True)
+            shutil.rmtree(self.downloads, ignore_errors=True)
 
 
 class Firefox:
@@ -101,8 +129,10 @@ class Firefox:
     def __init__(self):
         port = free_port()
         self.profile = tempfile.mkdtemp(prefix="firefox-")
+        self.downloads = tempfile.mkdtemp(prefix="saved-")
         with open(f"{self.profile}/user.js", "w", encoding="utf-8") as file:
-            file.write(f'user_pref("marionette.port", {port});\nuser_pref("dom.max_script_run_time", 0);\n')
+            for key, value in self._preferences(port).items():
+                file.write(f"user_pref({json.dumps(key)}, {json.dumps(value)});\n")
         words = ["firefox-esr", "--headless", "--marionette", "--no-remote", "--profile", self.profile, "--width", str(SIZE[0]), "--height", str(SIZE[1])]
         self.browser = subprocess.Popen(words, stdout=subprocess.DEVNULL, stderr=subprocess.DEVNULL)
         self.process = self.browser.pid
@@ -111,6 +141,10 @@ class Firefox:
         self._take()
         told = self._ask("WebDriver:NewSession", {"timeouts": {"script": PATIENCE * 1000, "pageLoad": PATIENCE * 1000}})
         self.version = told["capabilities"]["browserVersion"]
+
+    def _preferences(self, port):
+        return {"marionette.port": port, "dom.max_script_run_time": 0, "browser.download.folderList": 2, "browser.download.dir": self.downloads,
+                "browser.helperApps.neverAsk.saveToDisk": "text/plain"}
 
     def _connected(self, port):
         for _ in range(200):
@@ -154,6 +188,12 @@ class Firefox:
     def type(self, selector, text):
         self._ask("WebDriver:ElementSendKeys", {"id": self._element(selector), "text": text})
 
+    def click(self, selector):
+        self._ask("WebDriver:ElementClick", {"id": self._element(selector)})
+
+    def press(self, *keys):
+        self._ask("WebDriver:PerformActions", {"actions": [pressing(keys)]})
+
     def click_at(self, x, y):
         pointer = {"type": "pointer", "id": "mouse", "parameters": {"pointerType": "mouse"}, "actions": [
             {"type": "pointerMove", "x": x, "y": y}, {"type": "pointerDown", "button": 0}, {"type": "pointerUp", "button": 0}]}
@@ -172,3 +212,4 @@ class Firefox:
             pass
         self.browser.wait(timeout=30)
         shutil.rmtree(self.profile, ignore_errors=True)
+        shutil.rmtree(self.downloads, ignore_errors=True)

@@ -1,4 +1,5 @@
-// The machine as the page sees it: requests go to a worker, and come back as promises. Of requests with one name the newest wins.
+// The machine as the page sees it: requests go to a worker, and come back as promises. Of requests with one name the
+// newest wins.
 
 /** What a request ends with if it was stopped, or another of its name came after it. */
 export class Stopped extends Error {}
@@ -8,18 +9,14 @@ const PATIENCE = 200;
 
 export class Machine {
   constructor(module, workerUrl) {
-    this.module = module;
-    this.workerUrl = workerUrl;
-    this.waiting = [];
-    this.running = null;
-    this.count = 0;
+    Object.assign(this, { module, workerUrl, waiting: [], running: null, count: 0 });
     this.begin();
   }
 
   begin() {
     this.worker = new Worker(this.workerUrl);
     this.worker.onmessage = ({ data }) => this.take(data);
-    this.worker.onerror = (event) => this.fail(event.message);
+    this.worker.onerror = (event) => this.beginAnew(new Error(event.message));
     this.worker.postMessage({ module: this.module });
   }
 
@@ -40,26 +37,26 @@ export class Machine {
     this.worker.postMessage({ id, words, texts });
   }
 
-  take({ id, answer, failed, took, memory }) {
+  take({ id, answer, failed }) {
     if (this.running?.id !== id) return;
     const { resolve, reject } = this.running;
     this.running = null;
     if (failed) reject(new Error(failed));
-    else resolve({ ...answer, took, memory });
+    else resolve(answer);
     this.next();
   }
 
-  fail(message) {
-    this.beginAnew(new Error(message));
+  // Forgets the requests that wait, or those of a name.
+  drop(name = null) {
+    const old = this.waiting.filter((it) => !name || it.name === name);
+    this.waiting = this.waiting.filter((it) => !old.includes(it));
+    old.forEach((it) => it.reject(new Stopped()));
   }
 
   /** Asks for a command. A request with a name takes the place of an earlier one with that name. */
   ask(words, texts, name = null) {
     return new Promise((resolve, reject) => {
-      if (name) {
-        this.waiting.filter((it) => it.name === name).forEach((it) => it.reject(new Stopped()));
-        this.waiting = this.waiting.filter((it) => it.name !== name);
-      }
+      if (name) this.drop(name);
       this.waiting.push({ id: ++this.count, words, texts, name, resolve, reject });
       const isOld = name && this.running?.name === name && performance.now() - this.running.began > PATIENCE;
       if (isOld) this.beginAnew(new Stopped());
@@ -69,8 +66,7 @@ export class Machine {
 
   /** Ends what is running, and forgets what waits. */
   stop() {
-    this.waiting.forEach((it) => it.reject(new Stopped()));
-    this.waiting = [];
+    this.drop();
     if (this.running) this.beginAnew(new Stopped());
   }
 }

@@ -1,4 +1,5 @@
-// The proved module: unpacked, made an instance of, and called. It hands bytes in and takes answers out, and knows nothing of the machine.
+// The proved module: unpacked, made an instance of, and called. It hands bytes in and takes answers out, and knows
+// nothing of the machine.
 
 /** The module of a text in base64, which is packed by gzip. */
 export async function unpack(text) {
@@ -7,15 +8,22 @@ export async function unpack(text) {
   return WebAssembly.compile(await new Response(stream).arrayBuffer());
 }
 
+/** A text of the program: each byte is a character. */
+export const textOf = (bytes) => new TextDecoder("latin1").decode(bytes);
+
+/** The bytes of a text. */
+export const bytesOf = (text) => new TextEncoder().encode(text);
+
 // What the module writes of each answer: two lengths of eight bytes, the status, and whether the answer had room.
 const ANSWER_BYTES = 24;
+// Room for an answer, at least and for each byte that is handed over. If it is too little, the call is made again.
 const LEAST_ROOM = 1 << 20;
+const ROOM_A_BYTE = 6;
 
-/** An instance of the module. One that was left in the middle of a call, by a trap, is never called again: the next call makes a new one. */
+/** An instance of the module. One that a trap left in the middle of a call is never called again: the next is new. */
 export class Instance {
   constructor(module) {
-    this.module = module;
-    this.exports = null;
+    Object.assign(this, { module, exports: null });
   }
 
   // Bytes of the module's own, that many.
@@ -32,9 +40,19 @@ export class Instance {
   }
 
   makeRoom(length) {
+    if (length <= this.room) return;
     if (this.room) this.exports.host_give(this.out);
-    this.room = Math.max(length, LEAST_ROOM);
-    this.out = this.take(this.room);
+    this.room = length;
+    this.out = this.take(length);
+  }
+
+  // Bytes that the module is handed, as its place and length; other values as they are.
+  hand(value, held) {
+    if (!ArrayBuffer.isView(value)) return [typeof value === "boolean" ? Number(value) : value];
+    const at = this.take(value.length);
+    held.push(at);
+    new Uint8Array(this.exports.memory.buffer).set(value, Number(at));
+    return [at, BigInt(value.length)];
   }
 
   // The answer of the last call, or how much room it wants.
@@ -52,14 +70,9 @@ export class Instance {
     if (!this.exports) this.begin();
     const held = [];
     try {
-      const words = values.flatMap((value) => {
-        if (!ArrayBuffer.isView(value)) return [typeof value === "boolean" ? Number(value) : value];
-        const at = this.take(value.length);
-        held.push(at);
-        new Uint8Array(this.exports.memory.buffer).set(value, Number(at));
-        return [at, BigInt(value.length)];
-      });
-      if (!this.room) this.makeRoom(0);
+      const words = values.flatMap((value) => this.hand(value, held));
+      const handed = values.reduce((all, it) => all + (it.length ?? 0), 0);
+      this.makeRoom(Math.max(LEAST_ROOM, ROOM_A_BYTE * handed));
       for (;;) {
         this.exports[name](...words, this.out, BigInt(this.room), this.answer);
         const answer = this.read();
@@ -73,19 +86,4 @@ export class Instance {
       if (this.exports) held.forEach((at) => this.exports.host_give(at));
     }
   }
-
-  /** How many bytes the module holds. */
-  memory() {
-    return this.exports ? this.exports.memory.buffer.byteLength : 0;
-  }
-}
-
-/** A text of the program: each byte is a character. */
-export function textOf(bytes) {
-  return new TextDecoder("latin1").decode(bytes);
-}
-
-/** The bytes of a text. */
-export function bytesOf(text) {
-  return new TextEncoder().encode(text);
 }

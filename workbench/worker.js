@@ -4,17 +4,16 @@ import { callOf } from "./words.js";
 
 let instance = null;
 
-onmessage = ({ data }) => {
-  if (data.module) {
-    instance = new Instance(data.module);
+onmessage = ({ data: { module, id, words, texts } }) => {
+  if (module) {
+    instance = new Instance(module);
     return;
   }
-  const began = performance.now();
   try {
-    const { name, values } = callOf(data.words, data.texts);
+    const { name, values } = callOf(words, texts);
     const answer = instance.call(name, values);
-    postMessage({ id: data.id, answer, took: performance.now() - began, memory: instance.memory() }, [answer.out.buffer]);
+    postMessage({ id, answer }, [answer.out.buffer]);
   } catch (error) {
-    postMessage({ id: data.id, failed: String(error) });
+    postMessage({ id, failed: String(error) });
   }
 };
